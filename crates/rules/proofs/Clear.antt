@@ -1,0 +1,64 @@
+-- What is known of a frame that is not refused: none of the table's rows applies.
+use Prim.Native.Nat.{ℕ, suc}
+use mathlib.Core.Bool.{Bool, true, false, cond}
+use mathlib.Core.Path.{_≡_, refl}
+use mathlib.Core.List.{List}
+use native.Mathlib.Omega.{arith}
+use lib.Dec.{ltb}
+use Rattle.rules.specs.State.{Model}
+use Rattle.rules.specs.Frame.{decode}
+use Rattle.rules.specs.Refusals.{noOperation, wrongLength, malformed, wrongParty, partyWaits, notLive, notOwn, noLease, tooLate, entriesFull, txnsFull, noNumber, waitsFull, refusal}
+
+row : (b : Bool) (n rest : ℕ) → cond b (suc n) rest ≡ 0 → (b ≡ false) × (rest ≡ 0)
+row true n rest e = absurd (omega arith)
+row false n rest e = (refl, e)
+
+pub record Clear (m : Model) (bs : List ℕ) (area : ℕ) : Type 0 where
+  pub room : ltb area 700 ≡ false
+  pub operation : noOperation bs (decode bs) ≡ false
+  pub size : wrongLength bs (decode bs) ≡ false
+  pub form : malformed (decode bs) ≡ false
+  pub party : wrongParty (decode bs) ≡ false
+  pub free : partyWaits m (decode bs) ≡ false
+  pub live : notLive m (decode bs) ≡ false
+  pub own : notOwn m (decode bs) ≡ false
+  pub lease : noLease (decode bs) ≡ false
+  pub time : tooLate m (decode bs) ≡ false
+  pub entry-room : entriesFull m (decode bs) ≡ false
+  pub txn-room : txnsFull m (decode bs) ≡ false
+  pub numbers : noNumber m (decode bs) ≡ false
+  pub wait-room : waitsFull m (decode bs) ≡ false
+
+pub clear : (m : Model) (bs : List ℕ) (area : ℕ) → refusal m bs area ≡ 0 → Clear m bs area
+unfolding refusal
+clear m bs area e =
+    let r1 = row _ 0 _ e in
+    let r2 = row _ 1 _ (r1 .1) in
+    let r3 = row _ 2 _ (r2 .1) in
+    let r4 = row _ 3 _ (r3 .1) in
+    let r5 = row _ 4 _ (r4 .1) in
+    let r6 = row _ 5 _ (r5 .1) in
+    let r7 = row _ 6 _ (r6 .1) in
+    let r8 = row _ 7 _ (r7 .1) in
+    let r9 = row _ 8 _ (r8 .1) in
+    let r10 = row _ 9 _ (r9 .1) in
+    let r11 = row _ 10 _ (r10 .1) in
+    let r12 = row _ 11 _ (r11 .1) in
+    let r13 = row _ 12 _ (r12 .1) in
+    let r14 = row _ 13 _ (r13 .1) in
+    record {
+      room = r1 .0;
+      operation = r2 .0;
+      size = r3 .0;
+      form = r4 .0;
+      party = r5 .0;
+      free = r6 .0;
+      live = r7 .0;
+      own = r8 .0;
+      lease = r9 .0;
+      time = r10 .0;
+      entry-room = r11 .0;
+      txn-room = r12 .0;
+      numbers = r13 .0;
+      wait-room = r14 .0;
+    }

@@ -1,0 +1,67 @@
+-- Who holds what: visible, available and conflicting entries.
+use Prim.Native.Nat.{ℕ, _+_, _-_, _^_}
+use mathlib.Core.Bool.{Bool, not, cond, _&&_, _||_}
+use mathlib.Core.List.{List}
+use mathlib.Core.Option.{Option, none, some}
+use lib.Dec.{eqb}
+use Rattle.rules.specs.declared.Entry.{Entry}
+use Rattle.rules.specs.declared.Txn.{Txn}
+use Rattle.rules.specs.declared.LookUp.{LookUp}
+use Rattle.rules.specs.Lists.{filterb, findb, anyb}
+use Rattle.rules.specs.Template.{bit, matches}
+
+-- the live transaction with a number
+unfoldable pub liveTxn : ℕ → List Txn → Option Txn
+liveTxn t ts = findb (λ x. eqb (x .id .0) t) ts
+
+-- read holders with the one at place p added, or dropped
+unfoldable pub addReader : ℕ → ℕ → ℕ
+addReader p readers = cond (bit p readers) readers (readers + 2 ^ p)
+
+unfoldable pub dropReader : ℕ → ℕ → ℕ
+dropReader p readers = cond (bit p readers) (readers - 2 ^ p) readers
+
+-- the same by the transaction's number: 0, or one that is not live, holds nothing
+abbrev pub addReaderOf : Option Txn → ℕ → ℕ
+addReaderOf none readers = readers
+addReaderOf (some t) readers = addReader (t .slot) readers
+
+abbrev pub dropReaderOf : Option Txn → ℕ → ℕ
+dropReaderOf none readers = readers
+dropReaderOf (some t) readers = dropReader (t .slot) readers
+
+-- whether a live transaction other than t holds a read on the entry
+unfoldable pub readByOther : List Txn → ℕ → Entry → Bool
+readByOther ts t e = not (eqb (dropReaderOf (liveTxn t ts) (e .readers)) 0)
+
+-- a transaction's number that is neither 0 nor t
+abbrev pub isOther : ℕ → ℕ → Bool
+isOther t n = not (eqb n 0) && not (eqb n t)
+
+-- visible to a look-up in t: no take hold, and committed or private to t
+unfoldable pub visible : ℕ → Entry → Bool
+visible t e = eqb (e .«taken_by» .0) 0 && (eqb (e .«private_to» .0) 0 || eqb (e .«private_to» .0) t)
+
+-- available to a look-up: it matches and is visible, and for a take no other transaction holds a read on it
+unfoldable pub available : List Txn → LookUp → Entry → Bool
+available ts w e =
+    matches (w .mask) (w .fields) (e .fields)
+    && visible (w .txn .0) e
+    && not (w .takes && readByOther ts (w .txn .0) e)
+
+-- it matches, is not available, and is private to another transaction, take-held by another, or (for a take) read-held by another
+unfoldable pub conflicts : List Txn → LookUp → Entry → Bool
+conflicts ts w e =
+    matches (w .mask) (w .fields) (e .fields)
+    && not (available ts w e)
+    && (isOther (w .txn .0) (e .«private_to» .0) || isOther (w .txn .0) (e .«taken_by» .0) || w .takes && readByOther ts (w .txn .0) e)
+
+-- the entries that are available to a look-up, by number
+abbrev pub availableTo : List Txn → LookUp → List Entry → List Entry
+availableTo ts w es = filterb (available ts w) es
+
+abbrev pub someAvailable : List Txn → LookUp → List Entry → Bool
+someAvailable ts w es = anyb (available ts w) es
+
+abbrev pub someConflicts : List Txn → LookUp → List Entry → Bool
+someConflicts ts w es = anyb (conflicts ts w) es

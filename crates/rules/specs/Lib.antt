@@ -1,0 +1,19 @@
+-- The rules of the space, in the order of document 01; then the claims about them.
+pub mod Lists
+pub mod Time
+pub mod State
+pub mod Template
+pub mod Holds
+pub mod Frame
+pub mod Records
+pub mod LookUp
+pub mod Transactions
+pub mod Service
+pub mod Tick
+pub mod Refusals
+pub mod Step
+pub mod Tray
+pub mod History
+pub mod Serial
+pub mod Demands
+pub mod Claims

@@ -1,0 +1,84 @@
+-- Answer records, and their bytes.
+use Prim.Native.Nat.{ℕ, _/_, _%_}
+use mathlib.Core.List.{List, [], _∷_, _++_, map}
+use Rattle.rules.specs.declared.Entry.{Entry}
+use Rattle.rules.specs.declared.Fields.{Fields}
+use Rattle.rules.specs.declared.Record.{Record}
+use Rattle.rules.specs.declared.Txn.{Txn}
+use Rattle.rules.specs.declared.LookUp.{LookUp}
+use Rattle.rules.specs.Lists.{joined}
+use Rattle.rules.specs.Frame.{Frame, byteAt}
+
+abbrev pub noFields : Fields
+noFields = record { kind = 0; side = 0; image = 0; place = 0 }
+
+-- a record with no entry: its kind, party and transaction
+abbrev pub plain : ℕ → ℕ → ℕ → Record
+plain kind party txn =
+    record { kind = kind; party = party; refusal = 0; txn = record { 0 = txn }; entry = record { 0 = 0 }; fields = noFields }
+
+unfoldable pub written : Frame → ℕ → Record
+written f n =
+    record {
+      kind = 1;
+      party = f .party;
+      refusal = 0;
+      txn = record { 0 = f .txn };
+      entry = record { 0 = n };
+      fields = noFields;
+    }
+
+unfoldable pub found : LookUp → Entry → Record
+found w e =
+    record { kind = 2; party = w .party; refusal = 0; txn = w .txn; entry = e .id; fields = e .fields }
+
+unfoldable pub nothing : LookUp → Record
+nothing w = plain 3 (w .party) (w .txn .0)
+
+unfoldable pub waiting : LookUp → Record
+waiting w = plain 4 (w .party) (w .txn .0)
+
+unfoldable pub created : Frame → ℕ → Record
+created f t = plain 5 (f .party) t
+
+unfoldable pub committed : Frame → Record
+committed f = plain 6 (f .party) (f .txn)
+
+unfoldable pub aborted : Frame → Record
+aborted f = plain 7 (f .party) (f .txn)
+
+unfoldable pub exception : Txn → Record
+exception t = plain 8 (t .party) (t .id .0)
+
+unfoldable pub ticked : Record
+ticked = plain 9 0 0
+
+-- its party is byte 1 of the frame, or 0 if the frame has none
+unfoldable pub refused : List ℕ → ℕ → Record
+refused bs n =
+    record {
+      kind = 15;
+      party = byteAt bs 1;
+      refusal = n;
+      txn = record { 0 = 0 };
+      entry = record { 0 = 0 };
+      fields = noFields;
+    }
+
+-- the four bytes of a number
+abbrev pub fourBytes : ℕ → List ℕ
+fourBytes n = n % 256 ∷ n / 256 % 256 ∷ n / 65536 % 256 ∷ n / 16777216 % 256 ∷ []
+
+-- the 28 bytes of a record
+unfoldable pub recordBytes : Record → List ℕ
+recordBytes r =
+    (r .kind ∷ r .party ∷ r .refusal ∷ 0 ∷ [])
+    ++ fourBytes (r .txn .0)
+    ++ fourBytes (r .entry .0)
+    ++ fourBytes (r .fields .kind)
+    ++ fourBytes (r .fields .side)
+    ++ fourBytes (r .fields .image)
+    ++ fourBytes (r .fields .place)
+
+unfoldable pub answerBytes : List Record → List ℕ
+answerBytes rs = joined (map recordBytes rs)

@@ -1,0 +1,103 @@
+-- What the space holds, as lists; and how a `Space` is read so.
+use Prim.Native.Nat.{ℕ}
+use mathlib.Core.List.{List, []}
+use lib.ListN.{take}
+use Rattle.rules.specs.declared.Entry.{Entry}
+use Rattle.rules.specs.declared.Txn.{Txn}
+use Rattle.rules.specs.declared.LookUp.{LookUp}
+use Rattle.rules.specs.declared.Space.{Space}
+
+pub record Model : Type 0 where
+  pub clock : ℕ
+  -- the numbers that the next entry and the next transaction get
+  pub nextEntry : ℕ
+  pub nextTxn : ℕ
+  -- by number
+  pub entries : List Entry
+  -- the live ones, by number
+  pub txns : List Txn
+  -- by arrival
+  pub waits : List LookUp
+
+-- the empty space
+abbrev pub empty : Model
+empty = record { clock = 0; nextEntry = 1; nextTxn = 1; entries = []; txns = []; waits = [] }
+
+-- the part of each table that is in use
+unfoldable pub view : Space → Model
+view s =
+    record {
+      clock = s .clock;
+      nextEntry = s .«next_entry»;
+      nextTxn = s .«next_txn»;
+      entries = take (s .«entry_count») (s .entries);
+      txns = take (s .«txn_count») (s .txns);
+      waits = take (s .«wait_count») (s .waits);
+    }
+
+-- the model with one table or number replaced
+abbrev pub withEntries : List Entry → Model → Model
+withEntries es m =
+    record {
+      clock = m .clock;
+      nextEntry = m .nextEntry;
+      nextTxn = m .nextTxn;
+      entries = es;
+      txns = m .txns;
+      waits = m .waits;
+    }
+
+abbrev pub withTxns : List Txn → Model → Model
+withTxns ts m =
+    record {
+      clock = m .clock;
+      nextEntry = m .nextEntry;
+      nextTxn = m .nextTxn;
+      entries = m .entries;
+      txns = ts;
+      waits = m .waits;
+    }
+
+abbrev pub withWaits : List LookUp → Model → Model
+withWaits ws m =
+    record {
+      clock = m .clock;
+      nextEntry = m .nextEntry;
+      nextTxn = m .nextTxn;
+      entries = m .entries;
+      txns = m .txns;
+      waits = ws;
+    }
+
+abbrev pub withClock : ℕ → Model → Model
+withClock t m =
+    record {
+      clock = t;
+      nextEntry = m .nextEntry;
+      nextTxn = m .nextTxn;
+      entries = m .entries;
+      txns = m .txns;
+      waits = m .waits;
+    }
+
+abbrev pub withNextEntry : ℕ → Model → Model
+withNextEntry n m =
+    record {
+      clock = m .clock;
+      nextEntry = n;
+      nextTxn = m .nextTxn;
+      entries = m .entries;
+      txns = m .txns;
+      waits = m .waits;
+    }
+
+abbrev pub withNextTxn : ℕ → Model → Model
+withNextTxn n m =
+    record {
+      clock = m .clock;
+      nextEntry = m .nextEntry;
+      nextTxn = n;
+      entries = m .entries;
+      txns = m .txns;
+      waits = m .waits;
+    }

@@ -1,0 +1,52 @@
+-- The search for an entry that is available to a look-up, row by row.
+use Prim.Native.Nat.{ℕ, suc, _+_, _*_, _≤_, _<_}
+use mathlib.Core.Bool.{Bool, true, false}
+use mathlib.Core.Option.{none, some}
+use mathlib.Core.Path.{_≡_, refl, sym, ap, _∙_}
+use mathlib.Core.List.{List}
+use native.Mathlib.Numerals.{add-one}
+use Rattle.rules.specs.declared.Entry.{Entry}
+use Rattle.rules.specs.declared.LookUp.{LookUp}
+use Rattle.rules.specs.Lists.{findb, pick}
+use Rattle.rules.specs.Holds.{liveTxn, available, availableTo}
+use Rattle.space.specs.Words.{entryOf, entryFrom, entryCount, row, entries, view}
+use Rattle.space.specs.Live.{slotOf}
+use Rattle.space.specs.HandOut.{availableAt}
+use Rattle.space.proofs.FindLaws.{passed, found-at, first-pick}
+use Rattle.space.proofs.ViewLaws.{entry-row}
+use Rattle.space.proofs.HandLaws.{live-low, available-of}
+
+module _ (ws : List ℕ) (w : LookUp) where
+  -- none of the first j entries is available
+  abbrev pub NoneFor : ℕ → Type 0
+  NoneFor j = findb (available (view ws .txns) w) (entries j ws) ≡ none
+
+  pub none-for-none : NoneFor 0
+  unfolding entries
+  none-for-none = refl
+
+  module _ (j p : ℕ) (e : Entry) (h : NoneFor j) (r : e ≡ entryFrom ws (6 + 9 * j)) (q : p ≡ slotOf (liveTxn (w .txn .0) (view ws .txns))) (b : Bool) (a : b ≡ availableAt p w e) where
+    tested : available (view ws .txns) w (entryOf (row 6 9 ws j)) ≡ b
+    tested =
+        ap (available (view ws .txns) w) (entry-row ws j ∙ sym r)
+        ∙ available-of (view ws .txns) w (live-low (w .txn .0) ws) e
+        ∙ ap (λ k. availableAt k w e) (sym q)
+        ∙ sym a
+
+    pub none-for-more : b ≡ false → NoneFor (j + 1)
+    unfolding entries
+    none-for-more t = rw add-one (passed (available (view ws .txns) w) (λ k. entryOf (row 6 9 ws k)) j h (tested ∙ t))
+
+    pub picked : b ≡ true → j < entryCount ws → pick 0 (availableTo (view ws .txns) w (view ws .entries)) ≡ some e
+    unfolding entries view
+    picked t l =
+        first-pick (available (view ws .txns) w) (view ws .entries)
+        ∙ found-at (available (view ws .txns) w) (λ k. entryOf (row 6 9 ws k)) j (entryCount ws) l h (tested ∙ t)
+        ∙ ap some (entry-row ws j ∙ sym r)
+
+  pub none-picked : (j : ℕ) → j ≡ entryCount ws → NoneFor j → pick 0 (availableTo (view ws .txns) w (view ws .entries)) ≡ none
+  unfolding view
+  none-picked j e h =
+      first-pick (available (view ws .txns) w) (view ws .entries)
+      ∙ ap (λ k. findb (available (view ws .txns) w) (entries k ws)) (sym e)
+      ∙ h

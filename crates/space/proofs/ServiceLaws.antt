@@ -1,0 +1,106 @@
+-- Service over the words and the answers area.
+use Prim.Native.Nat.{ℕ, suc, _+_, _*_, _≤_, _<_}
+use mathlib.Core.Option.{none, some}
+use mathlib.Core.Path.{_≡_, refl, sym, ap, _∙_, subst}
+use mathlib.Core.List.{List, [], _∷_, _++_}
+use native.Mathlib.Omega.{arith}
+use lib.ListN.{length, take, drop, set}
+use Rattle.rules.specs.declared.Entry.{Entry}
+use Rattle.rules.specs.declared.Record.{Record}
+use Rattle.rules.specs.declared.LookUp.{LookUp}
+use Rattle.rules.specs.Lists.{pick}
+use Rattle.rules.specs.Holds.{availableTo}
+use Rattle.rules.specs.Records.{found, recordBytes}
+use Rattle.rules.specs.LookUp.{Done}
+use Rattle.rules.specs.Tray.{areaAfter}
+use Rattle.rules.specs.Holds.{liveTxn}
+use Rattle.space.specs.Live.{slotOf}
+use Rattle.space.proofs.SearchLaws.{NoneFor}
+use Rattle.space.specs.Words.{entryCount, waitCount, waitFrom, view, moveRow}
+use Rattle.space.specs.HandOut.{handedOut}
+use Rattle.space.specs.Serviced.{Serviced}
+use Rattle.space.proofs.MoveLaws.{move-view, close-view, next-wait, length-waits}
+use Rattle.space.proofs.RecordLaws.{front-length, Area, area-none, area-more, area-done}
+use Rattle.space.proofs.ServeLaws.{Serving, serving-none, serving-found, serving-waits, serving-done}
+
+pub record Turns (ws₀ ws a₀ a : List ℕ) (count done i n : ℕ) : Type 0 where
+  pub long : length ws ≡ 758
+  pub records : List Record
+  pub serving : Serving (view ws₀) (view ws) i n records
+  pub area : Area count a₀ a records done
+
+pub turns-none : (ws a : List ℕ) (count : ℕ) → length ws ≡ 758 → 28 * count ≤ length a → Turns ws ws a a count count 0 0
+turns-none ws a count l h = record { long = l; records = []; serving = serving-none (view ws); area = area-none count a h }
+
+pub turns-at : (ws₀ ws ws′ a₀ a a′ : List ℕ) (count done done′ i i′ n : ℕ) → Turns ws₀ ws a₀ a count done i n
+    → ws′ ≡ ws → a′ ≡ a → done′ ≡ done → i′ ≡ i → Turns ws₀ ws′ a₀ a′ count done′ i′ n
+turns-at ws₀ ws ws′ a₀ a a′ count done done′ i i′ n t p q r s = rw (p, q, r, s) t
+
+-- what is known in the search for an entry
+pub record Looking (ws : List ℕ) (w : LookUp) (p count i j : ℕ) : Type 0 where
+  pub is-wait : w ≡ waitFrom ws (614 + 9 * i)
+  pub slot : p ≡ slotOf (liveTxn (w .txn .0) (view ws .txns))
+  pub all : count ≡ entryCount ws
+  pub none-yet : NoneFor ws w j
+
+module _ (ws₀ ws a₀ a : List ℕ) (count done i n : ℕ) (t : Turns ws₀ ws a₀ a count done i n) where
+  same-count : waitCount ws ≡ waitCount ws₀
+  same-count = sym (length-waits ws) ∙ t .serving .size ∙ length-waits ws₀
+
+  -- there is room for one record more
+  pub turn-length : length a ≡ length a₀
+  turn-length = front-length a₀ a _ (28 * done) (t .area .front)
+
+  pub turn-room : i < 16 → 28 * (count + 16) ≤ length a₀ → 28 * (done + 1) ≤ length a
+  turn-room h r = omega (arith, t .area .counts, t .serving .few, turn-length)
+
+  pub turn-found : (ws′ a′ : List ℕ) (w : LookUp) (e : Entry) (at k : ℕ) → i < waitCount ws₀ → w ≡ waitFrom ws (614 + 9 * i)
+      → pick 0 (availableTo (view ws .txns) w (view ws .entries)) ≡ some e
+      → view ws′ ≡ handedOut w e (view ws) → length ws′ ≡ 758
+      → 28 * (done + 1) ≤ length a → at ≡ 28 * done → length a ≤ at + k
+      → a′ ≡ take at a ++ ((recordBytes (found w e) ++ drop 28 (take k (drop at a))) ++ drop k (drop at a))
+      → Turns ws₀ ws′ a₀ a′ count (done + 1) (i + 1) n
+  turn-found ws′ a′ w e at k h q p v l room o z b =
+      record {
+        long = l;
+        records = t .records ++ (found w e ∷ []);
+        serving =
+            subst (λ m. Serving (view ws₀) m (i + 1) n (t .records ++ (found w e ∷ []))) (sym v)
+            (serving-found (view ws₀) (view ws) i n (t .records) (t .serving) w (next-wait ws i (omega (arith, same-count)) ∙ ap (λ x. x ∷ drop (suc i) (view ws .waits)) (sym q)) e p);
+        area = area-more count a₀ a a′ (t .records) done at k (found w e) (t .area) (omega (arith, turn-length)) o z b;
+      }
+
+  pub turn-waits : (w : LookUp) → i < waitCount ws₀ → w ≡ waitFrom ws (614 + 9 * i)
+      → pick 0 (availableTo (view ws .txns) w (view ws .entries)) ≡ none
+      → length (moveRow ws (614 + 9 * i) (614 + 9 * n)) ≡ 758
+      → Turns ws₀ (moveRow ws (614 + 9 * i) (614 + 9 * n)) a₀ a count done (i + 1) (n + 1)
+  turn-waits w h q p l =
+      record {
+        long = l;
+        records = t .records;
+        serving =
+            subst (λ m. Serving (view ws₀) m (i + 1) (n + 1) (t .records))
+            (sym (move-view ws i n (t .long) (omega (arith, t .serving .low)) ∙ ap (λ x. record {
+              clock = view ws .clock;
+              nextEntry = view ws .nextEntry;
+              nextTxn = view ws .nextTxn;
+              entries = view ws .entries;
+              txns = view ws .txns;
+              waits = set (view ws .waits) n x;
+            }) (sym q)))
+            (serving-waits (view ws₀) (view ws) i n (t .records) (t .serving) w (next-wait ws i (omega (arith, same-count)) ∙ ap (λ x. x ∷ drop (suc i) (view ws .waits)) (sym q)) p
+            (omega (arith, t .serving .low, length-waits ws, same-count)));
+        area = t .area;
+      }
+
+  pub turns-done : i ≡ waitCount ws₀ → Serviced ws₀ (set ws 5 n) a₀ a count done
+  turns-done h =
+      let d = serving-done (view ws₀) (view ws) i n (t .records) (t .serving) (omega (arith, length-waits ws₀)) in
+      let rs = ap (λ (x : Done). x .records) d in
+      record {
+        model = close-view ws n (t .long) (omega (arith, t .serving .low, same-count)) ∙ sym (ap (λ (x : Done). x .model) d);
+        counts = t .area .counts ∙ ap (λ l. count + length l) (sym rs);
+        bytes =
+            area-done count a₀ a (t .records) done (t .area)
+            ∙ ap (λ l. take (28 * count) a₀ ++ areaAfter l (drop (28 * count) a₀)) (sym rs);
+      }

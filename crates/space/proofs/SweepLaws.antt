@@ -1,0 +1,89 @@
+-- A pass over the entries, row by row.
+use Prim.Native.Nat.{ℕ, zero, suc, _+_, _*_, _≤_, _<_}
+use mathlib.Core.Bool.{Bool, true, false, cond}
+use mathlib.Core.Path.{_≡_, refl, sym, ap, ap₂, _∙_, subst}
+use mathlib.Core.List.{List, [], _∷_, _++_, map, map-append, append-nil}
+use native.Mathlib.Omega.{arith}
+use native.Mathlib.Numerals.{add-one}
+use borrow.Author.Tests.{eqb-false}
+use lib.Dec.{eqb, lit<, lit≤}
+use lib.ListN.{length, getD, set}
+use lib.Seq.{getD-set-same, getD-set-other}
+use Rattle.rules.specs.declared.Entry.{Entry}
+use Rattle.rules.specs.Lists.{filterb}
+use Rattle.rules.proofs.ListLaws.{filter-append}
+use Rattle.rules.proofs.Cases.{cond-cases}
+use Rattle.rules.specs.State.{Model, withEntries}
+use Rattle.space.specs.declared.Sweep.{Sweep}
+use Rattle.space.specs.declared.Sweep.the-variants.{Expire, Commit, Abort, Remove, Mark}
+use Rattle.space.specs.Words.{before, from, row, untilOf, untilWord, entryOf, entryFrom, entryCount, entries, view, putEntry, entryWords}
+use Rattle.space.specs.Sweep.{releasedAt, heldAt, markedAt, keeps, changes, swept, sweepModel}
+use Rattle.space.proofs.RowLaws.{over, over-length, over-before, over-from, over-row, set9-over, row-from, from-more, word-before}
+use Rattle.space.proofs.CompactLaws.{Compacting, compact-start, compact-passed, compact-kept}
+use Rattle.space.proofs.ViewLaws.{until-back, entry-row, entries-more, Storable, entry-back}
+use Rattle.space.proofs.StateLaws.{Kept, kept-entries, kept-count, kept-then, entries-before, entries-from, set-from, view-entries}
+
+-- an entry is written over row n
+pub put-over : (ws : List ℕ) (n : ℕ) (e : Entry) → length ws ≡ 758 → n < 64 → putEntry ws (6 + 9 * n) e ≡ over ws (6 + 9 * n) (entryWords e)
+put-over ws n e l h = set9-over ws (6 + 9 * n) _ _ _ _ _ _ _ _ _ (omega arith)
+
+-- and stands there
+pub put-more : (ws : List ℕ) (n : ℕ) (x : Entry) → Storable x → 6 + 9 * n + 9 ≤ length ws
+    → entries (suc n) (over ws (6 + 9 * n) (entryWords x)) ≡ entries n ws ++ (x ∷ [])
+put-more ws n x st fits =
+    let ws′ = over ws (6 + 9 * n) (entryWords x) in
+    entries-more n ws′
+    ∙ ap₂ (λ l y. l ++ (y ∷ []))
+    (entries-before n (6 + 9 * n) ws′ ws (omega arith) (over-before ws (6 + 9 * n) (entryWords x) fits (6 + 9 * n) (omega arith)))
+    (sym (entry-row ws′ n) ∙ ap entryOf (over-row 6 9 n ws (entryWords x) refl fits) ∙ entry-back x st)
+
+-- the first i entries are gone through, and the n that are kept stand in front
+abbrev pub Sweeping : Sweep → List ℕ → List ℕ → ℕ → ℕ → Type 0
+Sweeping s ws₀ ws i n = Compacting entryOf 6 9 (keeps s) (changes s) ws₀ ws i n
+
+pub sweep-start : (s : Sweep) (ws : List ℕ) → Sweeping s ws ws 0 0
+sweep-start s ws = compact-start entryOf 6 9 (keeps s) (changes s) ws
+
+module _ (s : Sweep) (ws₀ ws : List ℕ) (i n : ℕ) (w : Sweeping s ws₀ ws i n) (l : length ws₀ ≡ 758) (h : i < 64) (e : Entry) (r : e ≡ entryFrom ws (6 + 9 * i)) where
+  read-is : entryOf (row 6 9 ws i) ≡ e
+  read-is = entry-row ws i ∙ sym r
+
+  pub sweep-passed : keeps s e ≡ false → Sweeping s ws₀ ws (i + 1) n
+  sweep-passed t = compact-passed entryOf 6 9 (keeps s) (changes s) ws₀ ws i n w (ap (keeps s) read-is ∙ t)
+
+  pub sweep-kept : (x : Entry) → x ≡ changes s e → Storable x → keeps s e ≡ true → Sweeping s ws₀ (putEntry ws (6 + 9 * n) x) (i + 1) (n + 1)
+  sweep-kept x c st t =
+      subst (λ v. Sweeping s ws₀ v (i + 1) (n + 1)) (sym (put-over ws n x (w .long ∙ l) (omega (arith, w .behind))))
+      (compact-kept entryOf 6 9 (keeps s) (changes s) ws₀ ws i n w (entryWords x) refl (omega arith)
+      (entry-back x st ∙ c ∙ ap (changes s) (sym read-is)) (ap (keeps s) read-is ∙ t))
+
+-- the count is set, and the pass is done
+pub sweep-done : (s : Sweep) (ws₀ ws : List ℕ) (i n : ℕ) → length ws₀ ≡ 758 → i ≡ entryCount ws₀ → Sweeping s ws₀ ws i n → view (set ws 3 n) ≡ sweepModel s (view ws₀)
+unfolding sweepModel view entries
+sweep-done s ws₀ ws i n l e w =
+    let rest : from 582 ws ≡ from 582 ws₀ = from-more ws ws₀ (6 + 9 * i) 582 (omega arith) (w .tail) in
+    view-entries (set ws 3 n) ws₀ n
+    (kept-then (set ws 3 n) ws ws₀ (kept-count ws 3 n (eqb-false 3 4 refl) (lit≤ tt) (lit< tt)) (kept-entries ws ws₀ (w .head) rest))
+    (getD-set-same ws 3 n 0 (omega (arith, w .long)))
+    (omega (arith, w .behind))
+    (getD-set-other ws 3 5 n 0 (eqb-false 5 3 refl) ∙ word-before ws ws₀ 5 6 (lit< tt) (w .head))
+    (set-from ws 3 n 614 (lit< tt) ∙ from-more ws ws₀ 582 614 (lit≤ tt) rest)
+    ∙ ap (λ es. withEntries es (view ws₀))
+    (entries-from n 6 (set ws 3 n) ws (lit≤ tt) (set-from ws 3 n 6 (lit< tt)) ∙ w .done ∙ ap (λ k. swept s (entries k ws₀)) e)
+
+-- a change leaves the end, so the row can hold it
+change-end : (s : Sweep) (e : Entry) → changes s e .end ≡ e .end
+unfolding releasedAt markedAt heldAt
+change-end (Expire clock) e = refl
+change-end (Commit t p) e = refl
+change-end (Abort t p) e = refl
+change-end (Remove n) e = refl
+change-end (Mark n takes t p) e =
+    cond-cases (λ (x : Entry). x .end ≡ e .end) (eqb (e .id .0) (n .0))
+    (λ h. cond-cases (λ (x : Entry). x .end ≡ e .end) (eqb (e .«private_to» .0) (t .0)) (λ k. refl) (λ k. refl))
+    (λ h. refl)
+
+pub storable : (s : Sweep) (ws : List ℕ) (o : ℕ) (e x : Entry) → e ≡ entryFrom ws o → x ≡ changes s e → x .readers < 256 → Storable x
+storable s ws o e x r c l =
+    let same : x .end ≡ untilOf (getD ws (o + 5) 0) = ap (λ (y : Entry). y .end) c ∙ change-end s e ∙ ap (λ (y : Entry). y .end) r in
+    record { readers-fit = l; end-fits = ap (λ u. untilOf (untilWord u)) same ∙ ap untilOf (until-back (getD ws (o + 5) 0)) ∙ sym same }

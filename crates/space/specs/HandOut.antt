@@ -1,0 +1,20 @@
+-- Availability by the place of the look-up's transaction; and the model once an entry is handed out.
+use Prim.Native.Nat.{ℕ}
+use mathlib.Core.Bool.{Bool, not, _&&_}
+use lib.Dec.{eqb}
+use Rattle.rules.specs.declared.Entry.{Entry}
+use Rattle.rules.specs.declared.LookUp.{LookUp}
+use Rattle.rules.specs.State.{Model, withEntries}
+use Rattle.rules.specs.Template.{matches}
+use Rattle.rules.specs.Holds.{visible}
+use Rattle.rules.specs.LookUp.{handOut}
+use Rattle.space.specs.Sweep.{dropAt}
+
+unfoldable pub availableAt : ℕ → LookUp → Entry → Bool
+availableAt p w e =
+    matches (w .mask) (w .fields) (e .fields)
+    && visible (w .txn .0) e
+    && not (w .takes && not (eqb (dropAt p (e .readers)) 0))
+
+unfoldable pub handedOut : LookUp → Entry → Model → Model
+handedOut w e m = withEntries (handOut (m .txns) w e (m .entries)) m
