@@ -1,10 +1,11 @@
--- A frame's layout, and the operations.
+-- "Frame layout": byte 0 operation, 1 party, 2 mask, 3 zero, 4-7 transaction, 8-11 lease or timeout, 12-27 fields.
 use Prim.Native.Nat.{ℕ, _+_, _*_}
 use mathlib.Core.Bool.{Bool, _&&_, _||_}
 use mathlib.Core.List.{List, [], _∷_}
 use lib.Dec.{eqb, leb}
 use lib.ListN.{getD}
 use Rattle.rules.specs.declared.Fields.{Fields}
+use Rattle.rules.specs.Numbers.{opWrite, opRead, opTake, opReadIfExists, opTakeIfExists, opCreate, opCommit, opAbort, opTick}
 
 -- the byte at a place, and the little-endian number of four bytes there; 0 past the end
 abbrev pub byteAt : List ℕ → ℕ → ℕ
@@ -17,10 +18,8 @@ pub record Frame : Type 0 where
   pub op : ℕ
   pub party : ℕ
   pub mask : ℕ
-  -- byte 3
   pub byte3 : ℕ
   pub txn : ℕ
-  -- a lease or a timeout
   pub leaseOrTimeout : ℕ
   pub fields : Fields
 
@@ -37,29 +36,34 @@ decode bs =
     }
 
 abbrev pub isWrite : ℕ → Bool
-isWrite op = eqb op 1
+isWrite op = eqb op opWrite
 
+-- the four look-ups: read, take, readIfExists, takeIfExists
 abbrev pub isLookUp : ℕ → Bool
-isLookUp op = leb 2 op && leb op 5
+isLookUp op = leb opRead op && leb op opTakeIfExists
 
 abbrev pub isTake : ℕ → Bool
-isTake op = eqb op 3 || eqb op 5
+isTake op = eqb op opTake || eqb op opTakeIfExists
 
 abbrev pub isIfExists : ℕ → Bool
-isIfExists op = eqb op 4 || eqb op 5
+isIfExists op = eqb op opReadIfExists || eqb op opTakeIfExists
 
 abbrev pub isCreate : ℕ → Bool
-isCreate op = eqb op 6
+isCreate op = eqb op opCreate
 
 abbrev pub isCommit : ℕ → Bool
-isCommit op = eqb op 7
+isCommit op = eqb op opCommit
 
 abbrev pub isAbort : ℕ → Bool
-isAbort op = eqb op 8
+isAbort op = eqb op opAbort
+
+-- the operations whose bytes 8-11 are a lease or a timeout: write, the look-ups, create
+abbrev pub hasLeaseOrTimeout : ℕ → Bool
+hasLeaseOrTimeout op = leb op opCreate
 
 abbrev pub isTick : ℕ → Bool
-isTick op = eqb op 9
+isTick op = eqb op opTick
 
--- the length of an operation's frame
+-- "The lengths are a constant table", by operation
 unfoldable pub frameLength : ℕ → ℕ
 frameLength op = getD (0 ∷ 28 ∷ 28 ∷ 28 ∷ 28 ∷ 28 ∷ 12 ∷ 8 ∷ 8 ∷ 4 ∷ []) op 0

@@ -1,4 +1,4 @@
--- Who holds what: visible, available and conflicting entries.
+-- "Who holds what": visible, available and conflicting entries.
 use Prim.Native.Nat.{ℕ, _+_, _-_, _^_}
 use mathlib.Core.Bool.{Bool, not, cond, _&&_, _||_}
 use mathlib.Core.List.{List}
@@ -14,7 +14,7 @@ use Rattle.rules.specs.Template.{bit, matches}
 unfoldable pub liveTxn : ℕ → List Txn → Option Txn
 liveTxn t ts = findb (λ x. eqb (x .id .0) t) ts
 
--- read holders with the one at place p added, or dropped
+-- read holders are eight bits, by the holders' slots; with the one at slot p added, or dropped
 unfoldable pub addReader : ℕ → ℕ → ℕ
 addReader p readers = cond (bit p readers) readers (readers + 2 ^ p)
 
@@ -30,7 +30,8 @@ abbrev pub dropReaderOf : Option Txn → ℕ → ℕ
 dropReaderOf none readers = readers
 dropReaderOf (some t) readers = dropReader (t .slot) readers
 
--- whether a live transaction other than t holds a read on the entry
+-- whether a live transaction other than t holds a read on the entry: a bit is left once t's own is dropped.
+-- (Every bit is a live transaction's, on spaces that frames made: demands, `Told`.)
 unfoldable pub readByOther : List Txn → ℕ → Entry → Bool
 readByOther ts t e = not (eqb (dropReaderOf (liveTxn t ts) (e .readers)) 0)
 
@@ -38,25 +39,26 @@ readByOther ts t e = not (eqb (dropReaderOf (liveTxn t ts) (e .readers)) 0)
 abbrev pub isOther : ℕ → ℕ → Bool
 isOther t n = not (eqb n 0) && not (eqb n t)
 
--- visible to a look-up in t: no take hold, and committed or private to t
+-- "visible if it has no take hold and is committed or private to T"
 unfoldable pub visible : ℕ → Entry → Bool
 visible t e = eqb (e .«taken_by» .0) 0 && (eqb (e .«private_to» .0) 0 || eqb (e .«private_to» .0) t)
 
--- available to a look-up: it matches and is visible, and for a take no other transaction holds a read on it
+-- "available to a read if it matches and is visible", "to a take if, besides, no live transaction other than its own holds a read on it"
 unfoldable pub available : List Txn → LookUp → Entry → Bool
 available ts w e =
     matches (w .mask) (w .fields) (e .fields)
     && visible (w .txn .0) e
     && not (w .takes && readByOther ts (w .txn .0) e)
 
--- it matches, is not available, and is private to another transaction, take-held by another, or (for a take) read-held by another
+-- "conflicts if it matches, is not available, and is private to another transaction, take-held by another, or (for a take) read-held by
+-- another". (T's own take hold makes an entry neither: demands, `OwnTakeHold`.)
 unfoldable pub conflicts : List Txn → LookUp → Entry → Bool
 conflicts ts w e =
     matches (w .mask) (w .fields) (e .fields)
     && not (available ts w e)
     && (isOther (w .txn .0) (e .«private_to» .0) || isOther (w .txn .0) (e .«taken_by» .0) || w .takes && readByOther ts (w .txn .0) e)
 
--- the entries that are available to a look-up, by number
+-- the entries that are available to a look-up
 abbrev pub availableTo : List Txn → LookUp → List Entry → List Entry
 availableTo ts w es = filterb (available ts w) es
 

@@ -1,4 +1,5 @@
--- The rules of the space, in the order of document 01; then the claims about them.
+-- The rules of document 01, in its order.
+pub mod Numbers
 pub mod Lists
 pub mod Time
 pub mod State
@@ -6,6 +7,7 @@ pub mod Template
 pub mod Holds
 pub mod Frame
 pub mod Records
+pub mod Words
 pub mod LookUp
 pub mod Transactions
 pub mod Service
@@ -13,7 +15,5 @@ pub mod Tick
 pub mod Refusals
 pub mod Step
 pub mod Tray
-pub mod History
-pub mod Serial
-pub mod Demands
-pub mod Claims
+pub mod Print
+pub mod Allowed

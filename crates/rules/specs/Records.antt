@@ -1,12 +1,14 @@
--- Answer records, and their bytes.
-use Prim.Native.Nat.{ℕ, _/_, _%_}
+-- "Answer records": kind, party, refusal number, zero, transaction, entry number, four fields; and their 28 bytes.
+use Prim.Native.Nat.{ℕ, _*_, _/_, _%_}
 use mathlib.Core.List.{List, [], _∷_, _++_, map}
+use lib.ListN.{length, drop}
 use Rattle.rules.specs.declared.Entry.{Entry}
 use Rattle.rules.specs.declared.Fields.{Fields}
 use Rattle.rules.specs.declared.Record.{Record}
 use Rattle.rules.specs.declared.Txn.{Txn}
 use Rattle.rules.specs.declared.LookUp.{LookUp}
 use Rattle.rules.specs.Lists.{joined}
+use Rattle.rules.specs.Numbers.{recordSize, kindWritten, kindFound, kindNothing, kindWaiting, kindCreated, kindCommitted, kindAborted, kindException, kindTicked, kindRefused}
 use Rattle.rules.specs.Frame.{Frame, byteAt}
 
 abbrev pub noFields : Fields
@@ -20,7 +22,7 @@ plain kind party txn =
 unfoldable pub written : Frame → ℕ → Record
 written f n =
     record {
-      kind = 1;
+      kind = kindWritten;
       party = f .party;
       refusal = 0;
       txn = record { 0 = f .txn };
@@ -30,34 +32,34 @@ written f n =
 
 unfoldable pub found : LookUp → Entry → Record
 found w e =
-    record { kind = 2; party = w .party; refusal = 0; txn = w .txn; entry = e .id; fields = e .fields }
+    record { kind = kindFound; party = w .party; refusal = 0; txn = w .txn; entry = e .id; fields = e .fields }
 
 unfoldable pub nothing : LookUp → Record
-nothing w = plain 3 (w .party) (w .txn .0)
+nothing w = plain kindNothing (w .party) (w .txn .0)
 
 unfoldable pub waiting : LookUp → Record
-waiting w = plain 4 (w .party) (w .txn .0)
+waiting w = plain kindWaiting (w .party) (w .txn .0)
 
 unfoldable pub created : Frame → ℕ → Record
-created f t = plain 5 (f .party) t
+created f t = plain kindCreated (f .party) t
 
 unfoldable pub committed : Frame → Record
-committed f = plain 6 (f .party) (f .txn)
+committed f = plain kindCommitted (f .party) (f .txn)
 
 unfoldable pub aborted : Frame → Record
-aborted f = plain 7 (f .party) (f .txn)
+aborted f = plain kindAborted (f .party) (f .txn)
 
 unfoldable pub exception : Txn → Record
-exception t = plain 8 (t .party) (t .id .0)
+exception t = plain kindException (t .party) (t .id .0)
 
 unfoldable pub ticked : Record
-ticked = plain 9 0 0
+ticked = plain kindTicked 0 0
 
--- its party is byte 1 of the frame, or 0 if the frame has none
+-- "A refused record's party is byte 1 of the frame, or 0 if the frame has none."
 unfoldable pub refused : List ℕ → ℕ → Record
 refused bs n =
     record {
-      kind = 15;
+      kind = kindRefused;
       party = byteAt bs 1;
       refusal = n;
       txn = record { 0 = 0 };
@@ -80,5 +82,10 @@ recordBytes r =
     ++ fourBytes (r .fields .image)
     ++ fourBytes (r .fields .place)
 
+-- each record "into the part of the answers area that starts where the last record ended"
 unfoldable pub answerBytes : List Record → List ℕ
 answerBytes rs = joined (map recordBytes rs)
+
+-- the answers area afterwards: "bytes after the last record keep their contents"
+unfoldable pub areaAfter : List Record → List ℕ → List ℕ
+areaAfter rs area = answerBytes rs ++ drop (recordSize * length rs) area

@@ -1,21 +1,23 @@
--- The table of refusals of a frame, in its order.
+-- "Refused frames": the table, row by row. "Checked in this order; the first that applies is given, and none otherwise."
 use Prim.Native.Nat.{ℕ, _+_}
-use mathlib.Core.Bool.{Bool, not, cond, _&&_, _||_}
+use mathlib.Core.Bool.{Bool, false, not, cond, _&&_, _||_}
 use mathlib.Core.List.{List, [], _∷_}
+use mathlib.Core.Option.{Option, none, some}
 use lib.Dec.{eqb, leb, ltb}
 use lib.ListN.{length}
 use Rattle.rules.specs.declared.Txn.{Txn}
 use Rattle.rules.specs.declared.LookUp.{LookUp}
 use Rattle.rules.specs.Lists.{anyb, firstRow}
-use Rattle.rules.specs.Time.{forever, lastClock}
+use Rattle.rules.specs.Numbers.{forever, lastClock, maxParty, maxEntries, maxTxns, maxWaits, stepArea, opTick, areaRefused, operationRefused, lengthRefused, formRefused, partyRefused, waitingRefused, notLiveRefused, notOwnRefused, leaseRefused, clockRefused, entriesRefused, txnsRefused, numberRefused, waitsRefused}
 use Rattle.rules.specs.State.{Model}
 use Rattle.rules.specs.Template.{bit}
-use Rattle.rules.specs.Frame.{Frame, decode, frameLength, isWrite, isLookUp, isCreate, isCommit, isAbort, isTick}
+use Rattle.rules.specs.Holds.{liveTxn}
+use Rattle.rules.specs.Frame.{Frame, decode, frameLength, isWrite, isLookUp, isCreate, isCommit, isAbort, isTick, hasLeaseOrTimeout}
 use Rattle.rules.specs.LookUp.{lookUpOf, mustWait}
 
 -- 2: empty frame, or operation not 1-9
 unfoldable pub noOperation : List ℕ → Frame → Bool
-noOperation bs f = eqb (length bs) 0 || eqb (f .op) 0 || ltb 9 (f .op)
+noOperation bs f = eqb (length bs) 0 || eqb (f .op) 0 || ltb opTick (f .op)
 
 -- 3: length not the operation's
 unfoldable pub wrongLength : List ℕ → Frame → Bool
@@ -43,7 +45,7 @@ malformed f =
 
 -- 5: party not 1-16, or not 0 for tick
 unfoldable pub wrongParty : Frame → Bool
-wrongParty f = cond (isTick (f .op)) (not (eqb (f .party) 0)) (eqb (f .party) 0 || ltb 16 (f .party))
+wrongParty f = cond (isTick (f .op)) (not (eqb (f .party) 0)) (eqb (f .party) 0 || ltb maxParty (f .party))
 
 -- 6: the party has a waiting look-up
 unfoldable pub partyWaits : Model → Frame → Bool
@@ -58,9 +60,12 @@ unfoldable pub notLive : Model → Frame → Bool
 notLive m f = inTxn f && (eqb (f .txn) 0 || not (anyb (λ (t : Txn). eqb (t .id .0) (f .txn)) (m .txns)))
 
 -- 8: it is another party's
+abbrev pub isOf : ℕ → Option Txn → Bool
+isOf party none = false
+isOf party (some t) = eqb (t .party) party
+
 unfoldable pub notOwn : Model → Frame → Bool
-notOwn m f =
-    inTxn f && not (anyb (λ (t : Txn). eqb (t .id .0) (f .txn) && eqb (t .party) (f .party)) (m .txns))
+notOwn m f = inTxn f && not (isOf (f .party) (liveTxn (f .txn) (m .txns)))
 
 -- 9: create with lease 0
 unfoldable pub noLease : Frame → Bool
@@ -69,16 +74,16 @@ noLease f = isCreate (f .op) && eqb (f .leaseOrTimeout) 0
 -- 10: clock + lease or timeout, FOREVER excepted, above the last clock; tick at the last clock
 unfoldable pub tooLate : Model → Frame → Bool
 tooLate m f =
-    leb (f .op) 6 && not (eqb (f .leaseOrTimeout) forever) && ltb lastClock (m .clock + f .leaseOrTimeout)
+    hasLeaseOrTimeout (f .op) && not (eqb (f .leaseOrTimeout) forever) && ltb lastClock (m .clock + f .leaseOrTimeout)
     || isTick (f .op) && leb lastClock (m .clock)
 
 -- 11: write, lease not 0, 64 entries stored
 unfoldable pub entriesFull : Model → Frame → Bool
-entriesFull m f = isWrite (f .op) && not (eqb (f .leaseOrTimeout) 0) && leb 64 (length (m .entries))
+entriesFull m f = isWrite (f .op) && not (eqb (f .leaseOrTimeout) 0) && leb maxEntries (length (m .entries))
 
 -- 12: create, 8 live
 unfoldable pub txnsFull : Model → Frame → Bool
-txnsFull m f = isCreate (f .op) && leb 8 (length (m .txns))
+txnsFull m f = isCreate (f .op) && leb maxTxns (length (m .txns))
 
 -- 13: write (lease 0 too) or create, its next number would be 4294967295
 unfoldable pub noNumber : Model → Frame → Bool
@@ -86,25 +91,25 @@ noNumber m f = isWrite (f .op) && leb forever (m .nextEntry) || isCreate (f .op)
 
 -- 14: a look-up must wait and 16 wait already
 unfoldable pub waitsFull : Model → Frame → Bool
-waitsFull m f = isLookUp (f .op) && mustWait m (lookUpOf m f) (f .leaseOrTimeout) && leb 16 (length (m .waits))
+waitsFull m f = isLookUp (f .op) && mustWait m (lookUpOf m f) (f .leaseOrTimeout) && leb maxWaits (length (m .waits))
 
 -- the number of the first that applies, or 0
 unfoldable pub refusal : Model → List ℕ → ℕ → ℕ
 refusal m bs area =
     let f = decode bs in
     firstRow
-    ((ltb area 700, 1)
-    ∷ (noOperation bs f, 2)
-    ∷ (wrongLength bs f, 3)
-    ∷ (malformed f, 4)
-    ∷ (wrongParty f, 5)
-    ∷ (partyWaits m f, 6)
-    ∷ (notLive m f, 7)
-    ∷ (notOwn m f, 8)
-    ∷ (noLease f, 9)
-    ∷ (tooLate m f, 10)
-    ∷ (entriesFull m f, 11)
-    ∷ (txnsFull m f, 12)
-    ∷ (noNumber m f, 13)
-    ∷ (waitsFull m f, 14)
+    ((ltb area stepArea, areaRefused)
+    ∷ (noOperation bs f, operationRefused)
+    ∷ (wrongLength bs f, lengthRefused)
+    ∷ (malformed f, formRefused)
+    ∷ (wrongParty f, partyRefused)
+    ∷ (partyWaits m f, waitingRefused)
+    ∷ (notLive m f, notLiveRefused)
+    ∷ (notOwn m f, notOwnRefused)
+    ∷ (noLease f, leaseRefused)
+    ∷ (tooLate m f, clockRefused)
+    ∷ (entriesFull m f, entriesRefused)
+    ∷ (txnsFull m f, txnsRefused)
+    ∷ (noNumber m f, numberRefused)
+    ∷ (waitsFull m f, waitsRefused)
     ∷ [])

@@ -1,39 +1,25 @@
--- What the space holds, as lists; and how a `Space` is read so.
+-- What a space holds, as lists: the tables that the rules speak of.
 use Prim.Native.Nat.{ℕ}
 use mathlib.Core.List.{List, []}
-use lib.ListN.{take}
 use Rattle.rules.specs.declared.Entry.{Entry}
 use Rattle.rules.specs.declared.Txn.{Txn}
 use Rattle.rules.specs.declared.LookUp.{LookUp}
-use Rattle.rules.specs.declared.Space.{Space}
 
 pub record Model : Type 0 where
   pub clock : ℕ
   -- the numbers that the next entry and the next transaction get
   pub nextEntry : ℕ
   pub nextTxn : ℕ
-  -- by number
+  -- the stored entries, by number
   pub entries : List Entry
-  -- the live ones, by number
+  -- the live transactions, by number
   pub txns : List Txn
-  -- by arrival
+  -- the waiting look-ups, by arrival
   pub waits : List LookUp
 
--- the empty space
+-- "An empty space has clock 0, nothing stored, live or waiting, and 1 as both next numbers."
 abbrev pub empty : Model
 empty = record { clock = 0; nextEntry = 1; nextTxn = 1; entries = []; txns = []; waits = [] }
-
--- the part of each table that is in use
-unfoldable pub view : Space → Model
-view s =
-    record {
-      clock = s .clock;
-      nextEntry = s .«next_entry»;
-      nextTxn = s .«next_txn»;
-      entries = take (s .«entry_count») (s .entries);
-      txns = take (s .«txn_count») (s .txns);
-      waits = take (s .«wait_count») (s .waits);
-    }
 
 -- the model with one table or number replaced
 abbrev pub withEntries : List Entry → Model → Model

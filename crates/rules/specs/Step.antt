@@ -5,6 +5,7 @@ use mathlib.Core.List.{List, [], _∷_, _++_}
 use lib.Dec.{eqb}
 use Rattle.rules.specs.declared.Entry.{Entry}
 use Rattle.rules.specs.declared.Record.{Record}
+use Rattle.rules.specs.Numbers.{areaRefused}
 use Rattle.rules.specs.Time.{until}
 use Rattle.rules.specs.State.{Model, withEntries, withNextEntry}
 use Rattle.rules.specs.Frame.{Frame, decode, isWrite, isLookUp, isCreate, isCommit, isAbort}
@@ -68,7 +69,7 @@ pub record Outcome : Type 0 where
 
 -- a refused frame leaves the space unchanged; with 1 there is no room for a record
 unfoldable pub refusedWith : Model → List ℕ → ℕ → Outcome
-refusedWith m bs n = record { model = m; records = cond (eqb n 1) [] (refused bs n ∷ []); number = n }
+refusedWith m bs n = record { model = m; records = cond (eqb n areaRefused) [] (refused bs n ∷ []); number = n }
 
 unfoldable pub accepted : Done → Outcome
 accepted d = record { model = d .model; records = d .records; number = 0 }

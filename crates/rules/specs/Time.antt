@@ -1,17 +1,10 @@
--- The clock, leases and deadlines.
+-- The clock, leases and deadlines: "ends when the clock reaches t + d, or never for FOREVER".
 use Prim.Native.Nat.{ℕ, _+_}
 use mathlib.Core.Bool.{Bool, false, cond}
 use lib.Dec.{eqb, leb}
 use Rattle.rules.specs.declared.Until.{Until}
 use Rattle.rules.specs.declared.Until.the-variants.{Tick, Forever}
-
--- FOREVER: a lease or timeout that never ends
-abbrev pub forever : ℕ
-forever = 4294967295
-
--- the last value of the clock
-abbrev pub lastClock : ℕ
-lastClock = 4294967294
+use Rattle.rules.specs.Numbers.{forever}
 
 -- where a lease or timeout that starts at the clock ends
 unfoldable pub until : ℕ → ℕ → Until

@@ -15,7 +15,7 @@ use Rattle.rules.specs.Frame.{Frame}
 use Rattle.rules.specs.Records.{created}
 use Rattle.rules.specs.LookUp.{Done}
 
--- the lowest place that no live transaction has
+-- the first of the eight slots that no live transaction has ("Freed places are used again"); create is refused where there is none
 abbrev pub orZero : Option ℕ → ℕ
 orZero none = 0
 orZero (some p) = p
@@ -62,13 +62,14 @@ released ts t e =
 unfoldable pub withoutTxn : ℕ → List Txn → List Txn
 withoutTxn t ts = filterb (λ x. not (eqb (x .id .0) t)) ts
 
--- private entries become committed, take-held ones are removed, read holds go
+-- "Private entries become committed, take-held ones are removed, read holds go."
 unfoldable pub commit : ℕ → Model → Model
 commit t m =
     withEntries (map (released (m .txns) t) (filterb (λ e. not (takenBy t e)) (m .entries)))
     (withTxns (withoutTxn t (m .txns)) m)
 
--- private entries are removed, both kinds of hold go; a look-up that waits inside is closed
+-- "Private entries are removed, both kinds of hold go." A look-up that waits inside is closed with it: only the exception of a tick
+-- meets one, because its owner's own frames are refused with 6
 unfoldable pub abort : ℕ → Model → Model
 abort t m =
     withEntries (map (released (m .txns) t) (filterb (λ e. not (privateTo t e)) (m .entries)))

@@ -1,4 +1,4 @@
--- Trays of frames: their layout, the refusals 15 and 16, and a run of one.
+-- "Trays": their layout, the refusals 15 and 16, and a run of one.
 use Prim.Native.Nat.{ℕ, zero, suc, _+_, _-_, _*_}
 use mathlib.Core.Bool.{Bool, false, cond, _||_}
 use mathlib.Core.List.{List, [], _∷_, _++_, map}
@@ -7,7 +7,7 @@ use lib.ListN.{length, take, drop}
 use Rattle.rules.specs.declared.Record.{Record}
 use Rattle.rules.specs.State.{Model, empty}
 use Rattle.rules.specs.Frame.{numberAt}
-use Rattle.rules.specs.Records.{answerBytes}
+use Rattle.rules.specs.Numbers.{recordSize, stepArea, maxTray, maxFrames, areaRefused, trayRefused, pairsRefused}
 use Rattle.rules.specs.Step.{step}
 
 -- where a frame stands in its tray
@@ -32,17 +32,18 @@ pairs tray = pairsOf (frameCount tray) (drop 4 tray)
 -- 15: under 4 or over 65,536 bytes, over 2,000 frames, or too short for its pairs
 unfoldable pub badTray : List ℕ → Bool
 badTray tray =
-    ltb (length tray) 4 || ltb 65536 (length tray) || ltb 2000 (frameCount tray) || ltb (length tray) (pairsEnd tray)
+    ltb (length tray) 4 || ltb maxTray (length tray) || ltb maxFrames (frameCount tray) || ltb (length tray) (pairsEnd tray)
 
--- 16: a pair begins before the end of what stands before it, or runs past the tray
+-- 16: a pair begins before the pairs' end or before the previous pair's end, or runs past the tray
 unfoldable pub badPairs : ℕ → ℕ → List Pair → Bool
 badPairs before size [] = false
 badPairs before size (p ∷ ps) =
     ltb (p .offset) before || ltb size (p .offset + p .size) || badPairs (p .offset + p .size) size ps
 
 unfoldable pub trayRefusal : List ℕ → ℕ
-trayRefusal tray = cond (badTray tray) 15 (cond (badPairs (pairsEnd tray) (length tray) (pairs tray)) 16 0)
+trayRefusal tray = cond (badTray tray) trayRefused (cond (badPairs (pairsEnd tray) (length tray) (pairs tray)) pairsRefused 0)
 
+-- "A frame is read as a part of the tray, starting at its offset."
 unfoldable pub frameAt : List ℕ → Pair → List ℕ
 frameAt tray p = take (p .size) (drop (p .offset) tray)
 
@@ -55,14 +56,14 @@ pub record TrayOutcome : Type 0 where
 abbrev pub stopped : ℕ → TrayOutcome
 stopped n = record { frames = 0; records = []; number = n }
 
--- a run stops with 1 before a frame for which under 700 bytes of the area are left. `choices` has a choice for each frame
+-- "it stops with 1 before a frame for which under 700 bytes are left, else ends with 0". `choices` has a choice for each frame
 unfoldable pub runFrames : (ℕ → ℕ → ℕ) → Model → ℕ → List (List ℕ) → TrayOutcome
 runFrames choices m area [] = stopped 0
 runFrames choices m area (f ∷ fs) =
     let o = step (choices 0) m f area in
-    let rest = runFrames (λ i. choices (suc i)) (o .model) (area - 28 * length (o .records)) fs in
+    let rest = runFrames (λ i. choices (suc i)) (o .model) (area - recordSize * length (o .records)) fs in
     let done : TrayOutcome = record { frames = suc (rest .frames); records = o .records ++ rest .records; number = rest .number } in
-    cond (ltb area 700) (stopped 1) done
+    cond (ltb area stepArea) (stopped areaRefused) done
 
 unfoldable pub runPairs : (ℕ → ℕ → ℕ) → List ℕ → ℕ → TrayOutcome
 runPairs choices tray area = runFrames choices empty area (map (frameAt tray) (pairs tray))
@@ -74,10 +75,6 @@ runTray choices tray area =
     let run = runPairs choices tray area in
     cond (leb n 0) run (stopped n)
 
--- what the host is handed
+-- "frames + 65,536 × records + 4,294,967,296 × number"
 unfoldable pub hostNumber : TrayOutcome → ℕ
 hostNumber o = o .frames + 65536 * length (o .records) + 4294967296 * o .number
-
--- the answers area afterwards: bytes after the last record keep their contents
-unfoldable pub areaAfter : List Record → List ℕ → List ℕ
-areaAfter rs area = answerBytes rs ++ drop (28 * length rs) area

@@ -62,16 +62,3 @@ pub struct Record {
     pub entry: EntryId,
     pub fields: Fields,
 }
-
-// The space. Each table's first elements, as many as its count says, are in use: entries and transactions by number, look-ups by arrival.
-pub struct Space {
-    pub entries: [Entry; 64],
-    pub entry_count: usize,
-    pub txns: [Txn; 8],
-    pub txn_count: usize,
-    pub waits: [LookUp; 16],
-    pub wait_count: usize,
-    pub clock: u32,
-    pub next_entry: u32,
-    pub next_txn: u32,
-}

@@ -14,7 +14,8 @@ use Rattle.rules.specs.declared.Entry.{Entry}
 use Rattle.rules.specs.declared.LookUp.{LookUp}
 use Rattle.rules.specs.Frame.{isTake, isIfExists}
 use Rattle.rules.specs.State.{Model, withEntries, withWaits, withClock}
-use Rattle.space.specs.Words.{before, from, row, untilOf, untilWord, entryCount, txnCount, waitCount, entryFrom, entryOf, waitFrom, waitOf, entries, txns, waits, view, putEntry, entryWords, putWait, waitWords, opWord, Holds}
+use Rattle.rules.specs.Words.{before, from, row, untilOf, untilWord, entryCount, txnCount, waitCount, entryFrom, entryOf, waitFrom, waitOf, entries, txns, waits, view}
+use Rattle.space.specs.Rows.{putEntry, entryWords, putWait, waitWords, opWord, Holds}
 use Rattle.space.proofs.RowLaws.{over, over-length, over-before, over-from, over-row, set9-over, word-before}
 use Rattle.space.proofs.TableLaws.{table-set}
 use Rattle.space.proofs.ViewLaws.{entry-row, wait-row, waits-more, Storable, entry-back}

@@ -10,7 +10,7 @@ use lib.Count.{ones, onesIn, trailingZeros}
 use Rattle.rules.specs.Template.{bit}
 use Rattle.rules.specs.Holds.{dropReader}
 use Rattle.space.specs.Sweep.{dropAt}
-use Rattle.rules.proofs.Cases.{and-left, and-right}
+use Rattle.rules.proofs.StepCases.{and-left, and-right}
 
 abbrev allBelow : ℕ → (ℕ → Bool) → Bool
 allBelow zero f = true

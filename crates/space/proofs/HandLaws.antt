@@ -19,10 +19,10 @@ use Rattle.rules.specs.LookUp.{handOut, removes, withHold, marked, isEntry}
 use Rattle.rules.specs.Transactions.{released, commit, abort, withoutTxn, takenBy, privateTo}
 use Rattle.rules.specs.Tick.{dropEnded}
 use Rattle.rules.proofs.ListLaws.{filter-all, none≢some}
-use Rattle.rules.proofs.Cases.{cond-cases}
+use Rattle.rules.proofs.StepCases.{cond-cases}
 use Rattle.space.specs.declared.Sweep.{Sweep}
 use Rattle.space.specs.declared.Sweep.the-variants.{Expire, Commit, Abort, Remove, Mark}
-use Rattle.space.specs.Words.{upTo, txnOf, txnFrom, txnCount, row, txns, view}
+use Rattle.rules.specs.Words.{upTo, txnOf, txnFrom, txnCount, row, txns, view}
 use Rattle.space.specs.Live.{slotOf}
 use Rattle.space.specs.Sweep.{addAt, dropAt, releasedAt, heldAt, markedAt, keeps, changes, swept, sweepModel}
 use Rattle.space.specs.HandOut.{availableAt, handedOut}

@@ -15,7 +15,8 @@ use Rattle.rules.specs.State.{Model, withTxns, withWaits}
 use Rattle.rules.specs.Holds.{liveTxn}
 use Rattle.rules.specs.Transactions.{withoutTxn, abort}
 use Rattle.space.specs.declared.Sweep.the-variants.{Abort}
-use Rattle.space.specs.Words.{waitCount, waitFrom, waitOf, row, waits, view, moveRow}
+use Rattle.rules.specs.Words.{waitCount, waitFrom, waitOf, row, waits, view}
+use Rattle.space.specs.Rows.{moveRow}
 use Rattle.space.specs.Live.{slotOf}
 use Rattle.space.specs.Sweep.{sweepModel}
 use Rattle.space.proofs.RowLaws.{over, set9-over, word-before}

@@ -13,7 +13,7 @@ use Rattle.rules.specs.declared.Txn.{Txn}
 use Rattle.rules.specs.Lists.{findb}
 use Rattle.rules.specs.Holds.{liveTxn}
 use Rattle.space.specs.declared.Live.the-variants.{At, None}
-use Rattle.space.specs.Words.{txnOf, txnFrom, txnCount, row, txns, view}
+use Rattle.rules.specs.Words.{txnOf, txnFrom, txnCount, row, txns, view}
 use Rattle.space.specs.Live.{Finds, slotOf}
 use Rattle.space.proofs.FindLaws.{passed, found-at}
 use Rattle.space.proofs.ViewLaws.{txn-row}

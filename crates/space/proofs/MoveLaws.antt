@@ -9,7 +9,8 @@ use lib.ListN.{length, getD, take, drop, set}
 use lib.Seq.{getD-set-same, getD-set-other}
 use Rattle.rules.specs.declared.LookUp.{LookUp}
 use Rattle.rules.specs.State.{Model, withWaits}
-use Rattle.space.specs.Words.{before, from, row, entryCount, txnCount, waitCount, waitFrom, waitOf, entries, waits, view, moveRow}
+use Rattle.rules.specs.Words.{before, from, row, entryCount, txnCount, waitCount, waitFrom, waitOf, entries, waits, view}
+use Rattle.space.specs.Rows.{moveRow}
 use Rattle.space.proofs.RowLaws.{length-upTo, over, over-before, set9-over, word-before}
 use Rattle.space.proofs.TableLaws.{drop-upTo, take-upTo, table-set}
 use Rattle.space.proofs.ViewLaws.{wait-row}

@@ -9,8 +9,8 @@ use lib.Seq.{take-all, take-at, drop-at, drop-drop, drop-append-add, sets, sets-
 use Rattle.rules.specs.declared.Record.{Record}
 use Rattle.rules.specs.Lists.{joined}
 use Rattle.rules.specs.Records.{fourBytes, recordBytes, answerBytes}
-use Rattle.rules.specs.Tray.{areaAfter}
-use Rattle.space.specs.Words.{set4}
+use Rattle.rules.specs.Records.{areaAfter}
+use Rattle.space.specs.Rows.{set4}
 use Rattle.space.proofs.RowLaws.{over}
 
 pub set4-over : (ws : List ℕ) (o a b c d : ℕ) → o + 4 ≤ length ws → set4 ws o a b c d ≡ over ws o (a ∷ b ∷ c ∷ d ∷ [])

@@ -9,7 +9,7 @@ use Rattle.rules.specs.declared.Entry.{Entry}
 use Rattle.rules.specs.declared.LookUp.{LookUp}
 use Rattle.rules.specs.Lists.{findb, pick}
 use Rattle.rules.specs.Holds.{liveTxn, available, availableTo}
-use Rattle.space.specs.Words.{entryOf, entryFrom, entryCount, row, entries, view}
+use Rattle.rules.specs.Words.{entryOf, entryFrom, entryCount, row, entries, view}
 use Rattle.space.specs.Live.{slotOf}
 use Rattle.space.specs.HandOut.{availableAt}
 use Rattle.space.proofs.FindLaws.{passed, found-at, first-pick}

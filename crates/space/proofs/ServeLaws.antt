@@ -19,7 +19,7 @@ use Rattle.rules.specs.Holds.{availableTo}
 use Rattle.rules.specs.Records.{found}
 use Rattle.rules.specs.LookUp.{Done, handOut}
 use Rattle.rules.specs.Service.{Served, serve, service, foundFirst, waitsFirst}
-use Rattle.rules.proofs.Cases.{serve-none, serve-some}
+use Rattle.rules.proofs.StepCases.{serve-none, serve-some}
 use Rattle.space.specs.HandOut.{handedOut}
 use Rattle.space.specs.Serviced.{first}
 

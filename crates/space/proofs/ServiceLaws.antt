@@ -12,11 +12,12 @@ use Rattle.rules.specs.Lists.{pick}
 use Rattle.rules.specs.Holds.{availableTo}
 use Rattle.rules.specs.Records.{found, recordBytes}
 use Rattle.rules.specs.LookUp.{Done}
-use Rattle.rules.specs.Tray.{areaAfter}
+use Rattle.rules.specs.Records.{areaAfter}
 use Rattle.rules.specs.Holds.{liveTxn}
 use Rattle.space.specs.Live.{slotOf}
 use Rattle.space.proofs.SearchLaws.{NoneFor}
-use Rattle.space.specs.Words.{entryCount, waitCount, waitFrom, view, moveRow}
+use Rattle.rules.specs.Words.{entryCount, waitCount, waitFrom, view}
+use Rattle.space.specs.Rows.{moveRow}
 use Rattle.space.specs.HandOut.{handedOut}
 use Rattle.space.specs.Serviced.{Serviced}
 use Rattle.space.proofs.MoveLaws.{move-view, close-view, next-wait, length-waits}

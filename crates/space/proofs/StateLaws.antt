@@ -10,7 +10,7 @@ use lib.Seq.{getD-set-same, getD-set-other, drop-set-lt, take-set-le}
 use Rattle.rules.specs.declared.Entry.{Entry}
 use Rattle.rules.specs.declared.LookUp.{LookUp}
 use Rattle.rules.specs.State.{Model, withEntries, withWaits}
-use Rattle.space.specs.Words.{before, from, entryCount, txnCount, waitCount, entryOf, txnOf, waitOf, entries, txns, waits, view}
+use Rattle.rules.specs.Words.{before, from, entryCount, txnCount, waitCount, entryOf, txnOf, waitOf, entries, txns, waits, view}
 use Rattle.space.proofs.RowLaws.{word-before, table-before, table-from, from-more, before-less}
 
 -- ---- the parts of the words that a table is read from

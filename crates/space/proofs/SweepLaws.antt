@@ -12,11 +12,12 @@ use lib.Seq.{getD-set-same, getD-set-other}
 use Rattle.rules.specs.declared.Entry.{Entry}
 use Rattle.rules.specs.Lists.{filterb}
 use Rattle.rules.proofs.ListLaws.{filter-append}
-use Rattle.rules.proofs.Cases.{cond-cases}
+use Rattle.rules.proofs.StepCases.{cond-cases}
 use Rattle.rules.specs.State.{Model, withEntries}
 use Rattle.space.specs.declared.Sweep.{Sweep}
 use Rattle.space.specs.declared.Sweep.the-variants.{Expire, Commit, Abort, Remove, Mark}
-use Rattle.space.specs.Words.{before, from, row, untilOf, untilWord, entryOf, entryFrom, entryCount, entries, view, putEntry, entryWords}
+use Rattle.rules.specs.Words.{before, from, row, untilOf, untilWord, entryOf, entryFrom, entryCount, entries, view}
+use Rattle.space.specs.Rows.{putEntry, entryWords}
 use Rattle.space.specs.Sweep.{releasedAt, heldAt, markedAt, keeps, changes, swept, sweepModel}
 use Rattle.space.proofs.RowLaws.{over, over-length, over-before, over-from, over-row, set9-over, row-from, from-more, word-before}
 use Rattle.space.proofs.CompactLaws.{Compacting, compact-start, compact-passed, compact-kept}

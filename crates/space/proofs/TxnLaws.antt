@@ -12,7 +12,8 @@ use Rattle.rules.specs.declared.Txn.{Txn}
 use Rattle.rules.specs.Lists.{filterb}
 use Rattle.rules.specs.State.{Model, withTxns}
 use Rattle.rules.specs.Transactions.{withoutTxn}
-use Rattle.space.specs.Words.{before, from, entryCount, txnCount, waitCount, txnFrom, txnOf, row, entries, txns, waits, view, moveTxn}
+use Rattle.rules.specs.Words.{before, from, entryCount, txnCount, waitCount, txnFrom, txnOf, row, entries, txns, waits, view}
+use Rattle.space.specs.Rows.{moveTxn}
 use Rattle.space.proofs.RowLaws.{over, word-before, from-more}
 use Rattle.space.proofs.RecordLaws.{set4-over}
 use Rattle.space.proofs.CompactLaws.{Compacting, compact-start, compact-passed, compact-kept}

@@ -14,8 +14,9 @@ use Rattle.rules.specs.declared.Txn.{Txn}
 use Rattle.rules.specs.declared.LookUp.{LookUp}
 use Rattle.rules.specs.declared.Until.{Until}
 use Rattle.rules.specs.declared.Until.the-variants.{Tick, Forever}
-use Rattle.rules.proofs.Cases.{cond-cases}
-use Rattle.space.specs.Words.{upTo, row, entries, txns, waits, untilOf, untilWord, entryFrom, txnFrom, waitFrom, entryOf, txnOf, waitOf, entryWords}
+use Rattle.rules.proofs.StepCases.{cond-cases}
+use Rattle.rules.specs.Words.{upTo, row, entries, txns, waits, untilOf, untilWord, entryFrom, txnFrom, waitFrom, entryOf, txnOf, waitOf}
+use Rattle.space.specs.Rows.{entryWords}
 use Rattle.space.proofs.RowLaws.{row-word, row-first}
 
 -- a row as it is read, and as the code reads it

@@ -7,7 +7,7 @@ use Rattle.rules.specs.declared.Txn.{Txn}
 use Rattle.rules.specs.Holds.{liveTxn}
 use Rattle.space.specs.declared.Live.{Live}
 use Rattle.space.specs.declared.Live.the-variants.{At, None}
-use Rattle.space.specs.Words.{view}
+use Rattle.rules.specs.Words.{view}
 
 abbrev pub liveOf : Live → Option Txn
 liveOf (At t) = some t

@@ -6,8 +6,8 @@ use lib.ListN.{length, take, drop}
 use Rattle.rules.specs.State.{Model}
 use Rattle.rules.specs.LookUp.{Done}
 use Rattle.rules.specs.Service.{service}
-use Rattle.rules.specs.Tray.{areaAfter}
-use Rattle.space.specs.Words.{view}
+use Rattle.rules.specs.Records.{areaAfter}
+use Rattle.rules.specs.Words.{view}
 
 -- the free choice: the first
 abbrev pub first : ℕ → ℕ

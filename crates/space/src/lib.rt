@@ -7,8 +7,9 @@ ghost use Rattle.rules.specs.State.{withEntries, withTxns, withWaits, withClock
 ghost use Rattle.rules.specs.Tick.{dropEnded};
 ghost use Rattle.rules.specs.Lists.{filterb};
 ghost use Rattle.rules.specs.Records.{recordBytes, found};
-ghost use Rattle.space.specs.Words.{untilOf, untilWord, entryFrom, txnFrom, waitFrom, entryCount, txnCount, waitCount, putEntry, moveRow, set4, opWord, putWait, Holds, moveTxn};
-ghost use Rattle.space.specs.Words.{view};
+ghost use Rattle.rules.specs.Words.{untilOf, untilWord, entryFrom, txnFrom, waitFrom, entryCount, txnCount, waitCount};
+ghost use Rattle.space.specs.Rows.{putEntry, moveRow, set4, opWord, putWait, Holds, moveTxn};
+ghost use Rattle.rules.specs.Words.{view};
 ghost use Rattle.space.specs.Live.{Finds, slotOf};
 ghost use Rattle.rules.specs.Frame.{isTake, isIfExists};
 ghost use Rattle.rules.specs.Template.{bit, agrees, matches};

@@ -7,7 +7,7 @@ use native.Mathlib.Omega.{arith}
 use borrow.Author.Needs.{needs}
 use lib.ListN.{length, take, drop, length-take, length-drop, length-set}
 use Rattle.rules.specs.Records.{recordBytes}
-use Rattle.space.specs.Words.{waitCount}
+use Rattle.rules.specs.Words.{waitCount}
 use Rattle.space.proofs.SearchLaws.{none-for-none, none-for-more, picked, none-picked}
 use Rattle.space.proofs.ServiceLaws.{Turns, turns-none, turns-at, turn-length, turn-room, turn-found, turn-waits, turns-done, Looking}
 use Rattle.space.proofs.serve_waits.Statement.{statement}

@@ -1,0 +1,66 @@
+-- A list of records is told by its bytes, where every number is in the range of its bytes.
+use Prim.Native.Nat.{ℕ, _+_, _*_, _/_, _%_, _<_}
+use mathlib.Core.Path.{_≡_, refl, sym, ap, ap₂, _∙_}
+use mathlib.Core.List.{List, [], _∷_, List·Memᴰ·head, List·Memᴰ·tail}
+use native.Mathlib.Nat.{div-add-mod, div-div-eq-div-mul, mod-eq-of-lt}
+use native.Mathlib.Omega.{arith}
+use lib.ListN.{length, take, drop, getD}
+use Rattle.rules.specs.declared.Record.{Record}
+use Rattle.rules.specs.Records.{recordBytes, answerBytes}
+use Rattle.demands.specs.Claims.{InRange, Bytes-demand}
+
+-- a number below 2^32 is told by its four bytes
+word-is : (n : ℕ) → n < 4294967296 → n ≡ n % 256 + 256 * (n / 256 % 256) + 65536 * (n / 65536 % 256) + 16777216 * (n / 16777216 % 256)
+word-is n h =
+    let a : n / 256 / 256 ≡ n / 65536 = div-div-eq-div-mul n 256 256 in
+    let b : n / 65536 / 256 ≡ n / 16777216 = div-div-eq-div-mul n 65536 256 in
+    put (n % 256) (n / 256 % 256) (n / 65536 % 256) (div-add-mod n 256) (ap (λ k. 256 * k + n / 256 % 256) (sym a) ∙ div-add-mod (n / 256) 256) (ap (λ k. 256 * k + n / 65536 % 256) (sym b) ∙ div-add-mod (n / 65536) 256) (mod-eq-of-lt (small n h))
+  where
+    small : (n : ℕ) → n < 4294967296 → n / 16777216 < 256
+    small n h = omega arith
+
+    put : {n p q r d : ℕ} (a b c : ℕ) → 256 * p + a ≡ n → 256 * q + b ≡ p → 256 * r + c ≡ q → d ≡ r → n ≡ a + 256 * b + 65536 * c + 16777216 * d
+    put a b c e f g h = omega arith
+
+word-same : (n m : ℕ) → n < 4294967296 → m < 4294967296 → n % 256 ≡ m % 256 → n / 256 % 256 ≡ m / 256 % 256 → n / 65536 % 256 ≡ m / 65536 % 256
+    → n / 16777216 % 256 ≡ m / 16777216 % 256
+    → n ≡ m
+word-same n m h k a b c d = word-is n h ∙ put a b c d ∙ sym (word-is m k)
+  where
+    put : {a b c d i j k l : ℕ} → a ≡ i → b ≡ j → c ≡ k → d ≡ l → a + 256 * b + 65536 * c + 16777216 * d ≡ i + 256 * j + 65536 * k + 16777216 * l
+    put p q r s = omega arith
+
+-- a record of nine numbers
+nine : ℕ → ℕ → ℕ → ℕ → ℕ → ℕ → ℕ → ℕ → ℕ → Record
+nine k p r t e a b c d =
+    record { kind = k; party = p; refusal = r; txn = record { 0 = t }; entry = record { 0 = e }; fields = record { kind = a; side = b; image = c; place = d } }
+
+pub record-told : (r s : Record) → InRange r → InRange s → recordBytes r ≡ recordBytes s → r ≡ s
+unfolding recordBytes nine
+record-told r s h k e =
+    let kind : r .kind ≡ s .kind = at 0 in
+    let party : r .party ≡ s .party = at 1 in
+    let refusal : r .refusal ≡ s .refusal = at 2 in
+    let txn : r .txn .0 ≡ s .txn .0 = word-same _ _ (h .txn) (k .txn) (at 4) (at 5) (at 6) (at 7) in
+    let entry : r .entry .0 ≡ s .entry .0 = word-same _ _ (h .entry) (k .entry) (at 8) (at 9) (at 10) (at 11) in
+    let f-kind : r .fields .kind ≡ s .fields .kind = word-same _ _ (h .field-kind) (k .field-kind) (at 12) (at 13) (at 14) (at 15) in
+    let f-side : r .fields .side ≡ s .fields .side = word-same _ _ (h .field-side) (k .field-side) (at 16) (at 17) (at 18) (at 19) in
+    let f-image : r .fields .image ≡ s .fields .image = word-same _ _ (h .field-image) (k .field-image) (at 20) (at 21) (at 22) (at 23) in
+    let f-place : r .fields .place ≡ s .fields .place = word-same _ _ (h .field-place) (k .field-place) (at 24) (at 25) (at 26) (at 27) in
+    same kind party refusal txn entry f-kind f-side f-image f-place
+  where
+    same : {k p r t e a b c d k′ p′ r′ t′ e′ a′ b′ c′ d′ : ℕ} → k ≡ k′ → p ≡ p′ → r ≡ r′ → t ≡ t′ → e ≡ e′ → a ≡ a′ → b ≡ b′ → c ≡ c′ → d ≡ d′
+        → nine k p r t e a b c d ≡ nine k′ p′ r′ t′ e′ a′ b′ c′ d′
+    same x1 x2 x3 x4 x5 x6 x7 x8 x9 = cc
+
+    at : (i : ℕ) → getD (recordBytes r) i 0 ≡ getD (recordBytes s) i 0
+    at i = ap (λ (l : List ℕ). getD l i 0) e
+
+pub bytes-demand : Bytes-demand
+unfolding Bytes-demand answerBytes recordBytes
+bytes-demand [] [] h k e = refl
+bytes-demand [] (q ∷ qs) h k e = absurd (let z = ap length e in omega arith)
+bytes-demand (r ∷ rs) [] h k e = absurd (let z = ap length e in omega arith)
+bytes-demand (r ∷ rs) (q ∷ qs) h k e =
+    ap₂ {C = List Record} (λ x l. x ∷ l) (record-told r q (h r (List·Memᴰ·head refl)) (k q (List·Memᴰ·head refl)) (ap (take 28) e))
+    (bytes-demand rs qs (λ x i. h x (List·Memᴰ·tail i)) (λ x i. k x (List·Memᴰ·tail i)) (ap (drop 28) e))

@@ -1,0 +1,5 @@
+-- The demands on the space.
+pub mod History
+pub mod Serial
+pub mod Demands
+pub mod Claims

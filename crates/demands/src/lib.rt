@@ -1,0 +1,1 @@
+// The demands have statements (specs/) and theorems (proofs/), and no code.

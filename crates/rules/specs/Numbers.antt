@@ -1,0 +1,170 @@
+-- Every number that document 01 gives a meaning to, named once.
+use Prim.Native.Nat.{ℕ}
+
+-- "FOREVER is 4294967295"
+abbrev pub forever : ℕ
+forever = 4294967295
+
+-- the last value of the clock, and the last end that is not FOREVER
+abbrev pub lastClock : ℕ
+lastClock = 4294967294
+
+-- "At most 64 entries are stored", "At most 8 transactions live and 16 look-ups wait"
+abbrev pub maxEntries : ℕ
+maxEntries = 64
+
+abbrev pub maxTxns : ℕ
+maxTxns = 8
+
+abbrev pub maxWaits : ℕ
+maxWaits = 16
+
+-- "28 bytes", "A step writes at most 25 records (700 bytes)"
+abbrev pub recordSize : ℕ
+recordSize = 28
+
+abbrev pub stepRecords : ℕ
+stepRecords = 25
+
+abbrev pub stepArea : ℕ
+stepArea = 700
+
+-- "tray under 4 or over 65,536 bytes, over 2,000 frames"
+abbrev pub maxTray : ℕ
+maxTray = 65536
+
+abbrev pub maxFrames : ℕ
+maxFrames = 2000
+
+-- parties 1 to 16
+abbrev pub maxParty : ℕ
+maxParty = 16
+
+-- Operations: byte 0 of a frame
+
+abbrev pub opWrite : ℕ
+opWrite = 1
+
+abbrev pub opRead : ℕ
+opRead = 2
+
+abbrev pub opTake : ℕ
+opTake = 3
+
+abbrev pub opReadIfExists : ℕ
+opReadIfExists = 4
+
+abbrev pub opTakeIfExists : ℕ
+opTakeIfExists = 5
+
+abbrev pub opCreate : ℕ
+opCreate = 6
+
+abbrev pub opCommit : ℕ
+opCommit = 7
+
+abbrev pub opAbort : ℕ
+opAbort = 8
+
+abbrev pub opTick : ℕ
+opTick = 9
+
+-- Kinds: byte 0 of an answer record
+
+abbrev pub kindWritten : ℕ
+kindWritten = 1
+
+abbrev pub kindFound : ℕ
+kindFound = 2
+
+abbrev pub kindNothing : ℕ
+kindNothing = 3
+
+abbrev pub kindWaiting : ℕ
+kindWaiting = 4
+
+abbrev pub kindCreated : ℕ
+kindCreated = 5
+
+abbrev pub kindCommitted : ℕ
+kindCommitted = 6
+
+abbrev pub kindAborted : ℕ
+kindAborted = 7
+
+abbrev pub kindException : ℕ
+kindException = 8
+
+abbrev pub kindTicked : ℕ
+kindTicked = 9
+
+abbrev pub kindRefused : ℕ
+kindRefused = 15
+
+-- Refusals of a frame
+
+-- answers area under 700 bytes
+abbrev pub areaRefused : ℕ
+areaRefused = 1
+
+-- empty frame, or operation not 1-9
+abbrev pub operationRefused : ℕ
+operationRefused = 2
+
+-- length not the operation's
+abbrev pub lengthRefused : ℕ
+lengthRefused = 3
+
+-- byte 3, mask, template, or create naming a transaction
+abbrev pub formRefused : ℕ
+formRefused = 4
+
+-- party not 1-16, or not 0 for tick
+abbrev pub partyRefused : ℕ
+partyRefused = 5
+
+-- the party has a waiting look-up
+abbrev pub waitingRefused : ℕ
+waitingRefused = 6
+
+-- the transaction is not live
+abbrev pub notLiveRefused : ℕ
+notLiveRefused = 7
+
+-- it is another party's
+abbrev pub notOwnRefused : ℕ
+notOwnRefused = 8
+
+-- create with lease 0
+abbrev pub leaseRefused : ℕ
+leaseRefused = 9
+
+-- an end above the last clock, or tick at it
+abbrev pub clockRefused : ℕ
+clockRefused = 10
+
+-- 64 entries stored
+abbrev pub entriesRefused : ℕ
+entriesRefused = 11
+
+-- 8 transactions live
+abbrev pub txnsRefused : ℕ
+txnsRefused = 12
+
+-- no next number
+abbrev pub numberRefused : ℕ
+numberRefused = 13
+
+-- a look-up must wait and 16 wait already
+abbrev pub waitsRefused : ℕ
+waitsRefused = 14
+
+-- Refusals of a tray
+
+-- its size, its count of frames, or too short for its pairs
+abbrev pub trayRefused : ℕ
+trayRefused = 15
+
+-- a pair out of order or past the tray
+abbrev pub pairsRefused : ℕ
+pairsRefused = 16

@@ -1,0 +1,114 @@
+-- A space as words, and how they are read as the rules' model.
+use Prim.Native.Nat.{ℕ, zero, suc, _+_, _*_, _%_, min}
+use mathlib.Core.Bool.{Bool, cond, _||_}
+use mathlib.Core.Path.{_≡_}
+use mathlib.Core.List.{List, [], _∷_, _++_}
+use lib.Dec.{eqb}
+use lib.ListN.{getD, take, drop, set}
+use Rattle.rules.specs.declared.Entry.{Entry}
+use Rattle.rules.specs.declared.Fields.{Fields}
+use Rattle.rules.specs.declared.Txn.{Txn}
+use Rattle.rules.specs.declared.LookUp.{LookUp}
+use Rattle.rules.specs.declared.Until.{Until}
+use Rattle.rules.specs.declared.Until.the-variants.{Tick, Forever}
+use Rattle.rules.specs.Frame.{isTake, isIfExists}
+use Rattle.rules.specs.State.{Model}
+
+-- the first n values of a function
+abbrev pub upTo : {A : Type 0} → (ℕ → A) → ℕ → List A
+upTo f zero = []
+upTo f (suc n) = upTo f n ++ (f n ∷ [])
+
+-- the words before m, and those from m on
+unfoldable pub before : ℕ → List ℕ → List ℕ
+before m ws = take m ws
+
+unfoldable pub from : ℕ → List ℕ → List ℕ
+from m ws = drop m ws
+
+-- row k of the table at b, of rows of w words
+unfoldable pub row : ℕ → ℕ → List ℕ → ℕ → List ℕ
+row b w ws k = take w (drop (b + w * k) ws)
+
+-- the first n rows of the table at b, read by `read`
+abbrev pub table : {A : Type 0} → (List ℕ → A) → ℕ → ℕ → ℕ → List ℕ → List A
+table read b w n ws = upTo (λ k. read (row b w ws k)) n
+
+-- the end of a lease or a deadline: 4294967295 is never
+unfoldable pub untilOf : ℕ → Until
+untilOf n = cond (eqb n 4294967295) Forever (Tick n)
+
+abbrev pub untilWord : Until → ℕ
+untilWord (Tick t) = t
+untilWord Forever = 4294967295
+
+-- the words of a row from the offset o on
+abbrev pub entryFrom : List ℕ → ℕ → Entry
+entryFrom ws o =
+    record {
+      id = record { 0 = getD ws o 0 };
+      fields = record { kind = getD ws (o + 1) 0; side = getD ws (o + 2) 0; image = getD ws (o + 3) 0; place = getD ws (o + 4) 0 };
+      end = untilOf (getD ws (o + 5) 0);
+      «private_to» = record { 0 = getD ws (o + 6) 0 };
+      «taken_by» = record { 0 = getD ws (o + 7) 0 };
+      readers = getD ws (o + 8) 0 % 256;
+    }
+
+abbrev pub txnFrom : List ℕ → ℕ → Txn
+txnFrom ws o =
+    record {
+      id = record { 0 = getD ws o 0 };
+      party = getD ws (o + 1) 0 % 256;
+      end = untilOf (getD ws (o + 2) 0);
+      slot = getD ws (o + 3) 0 % 8;
+    }
+
+abbrev pub waitFrom : List ℕ → ℕ → LookUp
+waitFrom ws o =
+    record {
+      party = getD ws o 0 % 256;
+      takes = isTake (getD ws (o + 1) 0);
+      «if_exists» = isIfExists (getD ws (o + 1) 0);
+      mask = getD ws (o + 2) 0 % 256;
+      fields = record { kind = getD ws (o + 3) 0; side = getD ws (o + 4) 0; image = getD ws (o + 5) 0; place = getD ws (o + 6) 0 };
+      txn = record { 0 = getD ws (o + 7) 0 };
+      deadline = untilOf (getD ws (o + 8) 0);
+    }
+
+unfoldable pub entryOf : List ℕ → Entry
+entryOf r = entryFrom r 0
+
+unfoldable pub txnOf : List ℕ → Txn
+txnOf r = txnFrom r 0
+
+unfoldable pub waitOf : List ℕ → LookUp
+waitOf r = waitFrom r 0
+
+abbrev pub entryCount : List ℕ → ℕ
+entryCount ws = min (getD ws 3 0) 64
+
+abbrev pub txnCount : List ℕ → ℕ
+txnCount ws = min (getD ws 4 0) 8
+
+abbrev pub waitCount : List ℕ → ℕ
+waitCount ws = min (getD ws 5 0) 16
+
+unfoldable pub entries : ℕ → List ℕ → List Entry
+entries n ws = table entryOf 6 9 n ws
+
+unfoldable pub txns : ℕ → List ℕ → List Txn
+txns n ws = table txnOf 582 4 n ws
+
+unfoldable pub waits : ℕ → List ℕ → List LookUp
+waits n ws = table waitOf 614 9 n ws
+
+unfoldable pub view : List ℕ → Model
+view ws =
+    record {
+      clock = getD ws 0 0;
+      nextEntry = getD ws 1 0;
+      nextTxn = getD ws 2 0;
+      entries = entries (entryCount ws) ws;
+      txns = txns (txnCount ws) ws;
+      waits = waits (waitCount ws) ws;
+    }
