@@ -20,8 +20,8 @@ use Rattle.rules.specs.Transactions.{released, commit, abort, withoutTxn, taken
 use Rattle.rules.specs.Tick.{dropEnded}
 use Rattle.rules.proofs.ListLaws.{filter-all, none≢some}
 use Rattle.rules.proofs.StepCases.{cond-cases}
-use Rattle.space.specs.declared.Sweep.{Sweep}
-use Rattle.space.specs.declared.Sweep.the-variants.{Expire, Commit, Abort, Remove, Mark}
+use Rattle.space.specs.declared.sweep.Sweep.{Sweep}
+use Rattle.space.specs.declared.sweep.Sweep.the-variants.{Expire, Commit, Abort, Remove, Mark}
 use Rattle.rules.specs.Words.{upTo, txnOf, txnFrom, txnCount, row, txns, view}
 use Rattle.space.specs.Live.{slotOf}
 use Rattle.space.specs.Sweep.{addAt, dropAt, releasedAt, heldAt, markedAt, keeps, changes, swept, sweepModel}

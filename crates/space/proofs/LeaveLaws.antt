@@ -14,7 +14,7 @@ use Rattle.rules.specs.Lists.{filterb}
 use Rattle.rules.specs.State.{Model, withTxns, withWaits}
 use Rattle.rules.specs.Holds.{liveTxn}
 use Rattle.rules.specs.Transactions.{withoutTxn, abort}
-use Rattle.space.specs.declared.Sweep.the-variants.{Abort}
+use Rattle.space.specs.declared.sweep.Sweep.the-variants.{Abort}
 use Rattle.rules.specs.Words.{waitCount, waitFrom, waitOf, row, waits, view}
 use Rattle.space.specs.Rows.{moveRow}
 use Rattle.space.specs.Live.{slotOf}

@@ -12,7 +12,7 @@ use lib.Dec.{eqb, lit<}
 use Rattle.rules.specs.declared.Txn.{Txn}
 use Rattle.rules.specs.Lists.{findb}
 use Rattle.rules.specs.Holds.{liveTxn}
-use Rattle.space.specs.declared.Live.the-variants.{At, None}
+use Rattle.space.specs.declared.live.Live.the-variants.{At, None}
 use Rattle.rules.specs.Words.{txnOf, txnFrom, txnCount, row, txns, view}
 use Rattle.space.specs.Live.{Finds, slotOf}
 use Rattle.space.proofs.FindLaws.{passed, found-at}

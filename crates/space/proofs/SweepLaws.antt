@@ -14,8 +14,8 @@ use Rattle.rules.specs.Lists.{filterb}
 use Rattle.rules.proofs.ListLaws.{filter-append}
 use Rattle.rules.proofs.StepCases.{cond-cases}
 use Rattle.rules.specs.State.{Model, withEntries}
-use Rattle.space.specs.declared.Sweep.{Sweep}
-use Rattle.space.specs.declared.Sweep.the-variants.{Expire, Commit, Abort, Remove, Mark}
+use Rattle.space.specs.declared.sweep.Sweep.{Sweep}
+use Rattle.space.specs.declared.sweep.Sweep.the-variants.{Expire, Commit, Abort, Remove, Mark}
 use Rattle.rules.specs.Words.{before, from, row, untilOf, untilWord, entryOf, entryFrom, entryCount, entries, view}
 use Rattle.space.specs.Rows.{putEntry, entryWords}
 use Rattle.space.specs.Sweep.{releasedAt, heldAt, markedAt, keeps, changes, swept, sweepModel}

@@ -5,8 +5,8 @@ use mathlib.Core.List.{List}
 use mathlib.Core.Option.{Option, none, some}
 use Rattle.rules.specs.declared.Txn.{Txn}
 use Rattle.rules.specs.Holds.{liveTxn}
-use Rattle.space.specs.declared.Live.{Live}
-use Rattle.space.specs.declared.Live.the-variants.{At, None}
+use Rattle.space.specs.declared.live.Live.{Live}
+use Rattle.space.specs.declared.live.Live.the-variants.{At, None}
 use Rattle.rules.specs.Words.{view}
 
 abbrev pub liveOf : Live → Option Txn

@@ -10,8 +10,8 @@ use Rattle.rules.specs.Time.{reached}
 use Rattle.rules.specs.State.{Model, withEntries}
 use Rattle.rules.specs.Holds.{addReader, dropReader}
 use Rattle.rules.specs.Transactions.{noTxn, privateTo, takenBy}
-use Rattle.space.specs.declared.Sweep.{Sweep}
-use Rattle.space.specs.declared.Sweep.the-variants.{Expire, Commit, Abort, Remove, Mark}
+use Rattle.space.specs.declared.sweep.Sweep.{Sweep}
+use Rattle.space.specs.declared.sweep.Sweep.the-variants.{Expire, Commit, Abort, Remove, Mark}
 
 -- read holders with the one at place p added; 8: none is
 abbrev pub addAt : ℕ → ℕ → ℕ

@@ -1,0 +1,45 @@
+-- `space::find_txn` meets its contract. The loop's invariant: none of the rows passed has the number. Assumes nothing.
+use Prim.Native.Nat.{_≤_, _-_}
+use mathlib.Core.Path.{_≡_, _∙_}
+use native.Mathlib.Omega.{arith}
+use Rattle.rules.specs.Words.{txnCount}
+use Rattle.space.proofs.LiveLaws.{NoneIn, none-in-none, none-more, txn-found, txn-missing}
+use Rattle.space.proofs.live.find_txn.Statement.{statement}
+use Rattle.space.proofs.live.find_txn.Tie as tie
+
+abbrev Inv-loop : tie.InvT-loop
+Inv-loop space id n i₀ i = (i ≤ n) × (n ≡ txnCount space) × NoneIn space (id .0) i
+
+abbrev μ-loop : tie.MeasureT-loop
+μ-loop space id n i₀ i = n - i
+
+loop-holds : tie.Need-loop-holds Inv-loop μ-loop
+loop-holds c = (omega arith, c .txn-count .ensures .0, none-in-none _ _)
+
+returns : tie.Need-returns Inv-loop μ-loop
+returns c =
+    let l = c .before .before .before .before .before .loop in
+    txn-found _ _ (l .i) _ (omega arith) (c .before .before .before .txn-at .ensures) (l .inv .2) (c .if1 .taken)
+
+loop-again : tie.Need-loop-again Inv-loop μ-loop
+loop-again c =
+    let l = c .before .before .before .before .before .loop in
+    (omega arith, l .inv .1, none-more _ _ (l .i) _ (c .before .before .before .txn-at .ensures) (l .inv .2) (c .if1 .left))
+
+returns-2 : tie.Need-returns-2 Inv-loop μ-loop
+returns-2 c = txn-missing _ _ (c .before .loop .i) (omega arith) (c .before .loop .inv .2)
+
+pub find-txn-spec : {M : Type 1} → statement M
+find-txn-spec =
+    tie.close
+    (tie.spec
+    Inv-loop
+    μ-loop
+    (λ c κs. tt)
+    loop-holds
+    (λ c κs. omega arith)
+    returns
+    (λ c. omega arith)
+    (λ c. omega arith)
+    loop-again
+    returns-2)

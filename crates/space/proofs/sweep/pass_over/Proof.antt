@@ -1,0 +1,64 @@
+-- `space::pass_over` meets its contract. The loop's invariant: the first i entries are gone through. Assumes nothing.
+use Prim.Native.Nat.{_≤_, _-_, _+_, _*_}
+use mathlib.Core.Logic.{⊎-elim}
+use mathlib.Core.Path.{_≡_, sym, ap, ap₂, _∙_, subst, subst₂}
+use native.Mathlib.Omega.{arith}
+use lib.ListN.{length-set}
+use borrow.Author.Needs.{needs}
+use Rattle.space.proofs.SweepLaws.{Sweeping, sweep-start, sweep-kept, sweep-passed, sweep-done, storable}
+use Rattle.space.proofs.sweep.pass_over.Statement.{statement}
+use Rattle.space.proofs.sweep.pass_over.Tie as tie
+
+abbrev Inv-loop : tie.InvT-loop
+Inv-loop space₀ s count i₀ n₀ space i n = (i ≤ count) × Sweeping s space₀ space i n
+
+abbrev μ-loop : tie.MeasureT-loop
+μ-loop space₀ s count i₀ n₀ space i n = count - i
+
+loop-holds : tie.Need-loop-holds Inv-loop μ-loop
+loop-holds c = (omega arith, sweep-start (c .before .before .args .s) (c .before .before .args .space .now))
+
+change-entry-requires : tie.Need-change-entry-requires Inv-loop μ-loop
+change-entry-requires c κs = c .before .before .before .before .before .before .before .before .pre
+
+loop-again : tie.Need-loop-again Inv-loop μ-loop
+loop-again c =
+    let a = c .before .before .before .before .before .before .before .before .args in
+    let l = c .before .before .before .before .before .loop in
+    let long = c .before .before .before .before .before .before .entry-count .ensures .1 in
+    let r = c .before .before .entry-at .ensures in
+    let k = c .before .keeps-entry .ensures in (
+      omega arith,
+      ⊎-elim
+          (λ w. subst₂ (λ x m. Sweeping (a .s) (a .space .now) x (l .i + 1) m) (sym (w .4 ∙ w .3 .ensures)) (sym (w .5))
+          (sweep-kept (a .s) (a .space .now) (l .space) (l .i) (l .n) (l .inv .1) long (omega arith) _ r _ (w .1 .ensures)
+          (storable (a .s) (l .space) (6 + 9 * l .i) _ _ r (w .1 .ensures) (omega (arith, w .1 .ok))) (sym k ∙ w .0 .taken)))
+          (λ w. subst₂ (λ x m. Sweeping (a .s) (a .space .now) x (l .i + 1) m) (sym (w .1)) (sym (w .2))
+          (sweep-passed (a .s) (a .space .now) (l .space) (l .i) (l .n) (l .inv .1) long (omega arith) _ r (sym k ∙ w .0 .left)))
+          (c .if1 .came),
+    )
+
+returns : tie.Need-returns Inv-loop μ-loop
+returns c =
+    let w = c .before .loop .inv .1 in
+    (sweep-done (c .before .before .before .before .args .s) _ _ (c .before .loop .i) _ (c .before .before .entry-count .ensures .1) (omega arith) w, simp length-set (w .long ∙ c .before .before .entry-count .ensures .1))
+
+pub pass-over-spec : {M : Type 1} → statement M
+pass-over-spec =
+    tie.close
+    (tie.spec
+    Inv-loop
+    μ-loop
+    (λ c κs. tt)
+    loop-holds
+    (λ c κs. omega arith)
+    (λ c κs. tt)
+    change-entry-requires
+    (λ c κs. omega arith)
+    (λ c. omega arith)
+    (λ c. omega arith)
+    (λ c. omega arith)
+    loop-again
+    (λ c. omega arith)
+    (λ c. search needs)
+    returns)

@@ -1,0 +1,46 @@
+// The ends of transactions.
+ghost use mathlib.Core.Path.{_≡_};
+ghost use Rattle.rules.specs.State.{withWaits};
+ghost use Rattle.rules.specs.Lists.{filterb};
+ghost use Rattle.rules.specs.Words.{view};
+ghost use mathlib.Core.Bool.{not};
+ghost use lib.Dec.{eqb};
+ghost use Rattle.rules.specs.Transactions.{commit, abort};
+use crate::rows::{Words, move_wait, wait_at, wait_count};
+use crate::live::{remove_txn, slot_of};
+use crate::sweep::{Sweep, pass_over};
+use rules::{TxnId};
+
+pub(crate) fn commit_txn(space: &mut Words, id: TxnId)
+    ensures { λ _. ⌜ view (now (space .exit)) ≡ commit (id .0) (view (now (space .entry))) ⌝ }
+{
+    let p = slot_of(space, id);
+    pass_over(space, Sweep::Commit(id, p));
+    remove_txn(space, id);
+}
+
+pub(crate) fn drop_waits(space: &mut Words, id: TxnId)
+    ensures { λ _. ⌜ view (now (space .exit)) ≡ withWaits (filterb (λ w. not (eqb (w .txn .0) (id .0))) (view (now (space .entry)) .waits)) (view (now (space .entry))) ⌝ }
+{
+    let count = wait_count(space);
+    let mut i: usize = 0;
+    let mut n: usize = 0;
+    while i < count {
+        let w = wait_at(space, i);
+        if w.txn.0 != id.0 {
+            move_wait(space, i, n);
+            n += 1;
+        }
+        i += 1;
+    }
+    space[5] = n as u32;
+}
+
+pub(crate) fn abort_txn(space: &mut Words, id: TxnId)
+    ensures { λ _. ⌜ view (now (space .exit)) ≡ abort (id .0) (view (now (space .entry))) ⌝ }
+{
+    let p = slot_of(space, id);
+    pass_over(space, Sweep::Abort(id, p));
+    drop_waits(space, id);
+    remove_txn(space, id);
+}

@@ -1,0 +1,243 @@
+// The words of a space: where each table stands, and its rows read, put, moved and appended. Only this module knows offsets.
+ghost use mathlib.Core.Path.{_≡_};
+ghost use Prim.Native.Nat.{_+_, _*_, _<_};
+ghost use lib.ListN.{length, getD};
+ghost use mathlib.Core.List.{[], _∷_, _++_};
+ghost use Rattle.rules.specs.State.{withEntries, withWaits, withClock};
+ghost use Rattle.rules.specs.Words.{untilOf, untilWord, entryFrom, txnFrom, waitFrom, entryCount, txnCount, waitCount};
+ghost use Rattle.space.specs.Rows.{putEntry, moveRow, opWord, putWait, Holds, moveTxn};
+ghost use Rattle.rules.specs.Words.{view};
+ghost use Rattle.rules.specs.Frame.{isTake, isIfExists};
+use rules::{Entry, EntryId, Fields, Txn, TxnId, Until, LookUp};
+
+pub type Words = [u32; 758];
+
+pub(crate) fn until_of(n: u32) -> Until
+    ensures { λ r. ⌜ r ≡ untilOf n ⌝ }
+{
+    if n == 4294967295 {
+        Until::Forever
+    } else {
+        Until::Tick(n)
+    }
+}
+
+pub(crate) fn until_word(u: Until) -> u32
+    ensures { λ r. ⌜ r ≡ untilWord u ⌝ }
+{
+    match u {
+        Until::Tick(t) => t,
+        Until::Forever => 4294967295,
+    }
+}
+
+pub(crate) fn entry_count(space: &Words) -> usize
+    ensures { λ r. ⌜ (r ≡ entryCount (now (space .entry))) × (length (now (space .entry)) ≡ 758) ⌝ }
+{
+    let all = &space[..];
+    let n = all[3];
+    if n < 64 { n as usize } else { 64 }
+}
+
+pub(crate) fn entry_at(space: &Words, i: usize) -> Entry
+    requires { ⌜ i < 64 ⌝ }
+    ensures { λ r. ⌜ r ≡ entryFrom (now (space .entry)) (6 + 9 * i) ⌝ }
+{
+    let o = 6 + 9 * i;
+    let end = until_of(space[o + 5]);
+    let readers = (space[o + 8] % 256) as u8;
+    Entry {
+        id: EntryId(space[o]),
+        fields: Fields {
+            kind: space[o + 1],
+            side: space[o + 2],
+            image: space[o + 3],
+            place: space[o + 4],
+        },
+        end,
+        private_to: TxnId(space[o + 6]),
+        taken_by: TxnId(space[o + 7]),
+        readers,
+    }
+}
+
+pub(crate) fn put_entry(space: &mut Words, i: usize, e: Entry)
+    requires { ⌜ i < 64 ⌝ }
+    ensures { λ _. ⌜ now (space .exit) ≡ putEntry (now (space .entry)) (6 + 9 * i) e ⌝ }
+{
+    let o = 6 + 9 * i;
+    let end = e.end;
+    let end = until_word(end);
+    space[o] = e.id.0;
+    space[o + 1] = e.fields.kind;
+    space[o + 2] = e.fields.side;
+    space[o + 3] = e.fields.image;
+    space[o + 4] = e.fields.place;
+    space[o + 5] = end;
+    space[o + 6] = e.private_to.0;
+    space[o + 7] = e.taken_by.0;
+    space[o + 8] = e.readers as u32;
+}
+
+pub(crate) fn txn_count(space: &Words) -> usize
+    ensures { λ r. ⌜ (r ≡ txnCount (now (space .entry))) × (length (now (space .entry)) ≡ 758) ⌝ }
+{
+    let all = &space[..];
+    let n = all[4];
+    if n < 8 { n as usize } else { 8 }
+}
+
+pub(crate) fn wait_count(space: &Words) -> usize
+    ensures { λ r. ⌜ (r ≡ waitCount (now (space .entry))) × (length (now (space .entry)) ≡ 758) ⌝ }
+{
+    let all = &space[..];
+    let n = all[5];
+    if n < 16 { n as usize } else { 16 }
+}
+
+pub(crate) fn txn_at(space: &Words, i: usize) -> Txn
+    requires { ⌜ i < 8 ⌝ }
+    ensures { λ r. ⌜ r ≡ txnFrom (now (space .entry)) (582 + 4 * i) ⌝ }
+{
+    let o = 582 + 4 * i;
+    let end = until_of(space[o + 2]);
+    Txn {
+        id: TxnId(space[o]),
+        party: (space[o + 1] % 256) as u8,
+        end,
+        slot: (space[o + 3] % 8) as u8,
+    }
+}
+
+pub(crate) fn is_take(op: u32) -> bool
+    ensures { λ r. ⌜ r ≡ isTake op ⌝ }
+{
+    op == 3 || op == 5
+}
+
+pub(crate) fn is_if_exists(op: u32) -> bool
+    ensures { λ r. ⌜ r ≡ isIfExists op ⌝ }
+{
+    op == 4 || op == 5
+}
+
+pub(crate) fn wait_at(space: &Words, i: usize) -> LookUp
+    requires { ⌜ i < 16 ⌝ }
+    ensures { λ r. ⌜ r ≡ waitFrom (now (space .entry)) (614 + 9 * i) ⌝ }
+{
+    let o = 614 + 9 * i;
+    let op = space[o + 1];
+    let takes = is_take(op);
+    let if_exists = is_if_exists(op);
+    let deadline = until_of(space[o + 8]);
+    LookUp {
+        party: (space[o] % 256) as u8,
+        takes,
+        if_exists,
+        mask: (space[o + 2] % 256) as u8,
+        fields: Fields {
+            kind: space[o + 3],
+            side: space[o + 4],
+            image: space[o + 5],
+            place: space[o + 6],
+        },
+        txn: TxnId(space[o + 7]),
+        deadline,
+    }
+}
+
+pub(crate) fn move_wait(space: &mut Words, from: usize, to: usize)
+    requires { ⌜ (from < 16) × (to < 16) ⌝ }
+    ensures { λ _. ⌜ now (space .exit) ≡ moveRow (now (space .entry)) (614 + 9 * from) (614 + 9 * to) ⌝ }
+{
+    let f = 614 + 9 * from;
+    let t = 614 + 9 * to;
+    let a = space[f];
+    let b = space[f + 1];
+    let c = space[f + 2];
+    let d = space[f + 3];
+    let e = space[f + 4];
+    let g = space[f + 5];
+    let h = space[f + 6];
+    let i = space[f + 7];
+    let j = space[f + 8];
+    space[t] = a;
+    space[t + 1] = b;
+    space[t + 2] = c;
+    space[t + 3] = d;
+    space[t + 4] = e;
+    space[t + 5] = g;
+    space[t + 6] = h;
+    space[t + 7] = i;
+    space[t + 8] = j;
+}
+
+pub(crate) fn op_word(takes: bool, exists: bool) -> u32
+    ensures { λ r. ⌜ r ≡ opWord takes exists ⌝ }
+{
+    if takes {
+        if exists { 5 } else { 3 }
+    } else {
+        if exists { 4 } else { 2 }
+    }
+}
+
+pub(crate) fn put_wait(space: &mut Words, i: usize, w: LookUp)
+    requires { ⌜ i < 16 ⌝ }
+    ensures { λ _. ⌜ now (space .exit) ≡ putWait (now (space .entry)) (614 + 9 * i) w ⌝ }
+{
+    let o = 614 + 9 * i;
+    let deadline = w.deadline;
+    let end = until_word(deadline);
+    let op = op_word(w.takes, w.if_exists);
+    space[o] = w.party as u32;
+    space[o + 1] = op;
+    space[o + 2] = w.mask as u32;
+    space[o + 3] = w.fields.kind;
+    space[o + 4] = w.fields.side;
+    space[o + 5] = w.fields.image;
+    space[o + 6] = w.fields.place;
+    space[o + 7] = w.txn.0;
+    space[o + 8] = end;
+}
+
+pub(crate) fn add_entry(space: &mut Words, e: Entry)
+    requires { ⌜ (getD (now space) 3 0 < 64) × Holds (e .end) ⌝ }
+    ensures { λ _. ⌜ view (now (space .exit)) ≡ withEntries (view (now (space .entry)) .entries ++ (e ∷ [])) (view (now (space .entry))) ⌝ }
+{
+    let n = entry_count(space);
+    put_entry(space, n, e);
+    space[3] = (n + 1) as u32;
+}
+
+pub(crate) fn add_wait(space: &mut Words, w: LookUp)
+    requires { ⌜ (getD (now space) 5 0 < 16) × Holds (w .deadline) ⌝ }
+    ensures { λ _. ⌜ view (now (space .exit)) ≡ withWaits (view (now (space .entry)) .waits ++ (w ∷ [])) (view (now (space .entry))) ⌝ }
+{
+    let n = wait_count(space);
+    put_wait(space, n, w);
+    space[5] = (n + 1) as u32;
+}
+
+pub(crate) fn set_clock(space: &mut Words, t: u32)
+    ensures { λ _. ⌜ view (now (space .exit)) ≡ withClock t (view (now (space .entry))) ⌝ }
+{
+    wait_count(space);
+    space[0] = t;
+}
+
+pub(crate) fn move_txn(space: &mut Words, from: usize, to: usize)
+    requires { ⌜ (from < 8) × (to < 8) ⌝ }
+    ensures { λ _. ⌜ now (space .exit) ≡ moveTxn (now (space .entry)) (582 + 4 * from) (582 + 4 * to) ⌝ }
+{
+    let f = 582 + 4 * from;
+    let t = 582 + 4 * to;
+    let a = space[f];
+    let b = space[f + 1];
+    let c = space[f + 2];
+    let d = space[f + 3];
+    space[t] = a;
+    space[t + 1] = b;
+    space[t + 2] = c;
+    space[t + 3] = d;
+}

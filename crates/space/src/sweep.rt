@@ -1,0 +1,181 @@
+// One pass over the entries: which are kept, and how those are changed.
+ghost use mathlib.Core.Path.{_≡_};
+ghost use Prim.Native.Nat.{_≤_};
+ghost use lib.ListN.{length};
+ghost use Rattle.rules.specs.Tick.{dropEnded};
+ghost use Rattle.rules.specs.Words.{view};
+ghost use Rattle.space.specs.Live.{slotOf};
+ghost use Rattle.space.specs.HandOut.{handedOut};
+ghost use Rattle.rules.specs.Holds.{liveTxn};
+ghost use mathlib.Core.Bool.{cond, _&&_};
+ghost use lib.Dec.{eqb};
+ghost use Rattle.rules.specs.Transactions.{noTxn};
+ghost use Rattle.rules.specs.Time.{reached};
+ghost use Rattle.space.specs.Sweep.{releasedAt, markedAt, keeps, changes, slotIn, sweepModel};
+use crate::rows::{Words, entry_at, entry_count, put_entry};
+use crate::holds::{add_reader, drop_reader};
+use rules::{Entry, EntryId, TxnId, Until, LookUp};
+
+pub(crate) fn reached_at(clock: u32, end: Until) -> bool
+    ensures { λ r. ⌜ r ≡ reached clock end ⌝ }
+{
+    match end {
+        Until::Tick(t) => t <= clock,
+        Until::Forever => false,
+    }
+}
+
+pub(crate) enum Sweep {
+    // Those whose lease has ended at the clock go.
+    Expire(u32),
+    // The transaction, at its place, commits: what it has taken goes, the rest is released.
+    Commit(TxnId, u8),
+    // It aborts: what it has written goes, the rest is released.
+    Abort(TxnId, u8),
+    // The entry with the number goes.
+    Remove(EntryId),
+    // It gets the mark of a read, or of a take, by the transaction at its place.
+    Mark(EntryId, bool, TxnId, u8),
+}
+
+pub(crate) fn keeps_entry(s: Sweep, e: Entry) -> bool
+    ensures { λ r. ⌜ r ≡ keeps s e ⌝ }
+{
+    match s {
+        Sweep::Expire(clock) => {
+            let end = e.end;
+            !reached_at(clock, end)
+        }
+        Sweep::Commit(t, _) => e.taken_by.0 != t.0,
+        Sweep::Abort(t, _) => e.private_to.0 != t.0,
+        Sweep::Remove(n) => e.id.0 != n.0,
+        Sweep::Mark(_, _, _, _) => true,
+    }
+}
+
+pub(crate) fn cleared(x: TxnId, t: TxnId) -> TxnId
+    ensures { λ r. ⌜ r ≡ cond (eqb (x .0) (t .0)) noTxn x ⌝ }
+{
+    if x.0 == t.0 { TxnId(0) } else { x }
+}
+
+pub(crate) fn release(e: Entry, t: TxnId, p: u8) -> Entry
+    requires { ⌜ p ≤ 8 ⌝ }
+    ensures { λ r. ⌜ r ≡ releasedAt (t .0) p e ⌝ }
+{
+    let private_to = cleared(e.private_to, t);
+    let taken_by = cleared(e.taken_by, t);
+    let readers = drop_reader(e.readers, p);
+    let id = e.id;
+    let fields = e.fields;
+    let end = e.end;
+    Entry {
+        id,
+        fields,
+        end,
+        private_to,
+        taken_by,
+        readers,
+    }
+}
+
+pub(crate) fn mark(e: Entry, takes: bool, t: TxnId, p: u8) -> Entry
+    requires { ⌜ p ≤ 8 ⌝ }
+    ensures { λ r. ⌜ r ≡ markedAt takes t p e ⌝ }
+{
+    if e.private_to.0 == t.0 {
+        return e;
+    }
+    let id = e.id;
+    let fields = e.fields;
+    let end = e.end;
+    let private_to = e.private_to;
+    if takes {
+        let readers = drop_reader(e.readers, p);
+        Entry {
+            id,
+            fields,
+            end,
+            private_to,
+            taken_by: t,
+            readers,
+        }
+    } else {
+        let readers = add_reader(e.readers, p);
+        let taken_by = e.taken_by;
+        Entry {
+            id,
+            fields,
+            end,
+            private_to,
+            taken_by,
+            readers,
+        }
+    }
+}
+
+pub(crate) fn change_entry(s: Sweep, e: Entry) -> Entry
+    requires { ⌜ slotIn s ≤ 8 ⌝ }
+    ensures { λ r. ⌜ r ≡ changes s e ⌝ }
+{
+    match s {
+        Sweep::Expire(_) => e,
+        Sweep::Commit(t, p) => release(e, t, p),
+        Sweep::Abort(t, p) => release(e, t, p),
+        Sweep::Remove(_) => e,
+        Sweep::Mark(n, takes, t, p) => {
+            if e.id.0 == n.0 {
+                mark(e, takes, t, p)
+            } else {
+                e
+            }
+        }
+    }
+}
+
+pub(crate) fn pass_over(space: &mut Words, s: Sweep)
+    requires { ⌜ slotIn s ≤ 8 ⌝ }
+    ensures { λ _. ⌜ (view (now (space .exit)) ≡ sweepModel s (view (now (space .entry)))) × (length (now (space .exit)) ≡ 758) ⌝ }
+{
+    let count = entry_count(space);
+    let mut i: usize = 0;
+    let mut n: usize = 0;
+    while i < count {
+        let e = entry_at(space, i);
+        if keeps_entry(s, e) {
+            let x = change_entry(s, e);
+            put_entry(space, n, x);
+            n += 1;
+        }
+        i += 1;
+    }
+    space[3] = n as u32;
+}
+
+pub(crate) fn is_removed(takes: bool, private_to: TxnId, t: TxnId) -> bool
+    ensures { λ r. ⌜ r ≡ (takes && eqb («private_to» .0) (t .0)) ⌝ }
+{
+    if takes { private_to.0 == t.0 } else { false }
+}
+
+pub(crate) fn hand_out(space: &mut Words, e: Entry, w: LookUp, p: u8)
+    requires { ⌜ (p ≤ 8) × (p ≡ slotOf (liveTxn (w .txn .0) (view (now space) .txns))) ⌝ }
+    ensures { λ _. ⌜ (view (now (space .exit)) ≡ handedOut w e (view (now (space .entry)))) × (length (now (space .exit)) ≡ 758) ⌝ }
+{
+    let id = e.id;
+    let private_to = e.private_to;
+    let txn = w.txn;
+    let takes = w.takes;
+    if is_removed(takes, private_to, txn) {
+        pass_over(space, Sweep::Remove(id));
+    } else {
+        pass_over(space, Sweep::Mark(id, takes, txn, p));
+    }
+}
+
+pub(crate) fn drop_ended(space: &mut Words)
+    ensures { λ _. ⌜ view (now (space .exit)) ≡ dropEnded (view (now (space .entry))) ⌝ }
+{
+    let clock = space[0];
+    pass_over(space, Sweep::Expire(clock));
+}
