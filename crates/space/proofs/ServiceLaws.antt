@@ -19,7 +19,8 @@ use Rattle.space.proofs.SearchLaws.{NoneFor}
 use Rattle.rules.specs.Words.{entryCount, waitCount, waitFrom, view}
 use Rattle.space.specs.Rows.{moveRow}
 use Rattle.space.specs.HandOut.{handedOut}
-use Rattle.space.specs.Serviced.{Serviced}
+use Rattle.rules.specs.Service.{service}
+use Rattle.space.specs.Does.{Does, first}
 use Rattle.space.proofs.MoveLaws.{move-view, close-view, next-wait, length-waits}
 use Rattle.space.proofs.RecordLaws.{front-length, Area, area-none, area-more, area-done}
 use Rattle.space.proofs.ServeLaws.{Serving, serving-none, serving-found, serving-waits, serving-done}
@@ -94,7 +95,7 @@ module _ (ws₀ ws a₀ a : List ℕ) (count done i n : ℕ) (t : Turns ws₀ ws
         area = t .area;
       }
 
-  pub turns-done : i ≡ waitCount ws₀ → Serviced ws₀ (set ws 5 n) a₀ a count done
+  pub turns-done : i ≡ waitCount ws₀ → Does (service first (view ws₀)) (set ws 5 n) a₀ a count done
   turns-done h =
       let d = serving-done (view ws₀) (view ws) i n (t .records) (t .serving) (omega (arith, length-waits ws₀)) in
       let rs = ap (λ (x : Done). x .records) d in

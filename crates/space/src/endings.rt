@@ -6,11 +6,17 @@ ghost use Rattle.rules.specs.Words.{view};
 ghost use mathlib.Core.Bool.{not};
 ghost use lib.Dec.{eqb};
 ghost use Rattle.rules.specs.Transactions.{commit, abort};
-use crate::rows::{Words, move_wait, wait_at, wait_count};
-use crate::live::{remove_txn, slot_of};
-use crate::sweep::{Sweep, pass_over};
-use rules::{TxnId};
+use crate::live::remove_txn;
+use crate::live::slot_of;
+use crate::rows::Words;
+use crate::rows::move_wait;
+use crate::rows::wait_at;
+use crate::rows::wait_count;
+use crate::sweep::Sweep;
+use crate::sweep::pass_over;
+use rules::TxnId;
 
+// Private entries become committed, take-held ones are removed, read holds go.
 pub(crate) fn commit_txn(space: &mut Words, id: TxnId)
     ensures { λ _. ⌜ view (now (space .exit)) ≡ commit (id .0) (view (now (space .entry))) ⌝ }
 {
@@ -19,6 +25,7 @@ pub(crate) fn commit_txn(space: &mut Words, id: TxnId)
     remove_txn(space, id);
 }
 
+// The look-ups that wait inside the transaction are closed.
 pub(crate) fn drop_waits(space: &mut Words, id: TxnId)
     ensures { λ _. ⌜ view (now (space .exit)) ≡ withWaits (filterb (λ w. not (eqb (w .txn .0) (id .0))) (view (now (space .entry)) .waits)) (view (now (space .entry))) ⌝ }
 {
@@ -36,6 +43,7 @@ pub(crate) fn drop_waits(space: &mut Words, id: TxnId)
     space[5] = n as u32;
 }
 
+// Private entries are removed, both kinds of hold go; a look-up that waits inside is closed.
 pub(crate) fn abort_txn(space: &mut Words, id: TxnId)
     ensures { λ _. ⌜ view (now (space .exit)) ≡ abort (id .0) (view (now (space .entry))) ⌝ }
 {

@@ -6,7 +6,10 @@ ghost use Rattle.space.specs.HandOut.{availableAt};
 ghost use mathlib.Core.Bool.{not, _&&_, _||_};
 ghost use lib.Dec.{eqb};
 ghost use Rattle.space.specs.Sweep.{addAt, dropAt};
-use rules::{Entry, Fields, TxnId, LookUp};
+use rules::Entry;
+use rules::Fields;
+use rules::LookUp;
+use rules::TxnId;
 
 pub(crate) fn power(p: u8) -> u32
     requires { ⌜ p ≤ 8 ⌝ }
@@ -15,6 +18,7 @@ pub(crate) fn power(p: u8) -> u32
     1 << p
 }
 
+// Whether bit p of x is 1.
 pub(crate) fn has_bit(x: u8, p: u8) -> bool
     requires { ⌜ p ≤ 8 ⌝ }
     ensures { λ r. ⌜ r ≡ bit p x ⌝ }
@@ -24,6 +28,7 @@ pub(crate) fn has_bit(x: u8, p: u8) -> bool
     y / b % 2 == 1
 }
 
+// The read holders x without the one at place p; 8: none is dropped.
 pub(crate) fn drop_reader(x: u8, p: u8) -> u8
     requires { ⌜ p ≤ 8 ⌝ }
     ensures { λ r. ⌜ r ≡ dropAt p x ⌝ }
@@ -40,6 +45,7 @@ pub(crate) fn drop_reader(x: u8, p: u8) -> u8
     }
 }
 
+// The read holders x with the one at place p; 8: none is added.
 pub(crate) fn add_reader(x: u8, p: u8) -> u8
     requires { ⌜ p ≤ 8 ⌝ }
     ensures { λ r. ⌜ r ≡ addAt p x ⌝ }
@@ -56,6 +62,7 @@ pub(crate) fn add_reader(x: u8, p: u8) -> u8
     }
 }
 
+// Whether the template asks nothing of the field at bit p, or the two are equal.
 pub(crate) fn field_agrees(mask: u8, p: u8, want: u32, have: u32) -> bool
     requires { ⌜ p ≤ 8 ⌝ }
     ensures { λ r. ⌜ r ≡ agrees (bit p mask) want have ⌝ }
@@ -77,6 +84,7 @@ pub(crate) fn fields_match(mask: u8, want: Fields, have: Fields) -> bool
     }
 }
 
+// Whether no live transaction but the one at place p holds a read: no bit is 1, or one, at p.
 pub(crate) fn free_but(x: u8, p: u8) -> bool
     requires { ⌜ p ≤ 8 ⌝ }
     ensures { λ r. ⌜ r ≡ eqb (dropAt p x) 0 ⌝ }
@@ -93,16 +101,22 @@ pub(crate) fn free_but(x: u8, p: u8) -> bool
     false
 }
 
+// Whether it is visible to a look-up in the transaction t.
 pub(crate) fn is_visible(private_to: TxnId, taken_by: TxnId, t: TxnId) -> bool
     ensures { λ r. ⌜ r ≡ (eqb («taken_by» .0) 0 && (eqb («private_to» .0) 0 || eqb («private_to» .0) (t .0))) ⌝ }
 {
     if taken_by.0 == 0 {
-        if private_to.0 == 0 { true } else { private_to.0 == t.0 }
+        if private_to.0 == 0 {
+            true
+        } else {
+            private_to.0 == t.0
+        }
     } else {
         false
     }
 }
 
+// Whether a read hold of another than the transaction at place p bars the look-up.
 pub(crate) fn is_barred(takes: bool, readers: u8, p: u8) -> bool
     requires { ⌜ p ≤ 8 ⌝ }
     ensures { λ r. ⌜ r ≡ (takes && not (eqb (dropAt p readers) 0)) ⌝ }
@@ -110,6 +124,7 @@ pub(crate) fn is_barred(takes: bool, readers: u8, p: u8) -> bool
     if takes { !free_but(readers, p) } else { false }
 }
 
+// Whether the entry is available to the look-up, whose transaction has the place p among the read holders.
 pub(crate) fn is_available(e: Entry, w: LookUp, p: u8) -> bool
     requires { ⌜ p ≤ 8 ⌝ }
     ensures { λ r. ⌜ r ≡ availableAt p w e ⌝ }

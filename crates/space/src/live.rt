@@ -6,14 +6,20 @@ ghost use Rattle.rules.specs.Words.{view};
 ghost use Rattle.space.specs.Live.{Finds, slotOf};
 ghost use Rattle.rules.specs.Holds.{liveTxn};
 ghost use Rattle.rules.specs.Transactions.{withoutTxn};
-use crate::rows::{Words, move_txn, txn_at, txn_count};
-use rules::{Txn, TxnId};
+use crate::rows::Words;
+use crate::rows::move_txn;
+use crate::rows::txn_at;
+use crate::rows::txn_count;
+use rules::Txn;
+use rules::TxnId;
 
+// A live transaction, or none.
 pub(crate) enum Live {
     At(Txn),
     None,
 }
 
+// The live transaction with a number.
 pub(crate) fn find_txn(space: &Words, id: TxnId) -> Live
     ensures { λ r. ⌜ Finds (now (space .entry)) (id .0) r ⌝ }
 {
@@ -29,6 +35,7 @@ pub(crate) fn find_txn(space: &Words, id: TxnId) -> Live
     Live::None
 }
 
+// The place of a live transaction among the read holders, or 8 where the number is none's.
 pub(crate) fn slot_of(space: &Words, id: TxnId) -> u8
     ensures { λ r. ⌜ (r ≡ slotOf (liveTxn (id .0) (view (now (space .entry)) .txns))) × (r ≤ 8) ⌝ }
 {
@@ -39,6 +46,7 @@ pub(crate) fn slot_of(space: &Words, id: TxnId) -> u8
     }
 }
 
+// The transaction is live no longer.
 pub(crate) fn remove_txn(space: &mut Words, id: TxnId)
     ensures { λ _. ⌜ view (now (space .exit)) ≡ withTxns (withoutTxn (id .0) (view (now (space .entry)) .txns)) (view (now (space .entry))) ⌝ }
 {

@@ -5,8 +5,11 @@ ghost use lib.ListN.{length, drop};
 ghost use mathlib.Core.List.{_++_};
 ghost use Rattle.rules.specs.Records.{recordBytes, found};
 ghost use Rattle.space.specs.Rows.{set4};
-use rules::{Entry, Record, LookUp};
+use rules::Entry;
+use rules::LookUp;
+use rules::Record;
 
+// Four bytes, from `at` on.
 pub(crate) fn put_four(out: &mut [u8], at: usize, a: u8, b: u8, c: u8, d: u8)
     requires { ⌜ at + 4 ≤ length (now out) ⌝ }
     ensures { λ _. ⌜ now (out .exit) ≡ set4 (now (out .entry)) at a b c d ⌝ }
@@ -17,6 +20,7 @@ pub(crate) fn put_four(out: &mut [u8], at: usize, a: u8, b: u8, c: u8, d: u8)
     out[at + 3] = d;
 }
 
+// The four bytes of a number, from `at` on.
 pub(crate) fn put_number(out: &mut [u8], at: usize, n: u32)
     requires { ⌜ at + 4 ≤ length (now out) ⌝ }
     ensures { λ _. ⌜ now (out .exit) ≡ set4 (now (out .entry)) at (n % 256) (n / 256 % 256) (n / 65536 % 256) (n / 16777216 % 256) ⌝ }
@@ -28,6 +32,7 @@ pub(crate) fn put_number(out: &mut [u8], at: usize, n: u32)
     put_four(out, at, a, b, c, d);
 }
 
+// The 28 bytes of a record, in front.
 pub(crate) fn put_record(out: &mut [u8], r: Record)
     requires { ⌜ 28 ≤ length (now out) ⌝ }
     ensures { λ _. ⌜ now (out .exit) ≡ recordBytes r ++ drop 28 (now (out .entry)) ⌝ }

@@ -8,7 +8,13 @@ ghost use Rattle.rules.specs.Words.{untilOf, untilWord, entryFrom, txnFrom, wai
 ghost use Rattle.space.specs.Rows.{putEntry, moveRow, opWord, putWait, Holds, moveTxn};
 ghost use Rattle.rules.specs.Words.{view};
 ghost use Rattle.rules.specs.Frame.{isTake, isIfExists};
-use rules::{Entry, EntryId, Fields, Txn, TxnId, Until, LookUp};
+use rules::Entry;
+use rules::EntryId;
+use rules::Fields;
+use rules::LookUp;
+use rules::Txn;
+use rules::TxnId;
+use rules::Until;
 
 pub type Words = [u32; 758];
 
@@ -146,6 +152,7 @@ pub(crate) fn wait_at(space: &Words, i: usize) -> LookUp
     }
 }
 
+// Row `from` of the waiting look-ups also stands at row `to`.
 pub(crate) fn move_wait(space: &mut Words, from: usize, to: usize)
     requires { ⌜ (from < 16) × (to < 16) ⌝ }
     ensures { λ _. ⌜ now (space .exit) ≡ moveRow (now (space .entry)) (614 + 9 * from) (614 + 9 * to) ⌝ }
@@ -172,6 +179,7 @@ pub(crate) fn move_wait(space: &mut Words, from: usize, to: usize)
     space[t + 8] = j;
 }
 
+// A look-up's operation as a word.
 pub(crate) fn op_word(takes: bool, exists: bool) -> u32
     ensures { λ r. ⌜ r ≡ opWord takes exists ⌝ }
 {
@@ -201,6 +209,7 @@ pub(crate) fn put_wait(space: &mut Words, i: usize, w: LookUp)
     space[o + 8] = end;
 }
 
+// The entry stands behind the others.
 pub(crate) fn add_entry(space: &mut Words, e: Entry)
     requires { ⌜ (getD (now space) 3 0 < 64) × Holds (e .end) ⌝ }
     ensures { λ _. ⌜ view (now (space .exit)) ≡ withEntries (view (now (space .entry)) .entries ++ (e ∷ [])) (view (now (space .entry))) ⌝ }
@@ -210,6 +219,7 @@ pub(crate) fn add_entry(space: &mut Words, e: Entry)
     space[3] = (n + 1) as u32;
 }
 
+// The look-up stands behind the others.
 pub(crate) fn add_wait(space: &mut Words, w: LookUp)
     requires { ⌜ (getD (now space) 5 0 < 16) × Holds (w .deadline) ⌝ }
     ensures { λ _. ⌜ view (now (space .exit)) ≡ withWaits (view (now (space .entry)) .waits ++ (w ∷ [])) (view (now (space .entry))) ⌝ }
@@ -219,6 +229,7 @@ pub(crate) fn add_wait(space: &mut Words, w: LookUp)
     space[5] = (n + 1) as u32;
 }
 
+// The clock is set.
 pub(crate) fn set_clock(space: &mut Words, t: u32)
     ensures { λ _. ⌜ view (now (space .exit)) ≡ withClock t (view (now (space .entry))) ⌝ }
 {
@@ -226,6 +237,7 @@ pub(crate) fn set_clock(space: &mut Words, t: u32)
     space[0] = t;
 }
 
+// Row `from` of the transactions also stands at row `to`.
 pub(crate) fn move_txn(space: &mut Words, from: usize, to: usize)
     requires { ⌜ (from < 8) × (to < 8) ⌝ }
     ensures { λ _. ⌜ now (space .exit) ≡ moveTxn (now (space .entry)) (582 + 4 * from) (582 + 4 * to) ⌝ }

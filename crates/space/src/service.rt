@@ -1,16 +1,26 @@
 // Service: the waiting look-ups are gone through once.
 ghost use Prim.Native.Nat.{_+_, _*_, _≤_};
 ghost use lib.ListN.{length};
-ghost use Rattle.space.specs.Serviced.{Serviced};
-use crate::rows::{Words, entry_at, entry_count, move_wait, wait_at, wait_count};
-use crate::live::{slot_of};
-use crate::holds::{is_available};
-use crate::sweep::{hand_out};
-use crate::records::{found_record, put_record};
+ghost use Rattle.rules.specs.Service.{service};
+ghost use Rattle.rules.specs.Words.{view};
+ghost use Rattle.space.specs.Does.{Does, first};
+use crate::holds::is_available;
+use crate::live::slot_of;
+use crate::records::found_record;
+use crate::records::put_record;
+use crate::rows::Words;
+use crate::rows::entry_at;
+use crate::rows::entry_count;
+use crate::rows::move_wait;
+use crate::rows::wait_at;
+use crate::rows::wait_count;
+use crate::sweep::hand_out;
 
+// The waiting look-ups are gone through once in order of arrival, and each with an available entry is answered found.
+// `count` records stand in the answers area before; the number afterwards is returned.
 pub(crate) fn serve_waits(space: &mut Words, answers: &mut [u8], count: usize) -> usize
     requires { ⌜ 28 * (count + 16) ≤ length (now answers) ⌝ }
-    ensures { λ r. ⌜ Serviced (now (space .entry)) (now (space .exit)) (now (answers .entry)) (now (answers .exit)) count r ⌝ }
+    ensures { λ r. ⌜ Does (service first (view (now (space .entry)))) (now (space .exit)) (now (answers .entry)) (now (answers .exit)) count r ⌝ }
 {
     let waits = wait_count(space);
     let mut done = count;

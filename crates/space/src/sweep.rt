@@ -12,10 +12,19 @@ ghost use lib.Dec.{eqb};
 ghost use Rattle.rules.specs.Transactions.{noTxn};
 ghost use Rattle.rules.specs.Time.{reached};
 ghost use Rattle.space.specs.Sweep.{releasedAt, markedAt, keeps, changes, slotIn, sweepModel};
-use crate::rows::{Words, entry_at, entry_count, put_entry};
-use crate::holds::{add_reader, drop_reader};
-use rules::{Entry, EntryId, TxnId, Until, LookUp};
+use crate::holds::add_reader;
+use crate::holds::drop_reader;
+use crate::rows::Words;
+use crate::rows::entry_at;
+use crate::rows::entry_count;
+use crate::rows::put_entry;
+use rules::Entry;
+use rules::EntryId;
+use rules::LookUp;
+use rules::TxnId;
+use rules::Until;
 
+// Whether the clock has reached an end.
 pub(crate) fn reached_at(clock: u32, end: Until) -> bool
     ensures { λ r. ⌜ r ≡ reached clock end ⌝ }
 {
@@ -25,6 +34,7 @@ pub(crate) fn reached_at(clock: u32, end: Until) -> bool
     }
 }
 
+// A pass over the entries.
 pub(crate) enum Sweep {
     // Those whose lease has ended at the clock go.
     Expire(u32),
@@ -53,6 +63,7 @@ pub(crate) fn keeps_entry(s: Sweep, e: Entry) -> bool
     }
 }
 
+// A transaction's number, or 0 in place of t.
 pub(crate) fn cleared(x: TxnId, t: TxnId) -> TxnId
     ensures { λ r. ⌜ r ≡ cond (eqb (x .0) (t .0)) noTxn x ⌝ }
 {
@@ -133,6 +144,7 @@ pub(crate) fn change_entry(s: Sweep, e: Entry) -> Entry
     }
 }
 
+// One pass over the entries, in place.
 pub(crate) fn pass_over(space: &mut Words, s: Sweep)
     requires { ⌜ slotIn s ≤ 8 ⌝ }
     ensures { λ _. ⌜ (view (now (space .exit)) ≡ sweepModel s (view (now (space .entry)))) × (length (now (space .exit)) ≡ 758) ⌝ }
@@ -152,12 +164,14 @@ pub(crate) fn pass_over(space: &mut Words, s: Sweep)
     space[3] = n as u32;
 }
 
+// Whether handing the entry out removes it.
 pub(crate) fn is_removed(takes: bool, private_to: TxnId, t: TxnId) -> bool
     ensures { λ r. ⌜ r ≡ (takes && eqb («private_to» .0) (t .0)) ⌝ }
 {
     if takes { private_to.0 == t.0 } else { false }
 }
 
+// The entry is handed out to the look-up, whose transaction has the place p among the read holders.
 pub(crate) fn hand_out(space: &mut Words, e: Entry, w: LookUp, p: u8)
     requires { ⌜ (p ≤ 8) × (p ≡ slotOf (liveTxn (w .txn .0) (view (now space) .txns))) ⌝ }
     ensures { λ _. ⌜ (view (now (space .exit)) ≡ handedOut w e (view (now (space .entry)))) × (length (now (space .exit)) ≡ 758) ⌝ }
@@ -173,6 +187,7 @@ pub(crate) fn hand_out(space: &mut Words, e: Entry, w: LookUp, p: u8)
     }
 }
 
+// Stored entries that end now are removed.
 pub(crate) fn drop_ended(space: &mut Words)
     ensures { λ _. ⌜ view (now (space .exit)) ≡ dropEnded (view (now (space .entry))) ⌝ }
 {

@@ -1,0 +1,20 @@
+-- What a function over the words and the answers area does, as the rules say it.
+use Prim.Native.Nat.{ℕ, _+_, _*_}
+use mathlib.Core.Path.{_≡_}
+use mathlib.Core.List.{List, _++_}
+use lib.ListN.{length, take, drop}
+use Rattle.rules.specs.Numbers.{recordSize}
+use Rattle.rules.specs.Records.{areaAfter}
+use Rattle.rules.specs.LookUp.{Done}
+use Rattle.rules.specs.Words.{view}
+
+-- the free choice as the code makes it: the first available entry
+abbrev pub first : ℕ → ℕ
+first party = 0
+
+-- the words become ws′ and the answers area, in which `count` records stand, becomes area′ with count′ records, as the rules' `d` says:
+-- its model, and its records behind those that stand there
+pub record Does (d : Done) (ws′ area area′ : List ℕ) (count count′ : ℕ) : Type 0 where
+  pub model : view ws′ ≡ d .model
+  pub counts : count′ ≡ count + length (d .records)
+  pub bytes : area′ ≡ take (recordSize * count) area ++ areaAfter (d .records) (drop (recordSize * count) area)
