@@ -13,6 +13,7 @@ pub mod Transactions
 pub mod Service
 pub mod Tick
 pub mod Refusals
+pub mod Requests
 pub mod Step
 pub mod Tray
 pub mod Print

@@ -62,3 +62,39 @@ pub struct Record {
     pub entry: EntryId,
     pub fields: Fields,
 }
+
+// A write: party, transaction, lease, fields.
+pub struct WriteRequest {
+    pub party: u8,
+    pub txn: TxnId,
+    pub lease: u32,
+    pub fields: Fields,
+}
+
+// A look-up: op is 2 read, 3 take, 4 readIfExists or 5 takeIfExists.
+pub struct FindRequest {
+    pub party: u8,
+    pub op: u8,
+    pub mask: u8,
+    pub txn: TxnId,
+    pub timeout: u32,
+    pub fields: Fields,
+}
+
+// What a frame asks for, once its form is in order.
+pub enum Request {
+    Write(WriteRequest),
+    Find(FindRequest),
+    // The party, and the lease.
+    Create(u8, u32),
+    // The party, and its transaction.
+    Commit(u8, TxnId),
+    Abort(u8, TxnId),
+    Tick,
+}
+
+// What the decoder answers: the request, or the number of the first of the refusals 2 to 5 that applies.
+pub enum Decoded {
+    Asks(Request),
+    Refused(u8),
+}

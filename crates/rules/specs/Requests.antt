@@ -1,0 +1,74 @@
+-- The decoder's answer: the numbers of document 01 for each of its cases.
+use Prim.Native.Nat.{ℕ}
+use mathlib.Core.Bool.{cond}
+use mathlib.Core.Path.{_≡_}
+use mathlib.Core.List.{List, [], _∷_}
+use mathlib.Core.Option.{Option, none, some}
+use lib.Dec.{eqb}
+use Rattle.rules.specs.declared.Fields.{Fields}
+use Rattle.rules.specs.declared.Request.{Request}
+use Rattle.rules.specs.declared.Request.the-variants.{Write, Find, Create, Commit, Abort, Tick}
+use Rattle.rules.specs.declared.Decoded.{Decoded}
+use Rattle.rules.specs.declared.Decoded.the-variants.{Asks, Refused}
+use Rattle.rules.specs.Numbers.{opWrite, opCreate, opCommit, opAbort, opTick, operationRefused, lengthRefused, formRefused, partyRefused, waitingRefused, notLiveRefused, notOwnRefused, leaseRefused, clockRefused, entriesRefused, txnsRefused, numberRefused, waitsRefused}
+use Rattle.rules.specs.Lists.{firstRow}
+use Rattle.rules.specs.State.{Model}
+use Rattle.rules.specs.Frame.{Frame, decode}
+use Rattle.rules.specs.Records.{noFields}
+use Rattle.rules.specs.Refusals.{noOperation, wrongLength, malformed, wrongParty, partyWaits, notLive, notOwn, noLease, tooLate, entriesFull, txnsFull, noNumber, waitsFull}
+
+-- a frame without mask and fields
+abbrev pub plainFrame : ℕ → ℕ → ℕ → ℕ → Frame
+plainFrame op party txn leaseOrTimeout =
+    record { op = op; party = party; mask = 0; byte3 = 0; txn = txn; leaseOrTimeout = leaseOrTimeout; fields = noFields }
+
+-- the frame that a request stands for
+abbrev pub frameOf : Request → Frame
+frameOf (Write w) =
+    record { op = opWrite; party = w .party; mask = 0; byte3 = 0; txn = w .txn .0; leaseOrTimeout = w .lease; fields = w .fields }
+frameOf (Find l) =
+    record { op = l .op; party = l .party; mask = l .mask; byte3 = 0; txn = l .txn .0; leaseOrTimeout = l .timeout; fields = l .fields }
+frameOf (Create party lease) = plainFrame opCreate party 0 lease
+frameOf (Commit party txn) = plainFrame opCommit party (txn .0) 0
+frameOf (Abort party txn) = plainFrame opAbort party (txn .0) 0
+frameOf Tick = plainFrame opTick 0 0 0
+
+-- the decoder's answer as a frame, where it asks for one, and as a refusal's number, or 0
+abbrev pub askedBy : Decoded → Option Frame
+askedBy (Asks q) = some (frameOf q)
+askedBy (Refused n) = none
+
+abbrev pub numberOf : Decoded → ℕ
+numberOf (Asks q) = 0
+numberOf (Refused n) = n
+
+-- the rows of the table that judge a frame's bytes alone: the first of 2 to 5 that applies, or 0
+unfoldable pub formRefusal : List ℕ → ℕ
+formRefusal bs =
+    let f = decode bs in
+    firstRow
+    ((noOperation bs f, operationRefused)
+    ∷ (wrongLength bs f, lengthRefused)
+    ∷ (malformed f, formRefused)
+    ∷ (wrongParty f, partyRefused)
+    ∷ [])
+
+-- and those that judge it against the space: the first of 6 to 14 that applies, or 0
+unfoldable pub spaceRefusal : Model → Frame → ℕ
+spaceRefusal m f =
+    firstRow
+    ((partyWaits m f, waitingRefused)
+    ∷ (notLive m f, notLiveRefused)
+    ∷ (notOwn m f, notOwnRefused)
+    ∷ (noLease f, leaseRefused)
+    ∷ (tooLate m f, clockRefused)
+    ∷ (entriesFull m f, entriesRefused)
+    ∷ (txnsFull m f, txnsRefused)
+    ∷ (noNumber m f, numberRefused)
+    ∷ (waitsFull m f, waitsRefused)
+    ∷ [])
+
+-- a frame's bytes are decoded rightly: refused with the first number that applies, or asked for what they say
+pub record Decodes (bs : List ℕ) (r : Decoded) : Type 0 where
+  pub number : numberOf r ≡ formRefusal bs
+  pub frame : askedBy r ≡ cond (eqb (formRefusal bs) 0) (some (decode bs)) none
