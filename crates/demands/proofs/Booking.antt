@@ -22,19 +22,22 @@ use Rattle.rules.specs.Transactions.{create, withoutTxn, commit, abort}
 use Rattle.rules.specs.Tick.{dropEnded}
 use Rattle.rules.specs.Refusals.{partyWaits, inTxn}
 use Rattle.rules.specs.Step.{Outcome, stored, carriedOut, step, accepted, refusedWith}
-use Rattle.demands.specs.History.{Input, runs}
-use Rattle.demands.specs.Serial.{wasRefused}
-use Rattle.demands.specs.Claims.{ByNumber, ofParty, LiveTold, Book, newBook, isOf, enters, entersAll, withAsked, arrives, keepBook, bookOf, Booked, Book-demand, Out, here, there, asked, Event, writes, is-found, is-nothing, is-waiting, creates, commits, aborts, ticks, excepts, Moments, over, expires, says}
+use Rattle.demands.proofs.Runs.{Input, runs, made}
+use Rattle.demands.specs.SerialRun.{wasRefused}
+use Rattle.demands.specs.Bounds.{ByNumber}
+use Rattle.demands.specs.Answers.{ofParty, asked}
+use Rattle.demands.specs.Book.{LiveTold, Book, newBook, names, enters, entersAll, withAsked, arrives, keepBook, bookOf, Booked}
+use Rattle.demands.specs.Moments.{Out, here, there, Event, writes, is-found, is-nothing, is-waiting, creates, commits, aborts, ticks, excepts, Moments, expires, says, over}
 use Rattle.rules.proofs.ListLaws.{count, count-cons, length-filter, filter-all, mem-filter, any-filter, all-false}
 use Rattle.rules.proofs.StepCases.{cond-cases, step-cases}
 use Rattle.rules.proofs.RefusalLaws.{Clear, clear}
 use Rattle.demands.proofs.SerialOps.{filter-filter}
-use Rattle.demands.proofs.SerialRun.{look-up-taken}
+use Rattle.demands.proofs.Serializing.{look-up-taken}
 use Rattle.demands.proofs.Sound.{Sound, sound-step, sound-empty}
 use Rattle.demands.proofs.Numbers.{step-ascends, empty-ascends}
 use Rattle.demands.proofs.Owners.{OwnedIn, owned-step, own-named, named-nonzero, not-inside}
-use Rattle.demands.proofs.ClaimsB.{Each, filtered, each-step, arrives as one-more}
-use Rattle.demands.proofs.ClaimsC.{carried-moments}
+use Rattle.demands.proofs.InTime.{Each, filtered, each-step, arrives as one-more}
+use Rattle.demands.proofs.Momentary.{carried-moments}
 
 -- none passes: the rest is all
 none-passes : {A : Type 0} (p : A → Bool) (xs : List A) → count p xs ≤ 0 → filterb (λ x. not (p x)) xs ≡ xs
@@ -68,10 +71,10 @@ filter-map {A} {B} p g (x ∷ xs) = go (p (g x)) (filter-map p g xs)
     go false e = e
 
 -- where each party has one look-up at most, a record names one look-up at most
-named : (a : Record) (w : LookUp) {xs ys : List LookUp} → isOf a w ≡ true → Each xs → Out w xs ys
-    → (filterb (λ v. not (isOf a v)) xs ≡ ys) × (count (isOf a) xs ≡ 1)
+named : (a : Record) (w : LookUp) {xs ys : List LookUp} → names a w ≡ true → Each xs → Out w xs ys
+    → (filterb (λ v. not (names a v)) xs ≡ ys) × (count (names a) xs ≡ 1)
 named a w {xs} t h o =
-    one-passes (isOf a) o t
+    one-passes (names a) o t
     (le-trans (subst (λ (l : List LookUp). length l ≤ count (ofParty (a .party)) xs) (filter-filter (λ (v : LookUp). eqb (v .txn .0) (a .txn .0)) (ofParty (a .party)) xs) (length-filter (λ (v : LookUp). eqb (v .txn .0) (a .txn .0)) (filterb (ofParty (a .party)) xs)))
     (h (a .party)))
 
@@ -100,7 +103,7 @@ module _ (f : Frame) (b : Book) where
   enters-waiting : (a : Record) → (p : LookUp → Bool) × (enters f a b .waiting ≡ filterb p (b .waiting))
   unfolding enters
   enters-waiting a =
-      cond-cases Q (eqb (a .kind) 2 || eqb (a .kind) 3) (λ _. ((λ w. not (isOf a w)), refl))
+      cond-cases Q (eqb (a .kind) 2 || eqb (a .kind) 3) (λ _. ((λ w. not (names a w)), refl))
       (λ _. cond-cases Q (eqb (a .kind) 8) (λ _. ((λ (w : LookUp). not (eqb (w .txn .0) (a .txn .0))), refl)) (λ _. ((λ w. true), sym (filter-all (b .waiting)))))
     where
       Q : List LookUp → Type 0
@@ -246,8 +249,8 @@ unfolding runs keepBook
 runs-booked m b [] k = k
 runs-booked m b (i ∷ is) k = runs-booked _ _ is (book-step i m b k)
 
-pub book-demand : Book-demand
-unfolding Book-demand bookOf
+pub book-demand : (is : List Input) → Booked (bookOf (runs empty is .log)) (made is)
+unfolding bookOf
 book-demand is =
     runs-booked empty newBook is
     (record {

@@ -25,12 +25,12 @@ use Rattle.rules.specs.Service.{Served, serve, service}
 use Rattle.rules.specs.Tick.{endedTxns, abortAll, dropEnded, closeWaits, tick}
 use Rattle.rules.specs.Refusals.{entriesFull, txnsFull, waitsFull}
 use Rattle.rules.specs.Step.{Outcome, newEntry, stored, write, commitFrame, abortFrame, step, accepted, refusedWith}
-use Rattle.demands.specs.History.{Input, made}
-use Rattle.demands.specs.Demands.{Bounded, Bounds}
+use Rattle.demands.proofs.Runs.{Input, made}
+use Rattle.demands.specs.Bounds.{Bounded}
 use Rattle.rules.proofs.ListLaws.{length-filter}
 use Rattle.rules.proofs.StepCases.{and-false-right, cond-cases, step-cases, done-cases, serve-ind}
 use Rattle.rules.proofs.RefusalLaws.{clear}
-use Rattle.demands.proofs.Reach.{made-keep}
+use Rattle.demands.proofs.Runs.{made-keep}
 use Rattle.demands.proofs.Unavailable.{pick-nothing}
 
 handOut-length : (ts : List Txn) (w : LookUp) (e : Entry) (es : List Entry) → length (handOut ts w e es) ≤ length es
@@ -223,8 +223,9 @@ step-fits i m b =
     (λ t. both _ (after-fits (aborted f) (service (i .choice) (abort (f .txn) m)) (service-fits (i .choice) (abort (f .txn) m) (abort-fits (f .txn) m b))))
     (both _ (tick-fits (i .choice) m b)))
 
-pub bounds : Bounds
-bounds = record { bounded = all; records-fit = λ is i. step-fits i (made is) (all is) .1 }
-  where
-    all : (is : List Input) → Bounded (made is)
-    all = made-keep Bounded (λ i m b. step-fits i m b .0) (record { entries-fit = omega arith; txns-fit = omega arith; waits-fit = omega arith })
+-- capacities, and at most 25 records a step
+pub bounded : (is : List Input) → Bounded (made is)
+bounded = made-keep Bounded (λ i m b. step-fits i m b .0) (record { entries-fit = omega arith; txns-fit = omega arith; waits-fit = omega arith })
+
+pub records-fit : (is : List Input) (i : Input) → length (step (i .choice) (made is) (i .frame) (i .area) .records) ≤ 25
+records-fit is i = step-fits i (made is) (bounded is) .1

@@ -16,7 +16,8 @@ use Rattle.rules.specs.Tick.{endedTxns, abortAll, dropEnded, closeWaits, tick}
 use Rattle.rules.specs.Refusals.{noOperation, wrongLength, malformed, wrongParty, partyWaits, notLive, notOwn, noLease, tooLate, entriesFull, txnsFull, noNumber, waitsFull, refusal}
 use Rattle.rules.specs.Step.{newEntry, stored, write, commitFrame, abortFrame, carriedOut, refusedWith, accepted, step}
 use Rattle.rules.specs.Tray.{pairsOf, pairs, badTray, badPairs, trayRefusal, frameAt, runFrames, runPairs, runTray, hostNumber}
-use Rattle.demands.specs.History.{Input, Logged, runs}
+use Rattle.demands.proofs.Runs.{Input, runs}
+use Rattle.demands.specs.History.{Logged}
 
 -- four fields
 abbrev pub F : ℕ → ℕ → ℕ → ℕ → Fields

@@ -15,13 +15,13 @@ use Rattle.rules.specs.State.{Model}
 use Rattle.rules.specs.Frame.{Frame}
 use Rattle.rules.specs.Transactions.{create}
 use Rattle.rules.specs.Step.{newEntry, stored}
-use Rattle.demands.specs.Serial.{Kept, Operation, adds, finds}
-use Rattle.demands.specs.Demands.{keptOf}
+use Rattle.demands.specs.SerialRun.{Kept, Operation, adds, finds}
+use Rattle.demands.specs.SerialRun.{keptOf}
 use Rattle.rules.proofs.ListLaws.{all-false, any-append}
 use Rattle.rules.proofs.StepCases.{bool-cases, cond-cases}
 use Rattle.demands.proofs.SerialOps.{afterAll, Can, mentionsIt, mentions, can-keep, can-snoc, after-snoc}
 use Rattle.demands.proofs.Sound.{Sound}
-use Rattle.demands.specs.Claims.{takesNumber}
+use Rattle.demands.specs.Told.{takesNumber}
 use Rattle.demands.proofs.Agreement.{fits, Stored, OfTxn, Agree, takes-mentions}
 
 -- a new transaction has an empty list and holds nothing

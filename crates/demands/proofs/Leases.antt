@@ -20,11 +20,11 @@ use Rattle.rules.specs.Transactions.{create, released, commit, abort}
 use Rattle.rules.specs.Service.{serve, service}
 use Rattle.rules.specs.Tick.{endedTxns, abortAll, dropEnded, closeWaits, tick}
 use Rattle.rules.specs.Step.{Outcome, newEntry, stored, write, commitFrame, abortFrame, step, accepted, refusedWith}
-use Rattle.demands.specs.History.{Input, made}
+use Rattle.demands.proofs.Runs.{Input, made}
 use Rattle.rules.proofs.ListLaws.{mem-filter}
 use Rattle.rules.proofs.StepCases.{cond-cases, step-cases, done-cases, serve-ind}
 use Rattle.demands.proofs.Deadlines.{until-later}
-use Rattle.demands.proofs.Reach.{made-keep}
+use Rattle.demands.proofs.Runs.{made-keep}
 
 -- each end is among the ends of other entries
 abbrev Within : List Entry → List Entry → Type 0

@@ -18,13 +18,13 @@ use Rattle.rules.specs.LookUp.{removes, withHold, marked, isEntry, handOut}
 use Rattle.rules.specs.Transactions.{create, released, withoutTxn, commit, abort, privateTo, takenBy}
 use Rattle.rules.specs.Tick.{dropEnded}
 use Rattle.rules.specs.Step.{Outcome, newEntry, stored, step, accepted, refusedWith}
-use Rattle.demands.specs.History.{Input}
-use Rattle.demands.specs.Demands.{keptOf, committedIn, distinct, numbersOf}
-use Rattle.demands.specs.Claims.{Ascending, ByNumber, NumbersAscend}
+use Rattle.demands.proofs.Runs.{Input, made}
+use Rattle.demands.specs.SerialRun.{keptOf, committedIn, distinct, numbersOf}
+use Rattle.demands.specs.Bounds.{Ascending, ByNumber}
 use Rattle.rules.proofs.ListLaws.{mem-filter, all-false}
 use Rattle.rules.proofs.StepCases.{cond-cases, bool-cases, step-cases}
 use Rattle.rules.proofs.RefusalLaws.{clear}
-use Rattle.demands.proofs.Reach.{made-keep}
+use Rattle.demands.proofs.Runs.{made-keep}
 use Rattle.demands.proofs.Trace.{Silent, expires, leaves, Event, writes, finds, gives-nothing, waits, creates, commits, aborts, excepts, ticks, Trace, ends, silent, says, carried-out}
 use Rattle.demands.proofs.Sound.{Sound, sound-silent, sound-event, sound-step, sound-empty}
 
@@ -121,8 +121,7 @@ pub empty-ascends : ByNumber empty
 unfolding Ascending
 empty-ascends = record { entries = tt; txns = tt }
 
-pub numbers-ascend : NumbersAscend
-unfolding NumbersAscend
+pub numbers-ascend : (is : List Input) → ByNumber (made is)
 numbers-ascend is = made-keep (λ m. Sound m × ByNumber m) step-ascends (sound-empty, empty-ascends) is .1
 
 -- numbers that ascend stand once each

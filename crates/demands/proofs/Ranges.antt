@@ -25,16 +25,19 @@ use Rattle.rules.specs.Service.{service}
 use Rattle.rules.specs.Tick.{dropEnded}
 use Rattle.rules.specs.Refusals.{noNumber, refusal}
 use Rattle.rules.specs.Step.{Outcome, newEntry, stored, write, commitFrame, abortFrame, step, accepted, refusedWith}
-use Rattle.demands.specs.History.{Input, runs}
-use Rattle.demands.specs.Claims.{ByNumber, answersTo, InRange, AllInRange, AreBytes, Range-demand, Out, here, there, Event, writes, is-found, is-nothing, is-waiting, creates, commits, aborts, ticks, excepts, Moments, over, expires, says}
+use Rattle.demands.proofs.Runs.{Input, runs}
+use Rattle.demands.specs.Bounds.{ByNumber, InRange, AllInRange, AreBytes}
+use Rattle.demands.specs.History.{recordsOf}
+use Rattle.demands.proofs.Runs.{answersTo}
+use Rattle.demands.specs.Moments.{Out, here, there, Event, writes, is-found, is-nothing, is-waiting, creates, commits, aborts, ticks, excepts, Moments, expires, says, over}
 use Rattle.rules.proofs.ListLaws.{mem-filter}
 use Rattle.rules.proofs.StepCases.{cond-cases, done-cases, or-left, or-right, and-false-right}
 use Rattle.rules.proofs.RefusalLaws.{clear}
 use Rattle.demands.proofs.Trace.{picked}
 use Rattle.demands.proofs.Sound.{Sound, sound-empty}
 use Rattle.demands.proofs.Numbers.{step-ascends, empty-ascends}
-use Rattle.demands.proofs.ClaimsA.{refusal-fits}
-use Rattle.demands.proofs.ClaimsC.{service-moments, tick-moments}
+use Rattle.demands.proofs.Judging.{refusal-fits}
+use Rattle.demands.proofs.Momentary.{service-moments, tick-moments}
 
 record FieldsIn (x : Fields) : Type 0 where
   kind : x .kind < 4294967296
@@ -260,15 +263,14 @@ step-in i m bytes b r =
     (λ _. (cond-cases AllInRange (eqb (refusal m (i .frame) (i .area)) 1) (λ _. none-in) (λ _. cons-in (refused-in (i .frame) (refusal m (i .frame) (i .area)) bytes (refusal-fits m (i .frame) (i .area))) none-in), r))
 
 runs-in : (m : Model) (is : List Input) → ((i : Input) → List·Memᴰ i is → AreBytes (i .frame)) → Sound m × ByNumber m → Ranged m → AllInRange (answersTo m is)
-unfolding answersTo runs
+unfolding answersTo recordsOf runs
 runs-in m [] h s r = none-in
 runs-in m (i ∷ is) h s r =
     let k = step-in i m (h i (List·Memᴰ·head refl)) (s .1) r in
     let rest = runs-in _ is (λ j l. h j (List·Memᴰ·tail l)) (step-ascends i m s) (k .1) in
     λ a j. ⊎-elim (k .0 a) (rest a) (List·Memᴰ·append-cases (step (i .choice) m (i .frame) (i .area) .records) j)
 
-pub range-demand : Range-demand
-unfolding Range-demand
+pub range-demand : (is : List Input) → ((i : Input) → List·Memᴰ i is → AreBytes (i .frame)) → AllInRange (answersTo empty is)
 range-demand is h =
     runs-in empty is h (sound-empty, empty-ascends)
     (record {

@@ -20,12 +20,12 @@ use Rattle.rules.specs.LookUp.{marked}
 use Rattle.rules.specs.Transactions.{create, released, withoutTxn, commit, abort}
 use Rattle.rules.specs.Tick.{dropEnded}
 use Rattle.rules.specs.Step.{Outcome, newEntry, stored, accepted, refusedWith, step}
-use Rattle.demands.specs.History.{Input, made}
+use Rattle.demands.proofs.Runs.{Input, made}
 use Rattle.rules.proofs.ListLaws.{mem-filter, filter-mem, find-some, find-none}
 use Rattle.rules.proofs.StepCases.{bool-cases, cond-cases, step-cases}
 use Rattle.rules.proofs.RefusalLaws.{clear}
 use Rattle.rules.proofs.ReaderLaws.{added-other, dropped, dropped-other, bit-of-zero}
-use Rattle.demands.proofs.Reach.{made-keep}
+use Rattle.demands.proofs.Runs.{made-keep}
 use Rattle.demands.proofs.Trace.{Silent, expires, leaves, Event, writes, finds, gives-nothing, waits, creates, commits, aborts, excepts, ticks, Trace, ends, silent, says, carried-out}
 use Rattle.demands.proofs.Sound.{Sound, sound-silent, sound-event, sound-step, sound-empty}
 use Rattle.demands.proofs.HandOut.{after-cases}

@@ -21,14 +21,14 @@ use Rattle.rules.specs.Template.{bit}
 use Rattle.rules.specs.Holds.{liveTxn, dropReaderOf}
 use Rattle.rules.specs.Transactions.{released, withoutTxn, commit, abort, privateTo, takenBy}
 use Rattle.rules.specs.Tick.{dropEnded}
-use Rattle.demands.specs.Serial.{Kept, Operation, adds, finds, sameFields}
-use Rattle.demands.specs.Demands.{keptOf}
+use Rattle.demands.specs.SerialRun.{Kept, Operation, adds, finds, sameFields}
+use Rattle.demands.specs.SerialRun.{keptOf}
 use Rattle.rules.proofs.ListLaws.{mem-filter, filter-mem, find-some}
 use Rattle.rules.proofs.StepCases.{bool-cases, cond-cases}
 use Rattle.rules.proofs.ReaderLaws.{dropped-other, bit-of-zero}
 use Rattle.demands.proofs.SerialOps.{afterAll, Can, mentions, takesIt, survives, after-split, can-keep}
 use Rattle.demands.proofs.Sound.{TxnsOk, Sound}
-use Rattle.demands.specs.Claims.{takesNumber}
+use Rattle.demands.specs.Told.{takesNumber}
 use Rattle.demands.proofs.Agreement.{fits, Holds, Stored, OfTxn, Agree, takes-same, takes-mentions, takes-number, moved}
 
 -- what ended stays so

@@ -9,7 +9,7 @@ use lib.Dec.{eqb}
 use native.Mathlib.Omega.{arith}
 use Rattle.rules.specs.declared.Fields.{Fields}
 use Rattle.rules.specs.Lists.{filterb, anyb}
-use Rattle.demands.specs.Serial.{Kept, Operation, adds, finds, Run, isKept, taking, carryOut, carryOutAll}
+use Rattle.demands.specs.SerialRun.{Kept, Operation, adds, finds, Run, isKept, taking, carryOut, carryOutAll}
 use Rattle.rules.proofs.ListLaws.{filter-append, mem-filter, filter-mem, any-mem, mem-any, count, count-append, count-cons, count-filter, count-mem, filter-all}
 use Rattle.rules.proofs.StepCases.{and-left}
 

@@ -21,11 +21,11 @@ use Rattle.rules.specs.Transactions.{create, commit, abort}
 use Rattle.rules.specs.Service.{service}
 use Rattle.rules.specs.Tick.{endedTxns, abortAll, dropEnded, closeWaits, tick}
 use Rattle.rules.specs.Step.{Outcome, newEntry, stored, write, commitFrame, abortFrame, step, accepted, refusedWith}
-use Rattle.demands.specs.History.{Input, made}
+use Rattle.demands.proofs.Runs.{Input, made}
 use Rattle.rules.proofs.ListLaws.{mem-filter, none-mem, all-false}
 use Rattle.rules.proofs.StepCases.{bool-cases, cond-cases, step-cases, done-cases}
 use Rattle.rules.proofs.RefusalLaws.{clear}
-use Rattle.demands.proofs.Reach.{made-keep}
+use Rattle.demands.proofs.Runs.{made-keep}
 use Rattle.demands.proofs.Sound.{Sound, sound-step, sound-empty, available-visible, visible-owner}
 use Rattle.demands.proofs.Trace.{picked}
 use Rattle.demands.proofs.Owners.{OwnedIn, owned-step, not-inside}
@@ -34,7 +34,7 @@ use Rattle.demands.proofs.Unavailable.{handOut-unavailable, pick-nothin
 abbrev pub NoneFor : Model → Type 0
 NoneFor m = (w : LookUp) → List·Memᴰ w (m .waits) → someAvailable (m .txns) w (m .entries) ≡ false
 
-service-none : (choice : ℕ → ℕ) (m : Model) → NoneFor (service choice m .model)
+pub service-none : (choice : ℕ → ℕ) (m : Model) → NoneFor (service choice m .model)
 unfolding service
 service-none choice m w i = serve-settled choice (m .txns) (m .entries) (m .waits) w i
 

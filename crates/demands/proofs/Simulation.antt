@@ -21,7 +21,7 @@ use Rattle.rules.specs.LookUp.{handOut}
 use Rattle.rules.specs.Transactions.{create, commit, abort}
 use Rattle.rules.specs.Tick.{dropEnded}
 use Rattle.rules.specs.Step.{stored}
-use Rattle.demands.specs.Serial.{Kept, Operation, adds, finds, Pending, Run, isKept, withPending, failed, taking, carryOut, carryOutAll, perform, listOf, thrownAway, lastTakes, advanced, follow}
+use Rattle.demands.specs.SerialRun.{Kept, Operation, adds, finds, Pending, Run, isKept, withPending, failed, taking, carryOut, carryOutAll, perform, listOf, thrownAway, lastTakes, advanced, follow}
 use Rattle.rules.proofs.ListLaws.{filter-append, count, count-append, count-cons, count-filter, count-map}
 use Rattle.rules.proofs.StepCases.{bool-cases, cond-cases}
 use Rattle.demands.proofs.SerialOps.{after, afterAll, CanOne, carryOut-can, carryOutAll-can, filter-filter, filter-same, total, addsIt, total-carryOut, total-carryOutAll}

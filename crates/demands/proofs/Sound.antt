@@ -24,14 +24,14 @@ use Rattle.rules.specs.LookUp.{removes, withHold, marked, isEntry, handOut}
 use Rattle.rules.specs.Transactions.{orZero, freeSlot, create, released, withoutTxn, commit, abort, privateTo, takenBy}
 use Rattle.rules.specs.Tick.{dropEnded}
 use Rattle.rules.specs.Step.{Outcome, newEntry, stored, step, accepted, refusedWith}
-use Rattle.demands.specs.Demands.{distinct}
+use Rattle.demands.specs.SerialRun.{distinct}
 use Rattle.rules.proofs.ListLaws.{count-mem, length-split, mem-filter, filter-mem, any-mem, mem-any, none-mem, find-some, find-none}
 use Rattle.rules.proofs.StepCases.{step-cases, and-left, and-right, or-cases, cond-cases, option-cases}
 use Rattle.rules.proofs.ReaderLaws.{bit-of-zero}
 use Rattle.demands.proofs.Trace.{Live, Asks, Silent, expires, leaves, Event, writes, finds, gives-nothing, waits, creates, commits, aborts, excepts, ticks, Trace, ends, silent, says, carried-out}
 use Rattle.rules.proofs.RefusalLaws.{clear}
-use Rattle.demands.proofs.Reach.{made-keep}
-use Rattle.demands.specs.History.{Input, made}
+use Rattle.demands.proofs.Runs.{made-keep}
+use Rattle.demands.proofs.Runs.{Input, made}
 
 -- an entry is committed, or nobody holds it
 abbrev pub Own : Entry → Type 0

@@ -13,10 +13,10 @@ use Rattle.rules.specs.Lists.{filterb, anyb, joined}
 use Rattle.rules.specs.Time.{reached}
 use Rattle.rules.specs.State.{Model, empty}
 use Rattle.rules.specs.Template.{bit}
-use Rattle.demands.specs.History.{runs}
-use Rattle.demands.specs.Serial.{Kept, Operation, adds, finds, Pending, Run, isKept, taking, carryOut, carryOutAll, followLog, serialRun, start}
-use Rattle.demands.specs.Demands.{keptOf}
-use Rattle.demands.specs.Claims.{Told, takesNumber, readsNumber, whoTakes, whoReads, committedTold, privateTold, told, AsTold, Told-demand}
+use Rattle.demands.proofs.Runs.{runs, Input, made}
+use Rattle.demands.specs.SerialRun.{Kept, Operation, adds, finds, Pending, Run, isKept, taking, carryOut, carryOutAll, followLog, serialRun, start}
+use Rattle.demands.specs.SerialRun.{keptOf}
+use Rattle.demands.specs.Told.{Told, takesNumber, readsNumber, whoTakes, whoReads, committedTold, privateTold, told, AsTold, Explained}
 use Rattle.rules.proofs.ListLaws.{mem-filter, filter-mem, any-mem, mem-any, none-mem, all-false, count, count-cons, count-mem, count-map, count-filter}
 use Rattle.rules.proofs.StepCases.{bool-cases, cond-cases, and-right}
 use Rattle.rules.proofs.ReaderLaws.{bit-of-zero}
@@ -288,8 +288,8 @@ module _ (m : Model) (r : Run) (h : Whole m r) where
             (λ e. (e .0, e .1, subst⁻¹ (AsTold (m .txns) (e .0)) (k .3) (subst (λ (l : Kept). AsTold (m .txns) (e .0) (asPrivate (p .0 .txn) l)) (e .3) (as-private (e .0) (e .1) (p .0 .txn) (omega arith) (e .2 ∙ y .2)))))
             (h .linked .sim .agree .of-txn (y .0) (y .1) .own-stored (k .0) (added-after os [] (k .0) added (λ o l. none-mem (takesIt (k .0)) none l)))
 
-pub told-demand : Told-demand
-unfolding Told-demand serialRun
+pub told-demand : (is : List Input) → Explained (serialRun (runs empty is .log)) (made is)
+unfolding serialRun
 told-demand is =
     let m = runs empty is .model in
     let r = followLog (runs empty is .log) start in

@@ -26,15 +26,15 @@ use Rattle.rules.specs.Transactions.{create, released, withoutTxn, commit, abor
 use Rattle.rules.specs.Tick.{dropEnded}
 use Rattle.rules.specs.Step.{Outcome, newEntry, stored, carriedOut, step, accepted, refusedWith}
 use Rattle.rules.specs.Refusals.{partyWaits}
-use Rattle.demands.specs.History.{Input, runs}
-use Rattle.demands.specs.Serial.{Operation, finds, Pending, Run, perform, listOf, thrownAway, lastTakes, advanced, follow, followAll, wasRefused, noteLookUp, followLog, start}
-use Rattle.demands.specs.Claims.{readsNumber}
+use Rattle.demands.proofs.Runs.{Input, runs}
+use Rattle.demands.specs.SerialRun.{Operation, finds, Pending, Run, perform, listOf, thrownAway, lastTakes, advanced, follow, followAll, wasRefused, noteLookUp, followLog, start}
+use Rattle.demands.specs.Told.{readsNumber}
 use Rattle.rules.proofs.ListLaws.{mem-filter, filter-mem}
 use Rattle.rules.proofs.StepCases.{bool-cases, cond-cases, step-cases}
 use Rattle.rules.proofs.RefusalLaws.{Clear, clear}
 use Rattle.demands.proofs.LookUpLaws.{carriedOut-lookUp}
 use Rattle.demands.proofs.Owners.{OwnedIn, owned-step, not-inside}
-use Rattle.demands.proofs.SerialRun.{Linked, knows-silent, knows-event, note-linked, step-linked, empty-linked, follow-refused, follow-none}
+use Rattle.demands.proofs.Serializing.{Linked, knows-silent, knows-event, note-linked, step-linked, empty-linked, follow-refused, follow-none}
 use Rattle.rules.proofs.ReaderLaws.{added-other, dropped, bit-of-zero}
 use Rattle.demands.proofs.Trace.{Live, Asks, Silent, expires, leaves, Event, writes, finds as finds-event, gives-nothing, waits, creates, commits, aborts, excepts, ticks, Trace, ends, silent, says, carried-out, picked, none-or-live}
 use Rattle.demands.proofs.Sound.{Sound, sound-silent, sound-event, available-visible, visible-free, slot-free}

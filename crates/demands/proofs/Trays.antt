@@ -11,11 +11,13 @@ use lib.ListN.{length, take, drop, length-append, length-map, length-take}
 use Rattle.rules.specs.State.{Model, empty}
 use Rattle.rules.specs.Step.{step}
 use Rattle.rules.specs.Tray.{pairsOf, frameCount, pairsEnd, pairs, badTray, badPairs, trayRefusal, frameAt, TrayOutcome, stopped, runFrames, runPairs, runTray, hostNumber}
-use Rattle.demands.specs.History.{Input, runs}
-use Rattle.demands.specs.Demands.{Bounded}
-use Rattle.demands.specs.Claims.{answersTo, Trays-demand, ReadBack, Host-demand}
+use Rattle.demands.proofs.Runs.{Input, runs}
+use Rattle.demands.specs.Bounds.{Bounded}
+use Rattle.demands.specs.History.{recordsOf}
+use Rattle.demands.proofs.Runs.{answersTo}
+use Rattle.demands.specs.Trays.{ReadBack, NumbersAreReadBack}
 use Rattle.rules.proofs.StepCases.{cond-cases, or-left, or-right}
-use Rattle.demands.proofs.Capacity.{step-fits, bounds}
+use Rattle.demands.proofs.Capacity.{step-fits, bounded}
 
 -- a run from any space
 record Follows (m : Model) (area : ℕ) (fs : List (List ℕ)) (o : TrayOutcome) : Type 0 where
@@ -28,7 +30,7 @@ record Follows (m : Model) (area : ℕ) (fs : List (List ℕ)) (o : TrayOutcome)
   all-done : (o .number ≡ 1) ⊎ ((o .number ≡ 0) × (length inputs ≡ length fs))
 
 follows : (choices : ℕ → ℕ → ℕ) (m : Model) (area : ℕ) (fs : List (List ℕ)) → Bounded m → Follows m area fs (runFrames choices m area fs)
-unfolding runFrames answersTo runs
+unfolding runFrames answersTo recordsOf runs
 follows choices m area [] b =
     record { inputs = []; handed = refl; records = refl; count = refl; fit = omega arith; few = omega arith; all-done = inr (refl, refl) }
 follows choices m area (f ∷ fs) b =
@@ -52,13 +54,7 @@ follows choices m area (f ∷ fs) b =
 
 from-empty : (choices : ℕ → ℕ → ℕ) (area : ℕ) (fs : List (List ℕ)) → Follows empty area fs (runFrames choices empty area fs)
 unfolding runs
-from-empty choices area fs = follows choices empty area fs (bounds .bounded [])
-
-pub trays-demand : Trays-demand
-unfolding Trays-demand
-trays-demand choices fs area =
-    let r = from-empty choices area fs in
-    record { inputs = r .inputs; handed = r .handed; records = r .records; count = r .count; fit = r .fit; few = λ l. omega (arith, r .few); all-done = r .all-done }
+from-empty choices area fs = follows choices empty area fs (bounded [])
 
 -- three numbers in one
 read-back : (o : TrayOutcome) → o .frames < 65536 → length (o .records) < 65536 → o .number < 4294967296 → ReadBack o
@@ -83,9 +79,9 @@ tray-cases Q tray a b c =
     (λ e. cond-cases Q (badPairs (pairsEnd tray) (length tray) (pairs tray)) (λ _. b)
     (λ _. c (ltb-false 2000 (frameCount tray) (or-right (ltb (length tray) 4 || ltb 65536 (length tray)) _ (or-left _ (ltb (length tray) (pairsEnd tray)) e)))))
 
-pub host-demand : Host-demand
-unfolding Host-demand runTray runPairs pairs
-host-demand choices tray area =
+pub numbers-are-read-back : NumbersAreReadBack
+unfolding NumbersAreReadBack runTray runPairs pairs
+numbers-are-read-back choices tray area =
     tray-cases (λ n. ReadBack (cond (leb n 0) run (stopped n))) tray (read-back (stopped 15) (omega arith) (omega arith) (omega arith)) (read-back (stopped 16) (omega arith) (omega arith) (omega arith))
     (λ l. let r = from-empty choices area fs in
     let k : length fs ≡ frameCount tray = length-map (pairs tray) (frameAt tray) ∙ pairs-length (frameCount tray) (drop 4 tray) in

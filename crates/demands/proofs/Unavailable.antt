@@ -21,7 +21,7 @@ use Rattle.rules.proofs.ReaderLaws.{added, added-other, dropped, dropped-other,
 use Rattle.demands.proofs.Sound.{available-unread, available-visible, visible-free, visible-owner}
 use Rattle.demands.proofs.Trace.{picked}
 use Rattle.demands.proofs.Finding.{mk-kept, mk-owner, mk-plain, mk-read-taker, mk-take-taker, mk-read-readers, kept-gone}
-use Rattle.demands.specs.Serial.{Kept}
+use Rattle.demands.specs.SerialRun.{Kept}
 
 -- with one reader more an entry is read by another as before
 still-read : (p q n : ℕ) → dropReader p (addReader q n) ≡ 0 → dropReader p n ≡ 0

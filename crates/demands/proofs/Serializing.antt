@@ -23,10 +23,9 @@ use Rattle.rules.specs.Transactions.{create, commit, abort, privateTo}
 use Rattle.rules.specs.Tick.{dropEnded}
 use Rattle.rules.specs.Refusals.{partyWaits}
 use Rattle.rules.specs.Step.{Outcome, stored, carriedOut, step, accepted, refusedWith}
-use Rattle.demands.specs.History.{Input, runs}
-use Rattle.demands.specs.Serial.{Kept, Operation, Run, start, perform, listOf, thrownAway, lastTakes, advanced, follow, followAll, wasRefused, noteLookUp, followLog, serialRun, left}
-use Rattle.demands.specs.Demands.{keptOf, committedIn, distinct, numbersOf, Demand3}
-use Rattle.demands.specs.Claims.{NumbersAscend}
+use Rattle.demands.proofs.Runs.{Input, runs, made}
+use Rattle.demands.specs.SerialRun.{Kept, Operation, Run, start, perform, listOf, thrownAway, lastTakes, advanced, follow, followAll, wasRefused, noteLookUp, followLog, serialRun, left}
+use Rattle.demands.specs.SerialRun.{keptOf, committedIn, distinct, numbersOf, Serial}
 use Rattle.rules.proofs.ListLaws.{mem-filter, filter-mem, any-mem, none-mem, count, count-cons, count-mem, count-map, count-filter}
 use Rattle.demands.proofs.SerialOps.{isNumber, filter-same}
 use Rattle.demands.proofs.Numbers.{eqb-sym, numbers-ascend, committed-distinct}
@@ -200,9 +199,9 @@ distinct-of (n ∷ ns) h = rw (alone (bool-cases (anyb (eqb n) ns))) (distinct-o
         let both : count (eqb n) (n ∷ ns) ≡ 1 + count (eqb n) ns = count-cons (eqb n) n ns ∙ ap (λ b. cond b 1 0 + count (eqb n) ns) (eq-eqb n n refl) in
         absurd (omega (arith, h n))
 
-pub demand3 : Demand3
-unfolding Demand3 NumbersAscend serialRun left committedIn
-demand3 is =
+pub serializes : (is : List Input) → Serial (serialRun (runs empty is .log)) (made is)
+unfolding serialRun left committedIn
+serializes is =
     record {
       succeeds = h .sim .ok;
       taken-once = distinct-of (r .taken) (λ n. omega (arith, h .sim .once n));

@@ -1,0 +1,61 @@
+-- Bounds that hold of every space that frames make: capacities, numbers in order, whose the read holders are, and what fits 32 bits.
+use Prim.Native.Nat.{ℕ, _≤_, _<_}
+use mathlib.Core.Bool.{true, false}
+use mathlib.Core.Path.{_≡_}
+use mathlib.Core.Logic.{_↔_}
+use mathlib.Core.List.{List, [], _∷_, map, List·Memᴰ}
+use lib.ListN.{length}
+use Rattle.rules.specs.declared.Entry.{Entry}
+use Rattle.rules.specs.declared.LookUp.{LookUp}
+use Rattle.rules.specs.declared.Record.{Record}
+use Rattle.rules.specs.declared.Txn.{Txn}
+use Rattle.rules.specs.declared.Until.{Until}
+use Rattle.rules.specs.declared.Until.the-variants.{Tick}
+use Rattle.rules.specs.Numbers.{maxEntries, maxTxns, maxWaits, lastClock}
+use Rattle.rules.specs.Template.{bit}
+use Rattle.rules.specs.State.{Model}
+use Rattle.rules.specs.Holds.{readByOther, available, conflicts}
+
+-- "At most 64 entries are stored", "At most 8 transactions live and 16 look-ups wait."
+pub record Bounded (m : Model) : Type 0 where
+  pub entries-fit : length (m .entries) ≤ maxEntries
+  pub txns-fit : length (m .txns) ≤ maxTxns
+  pub waits-fit : length (m .waits) ≤ maxWaits
+
+-- each number is below all that stand after it
+unfoldable pub Ascending : List ℕ → Type 0
+Ascending [] = Unit {0}
+Ascending (n ∷ ns) = ((k : ℕ) → List·Memᴰ k ns → n < k) × Ascending ns
+
+-- the entries and the live transactions stand by number, none twice
+pub record ByNumber (m : Model) : Type 0 where
+  pub entries : Ascending (map (λ (e : Entry). e .id .0) (m .entries))
+  pub txns : Ascending (map (λ (t : Txn). t .id .0) (m .txns))
+
+-- "no live transaction other than its own holds a read on it": what the rules tell by bits
+abbrev pub ReadByLive : Model → Type 0
+ReadByLive m = (e : Entry) (t : ℕ) → List·Memᴰ e (m .entries)
+    → (readByOther (m .txns) t e ≡ true) ↔ ((x : Txn) × List·Memᴰ x (m .txns) × (x .id .0 ≡ t → ⊥) × (bit (x .slot) (e .readers) ≡ true))
+
+-- "T's own take hold makes an entry neither available nor conflicting."
+abbrev pub OwnTakeHold : Model → Type 0
+OwnTakeHold m = (w : LookUp) (e : Entry) → List·Memᴰ e (m .entries) → 0 < w .txn .0 → e .«taken_by» .0 ≡ w .txn .0
+    → (available (m .txns) w e ≡ false) × (conflicts (m .txns) w e ≡ false)
+
+-- a record's numbers fit their bytes
+pub record InRange (r : Record) : Type 0 where
+  pub kind : r .kind < 256
+  pub party : r .party < 256
+  pub refusal : r .refusal < 256
+  pub txn : r .txn .0 < 4294967296
+  pub entry : r .entry .0 < 4294967296
+  pub field-kind : r .fields .kind < 4294967296
+  pub field-side : r .fields .side < 4294967296
+  pub field-image : r .fields .image < 4294967296
+  pub field-place : r .fields .place < 4294967296
+
+abbrev pub AllInRange : List Record → Type 0
+AllInRange rs = (r : Record) → List·Memᴰ r rs → InRange r
+
+abbrev pub AreBytes : List ℕ → Type 0
+AreBytes bs = (b : ℕ) → List·Memᴰ b bs → b < 256
