@@ -30,9 +30,16 @@ first-row-listed (r ∷ rs) =
     later (List·Memᴰ·head e) = List·Memᴰ·head e
     later (List·Memᴰ·tail m) = List·Memᴰ·tail (List·Memᴰ·tail m)
 
+-- the table without its first row
+abbrev rowsAfter : Model → List ℕ → List (Bool × ℕ)
+rowsAfter m bs =
+    let f = decode bs in
+    (noOperation bs f, 2) ∷ (wrongLength bs f, 3) ∷ (malformed f, 4) ∷ (wrongParty f, 5) ∷ (partyWaits m f, 6) ∷ (notLive m f, 7)
+    ∷ (notOwn m f, 8) ∷ (noLease f, 9) ∷ (tooLate m f, 10) ∷ (entriesFull m f, 11) ∷ (txnsFull m f, 12) ∷ (noNumber m f, 13) ∷ (waitsFull m f, 14) ∷ []
+
 pub refusal-fits : (m : Model) (bs : List ℕ) (area : ℕ) → refusal m bs area ≤ 14
 unfolding refusal
-refusal-fits m bs area = ltb-false 14 (refusal m bs area) (none-mem (ltb 14) refl (first-row-listed _))
+refusal-fits m bs area = ltb-false 14 (refusal m bs area) (none-mem (ltb 14) refl (first-row-listed ((ltb area 700, 1) ∷ rowsAfter m bs)))
 
 -- the number is the refusal's
 pub number-is : (choice : ℕ → ℕ) (m : Model) (bs : List ℕ) (area : ℕ) → step choice m bs area .number ≡ refusal m bs area
@@ -46,13 +53,6 @@ step-refused : (choice : ℕ → ℕ) (m : Model) (bs : List ℕ) (area : ℕ) �
 unfolding step accepted
 step-refused choice m bs area h =
     cond-cases (λ (o : Outcome). o ≡ refusedWith m bs (refusal m bs area)) (eqb (refusal m bs area) 0) (λ e. absurd (h (eqb-true _ 0 e))) (λ e. refl)
-
--- the table without its first row
-abbrev rowsAfter : Model → List ℕ → List (Bool × ℕ)
-rowsAfter m bs =
-    let f = decode bs in
-    (noOperation bs f, 2) ∷ (wrongLength bs f, 3) ∷ (malformed f, 4) ∷ (wrongParty f, 5) ∷ (partyWaits m f, 6) ∷ (notLive m f, 7)
-    ∷ (notOwn m f, 8) ∷ (noLease f, 9) ∷ (tooLate m f, 10) ∷ (entriesFull m f, 11) ∷ (txnsFull m f, 12) ∷ (noNumber m f, 13) ∷ (waitsFull m f, 14) ∷ []
 
 -- 1 exactly when the area is under 700 bytes: no other row has that number
 pub one-is : (m : Model) (bs : List ℕ) (area : ℕ) → (refusal m bs area ≡ 1) ↔ (area < 700)

@@ -14,6 +14,7 @@ use Rattle.rules.specs.Numbers.{forever}
 use Rattle.rules.specs.Lists.{filterb, anyb}
 use Rattle.rules.specs.Frame.{decode, isLookUp}
 use Rattle.rules.specs.Records.{areaAfter, answerBytes, refused}
+use Rattle.rules.specs.LookUp.{lookUpOf}
 use Rattle.rules.specs.Refusals.{refusal}
 use Rattle.rules.specs.Step.{step}
 use Rattle.rules.specs.Allowed.{Answered}
@@ -129,7 +130,7 @@ module _ (S : Machine) (f : Follows S) where
       record {
         now = λ log t u h a r p n l.
             let q = f .steps t h u a p in
-            of-step (λ rs m. AnsweredNow (S .view t) _ _ rs m) q (answered-now (q .choice) (S .view t) (h .frame) (length (h .area)) n l);
+            of-step (λ rs m. AnsweredNow (S .view t) (lookUpOf (S .view t) (decode (h .frame))) (decode (h .frame) .leaseOrTimeout) rs m) q (answered-now (q .choice) (S .view t) (h .frame) (length (h .area)) n l);
         moments = λ log t u h a r p n.
             let q = f .steps t h u a p in
             of-step (λ rs m. Moments (decode (h .frame)) (asked (S .view t) (decode (h .frame))) rs m) q
