@@ -39,7 +39,7 @@ pub mod Trays
 pub mod RecordBytes
 pub mod Ranges
 -- the course's examples
-pub mod Frames
-pub mod Starred
-pub mod Examples
+pub mod Computed
+pub mod Course
 pub mod Theorems
+pub mod RuledOut

@@ -10,3 +10,6 @@ pub mod Told
 pub mod Demands
 pub mod Bounds
 pub mod Trays
+pub mod Frames
+pub mod Course
+pub mod Wrong

@@ -1,14 +1,23 @@
--- The starred examples of the course, under one statement: for every free choice.
-use Prim.Native.Nat.{ℕ}
-use mathlib.Core.Path.{_≡_, refl}
-use mathlib.Core.List.{[], _∷_}
-use Rattle.rules.specs.declared.Fields.{Fields}
-use Rattle.rules.specs.Numbers.{forever}
-use Rattle.demands.proofs.Frames.{F, write-by, read-by, take-by, readIfExists-by, create-by, commit-by, abort-by, a-tick, Written, Found, Nothing, Waiting, Created, Committed, Aborted, Exception, Ticked, answers}
+-- "Examples from the course": the starred ones, under one statement, for every free choice.
+use Prim.Native.Nat.{ℕ, suc}
+use mathlib.Core.Path.{_≡_}
+use mathlib.Core.List.{List, [], _∷_}
+use Rattle.rules.specs.declared.Record.{Record}
+use Rattle.rules.specs.Numbers.{forever, stepArea}
+use Rattle.rules.specs.State.{Model, empty}
+use Rattle.rules.specs.Step.{step}
+use Rattle.demands.specs.Frames.{E, write-by, read-by, take-by, readIfExists-by, create-by, commit-by, abort-by, a-tick, Written, Found, Nothing, Waiting, Created, Committed, Aborted, Exception, Ticked}
 
--- the entry E of the examples
-abbrev E : Fields
-E = F 7 1 40 9
+-- the records that each frame gets, with areas of 700 bytes and a choice for each
+unfoldable pub answersFrom : (ℕ → ℕ → ℕ) → Model → List (List ℕ) → List (List Record)
+answersFrom choices m [] = []
+answersFrom choices m (f ∷ fs) =
+    let o = step (choices 0) m f stepArea in
+    let rest = answersFrom (λ i. choices (suc i)) (o .model) fs in
+    o .records ∷ rest
+
+unfoldable pub answers : (ℕ → ℕ → ℕ) → List (List ℕ) → List (List Record)
+answers choices fs = answersFrom choices empty fs
 
 pub record Starred (choices : ℕ → ℕ → ℕ) : Type 0 where
   -- lease 5 at clock 0: read at clock 4 found, after the fifth tick nothing
@@ -33,8 +42,3 @@ pub record Starred (choices : ℕ → ℕ → ℕ) : Type 0 where
       ≡ (Written 1 0 1 ∷ []) ∷ (Ticked ∷ []) ∷ (Ticked ∷ []) ∷ (Ticked ∷ []) ∷ (Created 1 1 ∷ []) ∷ (Found 1 1 1 E ∷ []) ∷ (Ticked ∷ []) ∷ (Aborted 1 1 ∷ []) ∷ (Nothing 2 0 ∷ []) ∷ []
   -- a take waits; a write gives written, found
   pub c8 : answers choices (take-by 2 0 5 7 ∷ write-by 1 0 9 E ∷ []) ≡ (Waiting 2 0 ∷ []) ∷ (Written 1 0 1 ∷ Found 2 0 1 E ∷ []) ∷ []
-
-pub starred : (choices : ℕ → ℕ → ℕ) → Starred choices
-unfolding answers
-starred choices =
-    record { c1 = refl; c2 = refl; c3 = refl; c4 = refl; c5 = refl; c6 = refl; c7 = refl; c8 = refl }
