@@ -119,7 +119,14 @@ module _ (f : Frame) (b : Book) where
   book-event : {m n : Model} {a : Record} → Event f m a n → Each (b .waiting) → Calm f (b .waiting) → Booked b m → Booked (enters f a b) n
   unfolding enters told written stored found nothing waiting created create committed commit aborted abort exception ticked withoutTxn
   book-event (writes m t) e c h =
-      record { right = ap (λ x. x && true) (h .right); clock = h .clock; next-entry = refl; next-txn = h .next-txn; live = h .live; waiting = h .waiting }
+      record {
+        right = ap₂ (λ p q. p && q) (h .right) (eq-eqb (m .nextEntry) (b .nextEntry) (sym (h .next-entry)));
+        clock = h .clock;
+        next-entry = ap (λ n. n + 1) (h .next-entry);
+        next-txn = h .next-txn;
+        live = h .live;
+        waiting = h .waiting;
+      }
   book-event (is-found m w x ws o i t) e c h =
       let r = named (found w x) w (itself w) e (subst⁻¹ (λ (l : List LookUp). Out w l ws) (h .waiting) o) in
       record { right = ap₂ (λ p q. p && q) (h .right) (eq-eqb _ 1 (r .1)); clock = h .clock; next-entry = h .next-entry; next-txn = h .next-txn; live = h .live; waiting = r .0 }
@@ -130,10 +137,10 @@ module _ (f : Frame) (b : Book) where
       record { right = ap (λ x. x && true) (h .right); clock = h .clock; next-entry = h .next-entry; next-txn = h .next-txn; live = h .live; waiting = h .waiting }
   book-event (creates m t) e c h =
       record {
-        right = ap (λ x. x && true) (h .right);
+        right = ap₂ (λ p q. p && q) (h .right) (eq-eqb (m .nextTxn) (b .nextTxn) (sym (h .next-txn)));
         clock = h .clock;
         next-entry = h .next-entry;
-        next-txn = refl;
+        next-txn = ap (λ n. n + 1) (h .next-txn);
         live = ap₂ (λ (l : List LiveTold) (k : ℕ). l ++ (record { number = m .nextTxn; party = f .party; end = until k (f .leaseOrTimeout) } ∷ [])) (h .live) (h .clock) ∙ sym (map-append told (m .txns) _);
         waiting = h .waiting;
       }

@@ -11,6 +11,7 @@ pub mod Trace
 pub mod Sound
 pub mod Numbers
 pub mod ReadersLive
+pub mod HoldSentences
 pub mod Owners
 pub mod Unavailable
 pub mod Settling

@@ -353,3 +353,21 @@ sound-step i m s =
 
 pub sound : (is : List Input) → Sound (made is)
 sound = made-keep Sound sound-step sound-empty
+
+-- What sound spaces keep by each event they keep by each step, and every space that frames make has it.
+module _ (P : Model → Type 0) (silent-keeps : (m n : Model) → Silent m n → P m → P n) (event-keeps : (f : Frame) (m n : Model) (a : Record) → Event f m a n → Sound m → P m → P n) where
+  trace-keeps : {f : Frame} {m n : Model} {rs : List Record} → Trace f m rs n → Sound m → P m → P n
+  trace-keeps (ends m) s h = h
+  trace-keeps (silent {m} {n} e t) s h = trace-keeps t (sound-silent e s) (silent-keeps m n e h)
+  trace-keeps {f} (says {m} {n} {o} {a} e t) s h = trace-keeps t (sound-event e s) (event-keeps f m n a e s h)
+
+  pub step-keeps : (i : Input) (m : Model) → Sound m × P m → Sound (step (i .choice) m (i .frame) (i .area) .model) × P (step (i .choice) m (i .frame) (i .area) .model)
+  unfolding refusedWith accepted
+  step-keeps i m k = (
+    sound-step i m (k .0),
+    step-cases (λ (o : Outcome). P (o .model)) (i .choice) m (i .frame) (i .area) (λ n. k .1)
+        (λ e. trace-keeps (carried-out (i .choice) m (i .frame) (i .area) (clear m (i .frame) (i .area) e) (k .0 .txns-ok .above)) (k .0) (k .1)),
+  )
+
+  pub made-has : P empty → (is : List Input) → P (made is)
+  made-has h is = made-keep (λ m. Sound m × P m) step-keeps (sound-empty, h) is .1

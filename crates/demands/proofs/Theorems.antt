@@ -3,7 +3,7 @@ use Prim.Native.Nat.{ℕ, _*_, _≤_}
 use mathlib.Core.Bool.{true, false}
 use mathlib.Core.Logic.{_⊎_, inl, inr, ⊎-elim}
 use mathlib.Core.Path.{_≡_, refl, sym, ap, ap₂, _∙_, subst, subst⁻¹}
-use mathlib.Core.List.{List, [], _∷_, _++_, List·Memᴰ}
+use mathlib.Core.List.{List, [], _∷_, _++_, List·Memᴰ, List·Memᴰ·head, List·Memᴰ·tail, List·Memᴰ·not-nil, List·Memᴰ·cases-cons}
 use native.Mathlib.Omega.{arith}
 use borrow.Author.Tests.{ltb-true, ltb-false}
 use lib.Dec.{ltb}
@@ -28,7 +28,7 @@ use Rattle.demands.specs.Book.{bookOf, Booked}
 use Rattle.demands.specs.Told.{Explained}
 use Rattle.demands.specs.SerialRun.{serialRun, Serial}
 use Rattle.demands.specs.Demands.{Demand1, Demand2, Demand3}
-use Rattle.demands.specs.Bounds.{Bounded, ByNumber}
+use Rattle.demands.specs.Bounds.{Bounded, ByNumber, ReadByLive, OwnTakeHold, AreBytes, AllInRange, Bounds}
 use Rattle.demands.proofs.Runs.{Input, runs, made, answersTo}
 use Rattle.demands.proofs.Carried.{ByRule, Follows, space-follows, rules-follow, inputOf, RunTo, run-to, run-of}
 use Rattle.demands.proofs.Capacity.{bounded, step-fits}
@@ -40,6 +40,8 @@ use Rattle.demands.proofs.Settling.{Stable, stable}
 use Rattle.demands.proofs.Deadlines.{OpenIn, deadlines-above}
 use Rattle.demands.proofs.InTime.{one-each, in-time, answersTo-cons}
 use Rattle.demands.proofs.NothingLeft.{nothing-left}
+use Rattle.demands.proofs.HoldSentences.{readers-are-live, own-take-hold}
+use Rattle.demands.proofs.Ranges.{range-demand}
 use Rattle.demands.proofs.Booking.{book-demand}
 use Rattle.demands.proofs.Telling.{told-demand}
 use Rattle.demands.proofs.Serializing.{serializes}
@@ -55,6 +57,15 @@ records-room choice m bs area b = go (bool-cases (ltb area 700))
     go (inr t) =
         let l = ltb-false area 700 t in
         omega (arith, step-fits (record { frame = bs; area = area; choice = choice }) m b .1)
+
+-- what holds of the frames of a log holds of the frames handed in
+frames-in : (m : Model) (is : List Input) (P : List ℕ → Type 0) → ((l : Logged) → List·Memᴰ l (runs m is .log) → P (l .frame))
+    → (i : Input) → List·Memᴰ i is → P (i .frame)
+unfolding runs
+frames-in m [] P h i j = absurd (List·Memᴰ·not-nil j)
+frames-in m (k ∷ is) P h i j =
+    ⊎-elim (λ e. subst⁻¹ (λ (x : Input). P (x .frame)) e (h _ (List·Memᴰ·head refl)))
+    (λ l. frames-in (step (k .choice) m (k .frame) (k .area) .model) is P (λ x y. h x (List·Memᴰ·tail y)) i l) (List·Memᴰ·cases-cons j)
 
 -- Of any space whose steps the rules give.
 module _ (S : Machine) (f : Follows S) where
@@ -158,6 +169,20 @@ module _ (S : Machine) (f : Follows S) where
   unfolding Demand3
   follows-3 log t r = of-log (λ l m. Serial (serialRun l) m) serializes r
 
+  pub follows-bounds : Bounds S
+  unfolding answersTo
+  follows-bounds =
+      record {
+        capacities = λ log t r. of-made Bounded bounded r;
+        by-number = λ log t r. of-made ByNumber numbers-ascend r;
+        read-by-live = λ log t r. of-made ReadByLive readers-are-live r;
+        own-take-hold = λ log t r. of-made OwnTakeHold own-take-hold r;
+        in-range = λ log t r h.
+            let q = run-of S f r in
+            subst⁻¹ (λ l. AllInRange (recordsOf l)) (q .log-is)
+            (range-demand (q .inputs) (λ i j. frames-in empty (q .inputs) AreBytes (subst (λ (l : List Logged). (x : Logged) → List·Memᴰ x l → AreBytes (x .frame)) (q .log-is) h) i j));
+      }
+
 -- The space that is built.
 pub demand1 : Demand1 theSpace
 demand1 = follows-1 theSpace space-follows
@@ -167,6 +192,9 @@ demand2 = follows-2 theSpace space-follows
 
 pub demand3 : Demand3 theSpace
 demand3 = follows-3 theSpace space-follows
+
+pub bounds : Bounds theSpace
+bounds = follows-bounds theSpace space-follows
 
 -- The rules.
 pub rules-1 : Demand1 theRules

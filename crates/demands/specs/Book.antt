@@ -31,7 +31,7 @@ pub record Book : Type 0 where
   pub live : List LiveTold
   -- the look-ups that have had no closing answer, by arrival
   pub waiting : List LookUp
-  -- whether each found and nothing so far closed exactly one of them
+  -- whether each record so far was right by the book
   pub right : Bool
 
 abbrev pub newBook : Book
@@ -41,17 +41,41 @@ newBook = record { clock = 0; nextEntry = 1; nextTxn = 1; live = []; waiting = [
 abbrev pub names : Record → LookUp → Bool
 names a w = eqb (w .party) (a .party) && eqb (w .txn .0) (a .txn .0)
 
+abbrev pub closing : Record → Bool
+closing a = eqb (a .kind) kindFound || eqb (a .kind) kindNothing
+
+abbrev pub ending : Record → Bool
+ending a = eqb (a .kind) kindCommitted || eqb (a .kind) kindAborted || eqb (a .kind) kindException
+
+-- whether a record is right by the book: a found or nothing names exactly one open look-up; numbers are counted, each from 1
+abbrev pub rightly : Record → Book → Bool
+rightly a b =
+    cond (closing a) (eqb (length (filterb (names a) (b .waiting))) 1)
+    (cond (eqb (a .kind) kindWritten) (eqb (a .entry .0) (b .nextEntry))
+    (cond (eqb (a .kind) kindCreated) (eqb (a .txn .0) (b .nextTxn)) true))
+
+-- the transaction that a record makes live, or those that it leaves live
+abbrev pub liveAfter : Frame → Record → Book → List LiveTold
+liveAfter f a b =
+    cond (eqb (a .kind) kindCreated)
+    (b .live ++ (record { number = a .txn .0; party = f .party; end = until (b .clock) (f .leaseOrTimeout) } ∷ []))
+    (cond (ending a) (filterb (λ (t : LiveTold). not (eqb (t .number) (a .txn .0))) (b .live)) (b .live))
+
+-- a found or nothing closes the look-up that it names, an exception one that waits inside its transaction
+abbrev pub waitingAfter : Record → Book → List LookUp
+waitingAfter a b =
+    cond (closing a) (filterb (λ w. not (names a w)) (b .waiting))
+    (cond (eqb (a .kind) kindException) (filterb (λ (w : LookUp). not (eqb (w .txn .0) (a .txn .0))) (b .waiting)) (b .waiting))
+
 unfoldable pub enters : Frame → Record → Book → Book
 enters f a b =
     record {
       clock = cond (eqb (a .kind) kindTicked) (b .clock + 1) (b .clock);
-      nextEntry = cond (eqb (a .kind) kindWritten) (a .entry .0 + 1) (b .nextEntry);
-      nextTxn = cond (eqb (a .kind) kindCreated) (a .txn .0 + 1) (b .nextTxn);
-      live = cond (eqb (a .kind) kindCreated) (b .live ++ (record { number = a .txn .0; party = f .party; end = until (b .clock) (f .leaseOrTimeout) } ∷ []))
-          (cond (eqb (a .kind) kindCommitted || eqb (a .kind) kindAborted || eqb (a .kind) kindException) (filterb (λ (t : LiveTold). not (eqb (t .number) (a .txn .0))) (b .live)) (b .live));
-      waiting = cond (eqb (a .kind) kindFound || eqb (a .kind) kindNothing) (filterb (λ w. not (names a w)) (b .waiting))
-          (cond (eqb (a .kind) kindException) (filterb (λ (w : LookUp). not (eqb (w .txn .0) (a .txn .0))) (b .waiting)) (b .waiting));
-      right = b .right && (not (eqb (a .kind) kindFound || eqb (a .kind) kindNothing) || eqb (length (filterb (names a) (b .waiting))) 1);
+      nextEntry = cond (eqb (a .kind) kindWritten) (b .nextEntry + 1) (b .nextEntry);
+      nextTxn = cond (eqb (a .kind) kindCreated) (b .nextTxn + 1) (b .nextTxn);
+      live = liveAfter f a b;
+      waiting = waitingAfter a b;
+      right = b .right && rightly a b;
     }
 
 unfoldable pub entersAll : Frame → List Record → Book → Book
@@ -81,7 +105,8 @@ keepBook (l ∷ ls) b = let f = decode (l .frame) in keepBook ls (entersAll f (l
 unfoldable pub bookOf : List Logged → Book
 bookOf log = keepBook log newBook
 
--- each found and nothing closes exactly one look-up; and the space's clock, numbers, live transactions and waiting look-ups are what frames and answers tell
+-- every record is right by the book; and the space's clock, next numbers, live transactions and waiting look-ups are what frames and
+-- records tell
 pub record Booked (b : Book) (m : Model) : Type 0 where
   pub right : b .right ≡ true
   pub clock : b .clock ≡ m .clock

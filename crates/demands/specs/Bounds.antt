@@ -1,4 +1,4 @@
--- Bounds that hold of every space that frames make: capacities, numbers in order, whose the read holders are, and what fits 32 bits.
+-- What else holds of every space that frames make: capacities, numbers in order, two sentences on holds, and that records fit their bytes.
 use Prim.Native.Nat.{ℕ, _≤_, _<_}
 use mathlib.Core.Bool.{true, false}
 use mathlib.Core.Path.{_≡_}
@@ -9,12 +9,12 @@ use Rattle.rules.specs.declared.Entry.{Entry}
 use Rattle.rules.specs.declared.LookUp.{LookUp}
 use Rattle.rules.specs.declared.Record.{Record}
 use Rattle.rules.specs.declared.Txn.{Txn}
-use Rattle.rules.specs.declared.Until.{Until}
-use Rattle.rules.specs.declared.Until.the-variants.{Tick}
-use Rattle.rules.specs.Numbers.{maxEntries, maxTxns, maxWaits, lastClock}
+use Rattle.rules.specs.Numbers.{maxEntries, maxTxns, maxWaits}
 use Rattle.rules.specs.Template.{bit}
 use Rattle.rules.specs.State.{Model}
 use Rattle.rules.specs.Holds.{readByOther, available, conflicts}
+use Rattle.demands.specs.Machine.{Machine}
+use Rattle.demands.specs.History.{Logged, recordsOf, Made}
 
 -- "At most 64 entries are stored", "At most 8 transactions live and 16 look-ups wait."
 pub record Bounded (m : Model) : Type 0 where
@@ -59,3 +59,11 @@ AllInRange rs = (r : Record) → List·Memᴰ r rs → InRange r
 
 abbrev pub AreBytes : List ℕ → Type 0
 AreBytes bs = (b : ℕ) → List·Memᴰ b bs → b < 256
+
+pub record Bounds (S : Machine) : Type 0 where
+  pub capacities : (log : List Logged) (t : S .State) → Made S log t → Bounded (S .view t)
+  pub by-number : (log : List Logged) (t : S .State) → Made S log t → ByNumber (S .view t)
+  pub read-by-live : (log : List Logged) (t : S .State) → Made S log t → ReadByLive (S .view t)
+  pub own-take-hold : (log : List Logged) (t : S .State) → Made S log t → OwnTakeHold (S .view t)
+  -- where frames are bytes, every record of a history fits its 28 bytes
+  pub in-range : (log : List Logged) (t : S .State) → Made S log t → ((l : Logged) → List·Memᴰ l log → AreBytes (l .frame)) → AllInRange (recordsOf log)

@@ -49,7 +49,7 @@ pub record ReadBack (o : TrayOutcome) : Type 0 where
   pub narrow : hostNumber o < 18446744073709551616
 
 unfoldable pub NumbersAreReadBack : Type 0
-NumbersAreReadBack = (choices : ℕ → ℕ → ℕ) (tray : List ℕ) (area : ℕ) → ReadBack (runTray choices tray area)
+NumbersAreReadBack = (choices : ℕ → ℕ → ℕ) (tray area : List ℕ) → ReadBack (runTray choices tray (length area))
 
 unfoldable pub BytesTellRecords : Type 0
 BytesTellRecords = (rs qs : List Record) → AllInRange rs → AllInRange qs → answerBytes rs ≡ answerBytes qs → rs ≡ qs
