@@ -16,7 +16,8 @@ use Rattle.rules.specs.Lists.{filterb}
 use Rattle.rules.specs.Time.{until}
 use Rattle.rules.specs.State.{Model, empty, withWaits, withClock}
 use Rattle.rules.specs.Frame.{Frame, decode, isLookUp, isAbort}
-use Rattle.rules.specs.Records.{written, found, nothing, waiting, created, committed, aborted, exception, ticked, refused}
+use Rattle.rules.specs.Records.{written, found, nothing, waiting, created, committed, aborted, exception, ticked}
+use Rattle.rules.specs.Records.{refused}
 use Rattle.rules.specs.LookUp.{lookUpOf}
 use Rattle.rules.specs.Transactions.{create, withoutTxn, commit, abort}
 use Rattle.rules.specs.Tick.{dropEnded}
@@ -26,8 +27,10 @@ use Rattle.demands.proofs.Runs.{Input, runs, made}
 use Rattle.demands.specs.SerialRun.{wasRefused}
 use Rattle.demands.specs.Bounds.{ByNumber}
 use Rattle.demands.specs.Answers.{ofParty, asked}
-use Rattle.demands.specs.Book.{LiveTold, Book, newBook, names, enters, entersAll, withAsked, arrives, keepBook, bookOf, Booked}
-use Rattle.demands.specs.Moments.{Out, here, there, Event, writes, is-found, is-nothing, is-waiting, creates, commits, aborts, ticks, excepts, Moments, expires, says, over}
+use Rattle.demands.specs.Book.{LiveTold, Book, newBook, names, enters, entersAll, withAsked, arrives, keepBook}
+use Rattle.demands.specs.Book.{bookOf, Booked}
+use Rattle.demands.specs.Moments.{Out, here, there, Event, writes, is-found, is-nothing, is-waiting, creates}
+use Rattle.demands.specs.Moments.{commits, aborts, ticks, excepts, Moments, expires, says, over}
 use Rattle.rules.proofs.ListLaws.{count, count-cons, length-filter, filter-all, mem-filter, any-filter, all-false}
 use Rattle.rules.proofs.StepCases.{cond-cases, step-cases}
 use Rattle.rules.proofs.RefusalLaws.{Clear, clear}

@@ -19,7 +19,8 @@ use Rattle.rules.specs.State.{Model, withClock}
 use Rattle.rules.specs.Holds.{availableTo, someAvailable}
 use Rattle.rules.specs.Frame.{Frame, decode, isWrite, isLookUp, isCreate}
 use Rattle.rules.specs.Records.{written, committed, aborted, exception, nothing}
-use Rattle.rules.specs.LookUp.{Done, lookUpOf, givesNothing, mustWait, removes, isEntry, marked, handOut, answer, answerFound, answerNothing, answerWaiting, lookUp}
+use Rattle.rules.specs.LookUp.{Done, lookUpOf, givesNothing, mustWait, removes, isEntry, marked, handOut, answer}
+use Rattle.rules.specs.LookUp.{answerFound, answerNothing, answerWaiting, lookUp}
 use Rattle.rules.specs.Transactions.{create, released, withoutTxn, commit, abort}
 use Rattle.rules.specs.Service.{Served, serve, service}
 use Rattle.rules.specs.Tick.{endedTxns, abortAll, dropEnded, closeWaits, tick}

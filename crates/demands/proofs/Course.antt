@@ -14,7 +14,8 @@ use Rattle.rules.specs.Records.{noFields, fourBytes, recordBytes}
 use Rattle.rules.specs.Step.{step}
 use Rattle.rules.specs.Tray.{runTray, hostNumber}
 use Rattle.rules.specs.Print.{digits, line, recordLine, doneLine, printed}
-use Rattle.demands.specs.Frames.{F, E, long, write-by, read-by, take-by, create-by, commit-by, a-tick, times, Written, Found, Created, Committed, Exception, Ticked, Refused}
+use Rattle.demands.specs.Frames.{F, E, long, write-by, read-by, take-by, create-by, commit-by, a-tick, times}
+use Rattle.demands.specs.Frames.{Written, Found, Created, Committed, Exception, Ticked, Refused}
 use Rattle.demands.specs.Course.{answersFrom, answers, Starred}
 use Rattle.demands.proofs.Computed.{all-rules, all-trays}
 

@@ -4,7 +4,8 @@ use mathlib.Core.Bool.{Bool, true, false, not, cond, _&&_, _||_, true≢false, a
 use mathlib.Core.Logic.{_⊎_, inl, inr, ⊎-elim, _↔_}
 use mathlib.Core.Path.{_≡_, refl, sym, ap, ap₂, _∙_, subst⁻¹}
 use mathlib.Core.Option.{Option, none, some}
-use mathlib.Core.List.{List, map, List·Memᴰ, List·Memᴰ·not-nil, List·Memᴰ·append-cases, List·Memᴰ·eq-of-singleton, Memᴰ·of-map}
+use mathlib.Core.List.{List, map, List·Memᴰ, List·Memᴰ·not-nil, List·Memᴰ·append-cases, List·Memᴰ·eq-of-singleton}
+use mathlib.Core.List.{Memᴰ·of-map}
 use native.Mathlib.Omega.{arith}
 use borrow.Author.Tests.{eqb-true, eqb-false, eq-eqb, ne-eqb, not-true, not-false}
 use lib.Dec.{eqb}
@@ -27,7 +28,8 @@ use Rattle.rules.proofs.StepCases.{bool-cases, cond-cases}
 use Rattle.rules.proofs.ReaderLaws.{dropped, dropped-other, bit-of-zero, no-bits}
 use Rattle.demands.specs.Bounds.{ReadByLive, OwnTakeHold}
 use Rattle.demands.proofs.Runs.{Input, made}
-use Rattle.demands.proofs.Trace.{Silent, expires, leaves, Event, writes, finds, gives-nothing, waits, creates, commits, aborts, excepts, ticks}
+use Rattle.demands.proofs.Trace.{Silent, expires, leaves, Event, writes, finds, gives-nothing, waits, creates}
+use Rattle.demands.proofs.Trace.{commits, aborts, excepts, ticks}
 use Rattle.demands.proofs.Sound.{Sound, sound, made-has, available-visible, available-unread, visible-free}
 use Rattle.demands.proofs.HandOut.{after-cases}
 use Rattle.demands.proofs.Finding.{mk-plain, mk-take-readers, mk-read-taker}

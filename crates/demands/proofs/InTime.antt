@@ -4,7 +4,8 @@ use mathlib.Core.Bool.{Bool, true, false, not, cond, _&&_, _||_, true≢false, o
 use mathlib.Core.Path.{_≡_, refl, sym, ap, _∙_, subst, subst⁻¹}
 use mathlib.Core.Logic.{_⊎_, inl, inr, ⊎-elim}
 use mathlib.Core.Option.{Option, none, some}
-use mathlib.Core.List.{List, [], _∷_, _++_, map, List·Memᴰ, List·Memᴰ·head, List·Memᴰ·tail, Memᴰ·append-left, Memᴰ·append-right}
+use mathlib.Core.List.{List, [], _∷_, _++_, map, List·Memᴰ, List·Memᴰ·head, List·Memᴰ·tail, Memᴰ·append-left}
+use mathlib.Core.List.{Memᴰ·append-right}
 use native.Mathlib.Omega.{arith}
 use native.Mathlib.Nat.{le-trans}
 use borrow.Author.Tests.{eqb-true, eqb-false, eq-eqb, le-leb, leb-true}
@@ -22,8 +23,10 @@ use Rattle.rules.specs.Numbers.{forever}
 use Rattle.rules.specs.State.{Model, empty, withClock}
 use Rattle.rules.specs.Holds.{availableTo, someAvailable}
 use Rattle.rules.specs.Frame.{Frame, decode, isLookUp}
-use Rattle.rules.specs.Records.{written, found, nothing, waiting, created, committed, aborted, exception, ticked, refused}
-use Rattle.rules.specs.LookUp.{Done, handOut, lookUpOf, givesNothing, answer, answerFound, answerNothing, answerWaiting, lookUp}
+use Rattle.rules.specs.Records.{written, found, nothing, waiting, created, committed, aborted, exception, ticked}
+use Rattle.rules.specs.Records.{refused}
+use Rattle.rules.specs.LookUp.{Done, handOut, lookUpOf, givesNothing, answer, answerFound, answerNothing, answerWaiting}
+use Rattle.rules.specs.LookUp.{lookUp}
 use Rattle.rules.specs.Transactions.{create, commit, abort}
 use Rattle.rules.specs.Service.{Served, serve, service}
 use Rattle.rules.specs.Tick.{endedTxns, abortAll, dropEnded, closeWaits, tick}

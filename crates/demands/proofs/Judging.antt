@@ -14,7 +14,8 @@ use Rattle.rules.specs.Lists.{firstRow}
 use Rattle.rules.specs.State.{Model}
 use Rattle.rules.specs.Records.{refused, recordBytes, answerBytes, areaAfter}
 use Rattle.rules.specs.Frame.{decode}
-use Rattle.rules.specs.Refusals.{refusal, noOperation, wrongLength, malformed, wrongParty, partyWaits, notLive, notOwn, noLease, tooLate, entriesFull, txnsFull, noNumber, waitsFull}
+use Rattle.rules.specs.Refusals.{refusal, noOperation, wrongLength, malformed, wrongParty, partyWaits, notLive, notOwn}
+use Rattle.rules.specs.Refusals.{noLease, tooLate, entriesFull, txnsFull, noNumber, waitsFull}
 use Rattle.rules.specs.Step.{Outcome, step, accepted, refusedWith}
 use Rattle.rules.proofs.ListLaws.{none-mem}
 use Rattle.rules.proofs.StepCases.{cond-cases}

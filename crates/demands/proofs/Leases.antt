@@ -4,7 +4,8 @@ use mathlib.Core.Bool.{Bool, false, cond, not}
 use mathlib.Core.Logic.{⊎-elim}
 use mathlib.Core.Path.{_≡_, refl, sym, ap, _∙_}
 use mathlib.Core.Option.{Option, none, some}
-use mathlib.Core.List.{List, map, List·Memᴰ, List·Memᴰ·not-nil, List·Memᴰ·append-cases, List·Memᴰ·eq-of-singleton, Memᴰ·of-map}
+use mathlib.Core.List.{List, map, List·Memᴰ, List·Memᴰ·not-nil, List·Memᴰ·append-cases, List·Memᴰ·eq-of-singleton}
+use mathlib.Core.List.{Memᴰ·of-map}
 use borrow.Author.Tests.{eqb-false, not-true}
 use lib.Dec.{eqb}
 use Rattle.rules.specs.declared.Entry.{Entry}
@@ -15,7 +16,8 @@ use Rattle.rules.specs.Time.{reached}
 use Rattle.rules.specs.State.{Model, withClock}
 use Rattle.rules.specs.Holds.{availableTo}
 use Rattle.rules.specs.Frame.{Frame, decode}
-use Rattle.rules.specs.LookUp.{Done, lookUpOf, givesNothing, removes, withHold, marked, isEntry, handOut, answer, answerFound, answerNothing, answerWaiting, lookUp}
+use Rattle.rules.specs.LookUp.{Done, lookUpOf, givesNothing, removes, withHold, marked, isEntry, handOut, answer}
+use Rattle.rules.specs.LookUp.{answerFound, answerNothing, answerWaiting, lookUp}
 use Rattle.rules.specs.Transactions.{create, released, commit, abort}
 use Rattle.rules.specs.Service.{serve, service}
 use Rattle.rules.specs.Tick.{endedTxns, abortAll, dropEnded, closeWaits, tick}

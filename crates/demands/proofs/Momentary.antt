@@ -4,7 +4,8 @@ use mathlib.Core.Bool.{Bool, true, false, not, cond, true≢false}
 use mathlib.Core.Path.{_≡_, refl, sym, ap, _∙_, subst, subst⁻¹}
 use mathlib.Core.Logic.{inl, inr, ⊎-elim}
 use mathlib.Core.Option.{Option, none, some}
-use mathlib.Core.List.{List, [], _∷_, _++_, map, append-assoc, List·Memᴰ, List·Memᴰ·head, List·Memᴰ·tail, Memᴰ·append-right, Memᴰ·map}
+use mathlib.Core.List.{List, [], _∷_, _++_, map, append-assoc, List·Memᴰ, List·Memᴰ·head, List·Memᴰ·tail}
+use mathlib.Core.List.{Memᴰ·append-right, Memᴰ·map}
 use native.Mathlib.Omega.{arith}
 use borrow.Author.Tests.{eqb-true, eqb-false, ne-eqb, le-leb, not-true, not-false}
 use lib.Dec.{eqb}
@@ -28,11 +29,13 @@ use Rattle.rules.specs.Tick.{endedTxns, abortAll, dropEnded, closeWaits, tick}
 use Rattle.rules.specs.Step.{step, Outcome, stored, write, commitFrame, abortFrame, carriedOut, accepted}
 use Rattle.demands.proofs.Runs.{made, Input}
 use Rattle.demands.specs.Bounds.{Ascending, ByNumber}
-use Rattle.demands.specs.Moments.{Out, here, there, writes, is-found, is-nothing, is-waiting, creates, commits, aborts, ticks, excepts, Moments, expires, says, over}
+use Rattle.demands.specs.Moments.{Out, here, there, writes, is-found, is-nothing, is-waiting, creates, commits}
+use Rattle.demands.specs.Moments.{aborts, ticks, excepts, Moments, expires, says, over}
 use Rattle.demands.specs.Answers.{asked}
 use Rattle.rules.proofs.ListLaws.{mem-filter, filter-mem}
 use Rattle.demands.proofs.Numbers.{ascend-filter, numbers-ascend}
-use Rattle.rules.proofs.StepCases.{cond-cases, done-cases, serve-ind, or-cases, or-left, or-right, and-left, and-right, and-false-right}
+use Rattle.rules.proofs.StepCases.{cond-cases, done-cases, serve-ind, or-cases, or-left, or-right, and-left, and-right}
+use Rattle.rules.proofs.StepCases.{and-false-right}
 use Rattle.demands.proofs.Deadlines.{until-later}
 use Rattle.demands.proofs.Unavailable.{pick-nothing, serve-settled}
 use Rattle.demands.proofs.Trace.{picked}

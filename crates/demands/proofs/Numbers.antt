@@ -3,7 +3,8 @@ use Prim.Native.Nat.{ℕ, _<_}
 use mathlib.Core.Bool.{Bool, true, not}
 use mathlib.Core.Logic.{⊎-elim}
 use mathlib.Core.Path.{_≡_, refl, sym, ap, _∙_, subst⁻¹}
-use mathlib.Core.List.{List, [], _∷_, _++_, map, List·Memᴰ, List·Memᴰ·head, List·Memᴰ·tail, List·Memᴰ·append-cases, List·Memᴰ·eq-of-singleton, List·Memᴰ·not-nil, Memᴰ·of-map, Memᴰ·map, Memᴰ·cast}
+use mathlib.Core.List.{List, [], _∷_, _++_, map, List·Memᴰ, List·Memᴰ·head, List·Memᴰ·tail, List·Memᴰ·append-cases}
+use mathlib.Core.List.{List·Memᴰ·eq-of-singleton, List·Memᴰ·not-nil, Memᴰ·of-map, Memᴰ·map, Memᴰ·cast}
 use native.Mathlib.Omega.{arith}
 use borrow.Author.Tests.{eqb-true, eqb-false, eq-eqb, ne-eqb}
 use lib.Dec.{eqb}
@@ -24,7 +25,8 @@ use Rattle.demands.specs.Bounds.{Ascending, ByNumber}
 use Rattle.rules.proofs.ListLaws.{mem-filter, all-false}
 use Rattle.rules.proofs.StepCases.{cond-cases, bool-cases, step-cases}
 use Rattle.rules.proofs.RefusalLaws.{clear}
-use Rattle.demands.proofs.Trace.{Silent, expires, leaves, Event, writes, finds, gives-nothing, waits, creates, commits, aborts, excepts, ticks, Trace, ends, silent, says, carried-out}
+use Rattle.demands.proofs.Trace.{Silent, expires, leaves, Event, writes, finds, gives-nothing, waits, creates}
+use Rattle.demands.proofs.Trace.{commits, aborts, excepts, ticks, Trace, ends, silent, says, carried-out}
 use Rattle.demands.proofs.Sound.{Sound, step-keeps, made-has}
 
 pub eqb-sym : (a b : ℕ) → eqb a b ≡ eqb b a

@@ -4,7 +4,8 @@ use mathlib.Core.Bool.{Bool, true, false, not, true≢false, _&&_}
 use mathlib.Core.Logic.{⊎-elim}
 use mathlib.Core.Path.{_≡_, refl, sym, subst, subst⁻¹}
 use mathlib.Core.Option.{Option, none, some}
-use mathlib.Core.List.{List, [], _∷_, _++_, map, List·Memᴰ, List·Memᴰ·head, List·Memᴰ·tail, List·Memᴰ·not-nil, List·Memᴰ·cases-cons, List·Memᴰ·append-cases, List·Memᴰ·eq-of-singleton, Memᴰ·of-map}
+use mathlib.Core.List.{List, [], _∷_, _++_, map, List·Memᴰ, List·Memᴰ·head, List·Memᴰ·tail, List·Memᴰ·not-nil}
+use mathlib.Core.List.{List·Memᴰ·cases-cons, List·Memᴰ·append-cases, List·Memᴰ·eq-of-singleton, Memᴰ·of-map}
 use native.Mathlib.Omega.{arith}
 use borrow.Author.Tests.{eqb-true, leb-false}
 use lib.Dec.{eqb, leb}
@@ -18,8 +19,10 @@ use Rattle.rules.specs.Numbers.{forever}
 use Rattle.rules.specs.State.{Model, empty}
 use Rattle.rules.specs.Holds.{availableTo}
 use Rattle.rules.specs.Frame.{Frame, byteAt, numberAt, decode, isWrite, isCreate}
-use Rattle.rules.specs.Records.{noFields, plain, written, found, nothing, waiting, created, committed, aborted, exception, ticked, refused}
-use Rattle.rules.specs.LookUp.{Done, lookUpOf, givesNothing, answer, answerFound, answerNothing, answerWaiting, lookUp, removes, withHold, marked, isEntry, handOut}
+use Rattle.rules.specs.Records.{noFields, plain, written, found, nothing, waiting, created, committed, aborted}
+use Rattle.rules.specs.Records.{exception, ticked, refused}
+use Rattle.rules.specs.LookUp.{Done, lookUpOf, givesNothing, answer, answerFound, answerNothing, answerWaiting, lookUp}
+use Rattle.rules.specs.LookUp.{removes, withHold, marked, isEntry, handOut}
 use Rattle.rules.specs.Transactions.{create, released, withoutTxn, commit, abort, privateTo, takenBy}
 use Rattle.rules.specs.Service.{service}
 use Rattle.rules.specs.Tick.{dropEnded}
@@ -29,7 +32,8 @@ use Rattle.demands.proofs.Runs.{Input, runs}
 use Rattle.demands.specs.Bounds.{ByNumber, InRange, AllInRange, AreBytes}
 use Rattle.demands.specs.History.{recordsOf}
 use Rattle.demands.proofs.Runs.{answersTo}
-use Rattle.demands.specs.Moments.{Out, here, there, Event, writes, is-found, is-nothing, is-waiting, creates, commits, aborts, ticks, excepts, Moments, expires, says, over}
+use Rattle.demands.specs.Moments.{Out, here, there, Event, writes, is-found, is-nothing, is-waiting, creates}
+use Rattle.demands.specs.Moments.{commits, aborts, ticks, excepts, Moments, expires, says, over}
 use Rattle.rules.proofs.ListLaws.{mem-filter}
 use Rattle.rules.proofs.StepCases.{cond-cases, done-cases, or-left, or-right, and-false-right}
 use Rattle.rules.proofs.RefusalLaws.{clear}

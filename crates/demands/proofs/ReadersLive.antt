@@ -4,7 +4,8 @@ use mathlib.Core.Bool.{Bool, true, false, not, true≢false}
 use mathlib.Core.Logic.{_⊎_, inl, inr, ⊎-elim}
 use mathlib.Core.Path.{_≡_, refl, sym, ap, _∙_}
 use mathlib.Core.Option.{Option, none, some}
-use mathlib.Core.List.{List, map, List·Memᴰ, List·Memᴰ·not-nil, List·Memᴰ·append-cases, List·Memᴰ·eq-of-singleton, Memᴰ·append-left, Memᴰ·of-map}
+use mathlib.Core.List.{List, map, List·Memᴰ, List·Memᴰ·not-nil, List·Memᴰ·append-cases, List·Memᴰ·eq-of-singleton}
+use mathlib.Core.List.{Memᴰ·append-left, Memᴰ·of-map}
 use borrow.Author.Tests.{eqb-true, eqb-false, ne-eqb}
 use lib.Dec.{eqb}
 use Rattle.rules.specs.declared.Entry.{Entry}
@@ -24,7 +25,8 @@ use Rattle.demands.proofs.Runs.{Input, made}
 use Rattle.rules.proofs.ListLaws.{mem-filter, filter-mem, find-some, find-none}
 use Rattle.rules.proofs.StepCases.{bool-cases, cond-cases}
 use Rattle.rules.proofs.ReaderLaws.{added-other, dropped, dropped-other, bit-of-zero}
-use Rattle.demands.proofs.Trace.{Silent, expires, leaves, Event, writes, finds, gives-nothing, waits, creates, commits, aborts, excepts, ticks}
+use Rattle.demands.proofs.Trace.{Silent, expires, leaves, Event, writes, finds, gives-nothing, waits, creates}
+use Rattle.demands.proofs.Trace.{commits, aborts, excepts, ticks}
 use Rattle.demands.proofs.Sound.{Sound, step-keeps, made-has}
 use Rattle.demands.proofs.HandOut.{after-cases}
 use Rattle.demands.proofs.Finding.{mk-plain, mk-read-readers, mk-take-readers}

@@ -16,12 +16,16 @@ use Rattle.rules.specs.Step.{step}
 use Rattle.rules.specs.Allowed.{Answered}
 use Rattle.demands.specs.Machine.{Handed, Machine, Stepper, Stepped, answeredBy, spaceOf}
 use Rattle.demands.specs.History.{Logged, logged, History, begun, handed, Made}
-use Rattle.demands.specs.SerialRun.{Kept, sameFields, isKept, failed, taking, carryOut, carryOutAll, perform, listOf, thrownAway, lastTakes, advanced, follow, followAll, wasRefused, noteLookUp, followLog, serialRun, left, committedIn}
+use Rattle.demands.specs.SerialRun.{Kept, sameFields, isKept, failed, taking, carryOut, carryOutAll, perform}
+use Rattle.demands.specs.SerialRun.{listOf, thrownAway, lastTakes, advanced, follow, followAll, wasRefused}
+use Rattle.demands.specs.SerialRun.{noteLookUp, followLog, serialRun, left, committedIn}
 use Rattle.demands.specs.Told.{Told, readsNumber, whoTakes, whoReads, committedTold, privateTold, told}
 use Rattle.demands.specs.Demands.{Demand2, Demand3}
 use Rattle.demands.specs.Frames.{F, E, write-by, read-by, take-by, create-by, commit-by, abort-by, a-tick}
 use Rattle.demands.specs.Answers.{AnsweredNow, asked}
-use Rattle.demands.specs.Wrong.{saysNothing, saysWaiting, refusesAll, sameRecord, storesNothing, firstFrameOnly, oneMore, inventedCount, losesCommit, putsBackLate, ownReadBars, nothingFirst, showsPrivate, RuledOut}
+use Rattle.demands.specs.Wrong.{saysNothing, saysWaiting, refusesAll, sameRecord, storesNothing, firstFrameOnly}
+use Rattle.demands.specs.Wrong.{oneMore, inventedCount, losesCommit, putsBackLate, ownReadBars, nothingFirst}
+use Rattle.demands.specs.Wrong.{showsPrivate, RuledOut}
 use Rattle.demands.proofs.Computed.{all-rules}
 
 -- the frames of a history are handed in with areas of 700 bytes, and the first choice is made

@@ -3,14 +3,16 @@ use Prim.Native.Nat.{ℕ, _+_, _≤_}
 use mathlib.Core.Bool.{Bool, true, false, cond, not, _&&_, _||_, or-true}
 use mathlib.Core.Logic.{⊎-elim}
 use mathlib.Core.Path.{_≡_, refl, sym, ap, _∙_, subst⁻¹}
-use mathlib.Core.List.{List, [], _∷_, _++_, append-assoc, append-nil, List·Memᴰ, List·Memᴰ·append-cases, Memᴰ·append-left, Memᴰ·append-right}
+use mathlib.Core.List.{List, [], _∷_, _++_, append-assoc, append-nil, List·Memᴰ, List·Memᴰ·append-cases}
+use mathlib.Core.List.{Memᴰ·append-left, Memᴰ·append-right}
 use borrow.Author.Tests.{eqb-true, eq-eqb}
 use lib.Dec.{eqb}
 use native.Mathlib.Omega.{arith}
 use Rattle.rules.specs.declared.Fields.{Fields}
 use Rattle.rules.specs.Lists.{filterb, anyb}
 use Rattle.demands.specs.SerialRun.{Kept, Operation, adds, finds, Run, isKept, taking, carryOut, carryOutAll}
-use Rattle.rules.proofs.ListLaws.{filter-append, mem-filter, filter-mem, any-mem, mem-any, count, count-append, count-cons, count-filter, count-mem, filter-all}
+use Rattle.rules.proofs.ListLaws.{filter-append, mem-filter, filter-mem, any-mem, mem-any, count, count-append}
+use Rattle.rules.proofs.ListLaws.{count-cons, count-filter, count-mem, filter-all}
 use Rattle.rules.proofs.StepCases.{and-left}
 
 -- the set after an operation, and after a list of them

@@ -4,7 +4,8 @@ use mathlib.Core.Bool.{Bool, true, false, cond, not, _&&_, _||_, true≢false, a
 use mathlib.Core.Logic.{_⊎_, inl, inr, ⊎-elim}
 use mathlib.Core.Path.{_≡_, refl, sym, ap, ap₂, _∙_, subst⁻¹}
 use mathlib.Core.Option.{Option, none, some}
-use mathlib.Core.List.{List, [], _∷_, map, List·Memᴰ, List·Memᴰ·not-nil, List·Memᴰ·append-cases, List·Memᴰ·eq-of-singleton, Memᴰ·of-map, Memᴰ·map, Memᴰ·cast}
+use mathlib.Core.List.{List, [], _∷_, map, List·Memᴰ, List·Memᴰ·not-nil, List·Memᴰ·append-cases}
+use mathlib.Core.List.{List·Memᴰ·eq-of-singleton, Memᴰ·of-map, Memᴰ·map, Memᴰ·cast}
 use native.Mathlib.Omega.{arith}
 use borrow.Author.Tests.{eqb-true, eqb-false, eq-eqb, ne-eqb, not-true}
 use lib.Dec.{eqb}
@@ -24,18 +25,23 @@ use Rattle.rules.specs.Tick.{dropEnded}
 use Rattle.rules.specs.Refusals.{partyWaits}
 use Rattle.rules.specs.Step.{Outcome, stored, carriedOut, step, accepted, refusedWith}
 use Rattle.demands.proofs.Runs.{Input, runs, made}
-use Rattle.demands.specs.SerialRun.{Kept, Operation, Run, start, perform, listOf, thrownAway, lastTakes, advanced, follow, followAll, wasRefused, noteLookUp, followLog, serialRun, left}
+use Rattle.demands.specs.SerialRun.{Kept, Operation, Run, start, perform, listOf, thrownAway, lastTakes, advanced}
+use Rattle.demands.specs.SerialRun.{follow, followAll, wasRefused, noteLookUp, followLog, serialRun, left}
 use Rattle.demands.specs.SerialRun.{keptOf, committedIn, distinct, numbersOf, Serial}
-use Rattle.rules.proofs.ListLaws.{mem-filter, filter-mem, any-mem, none-mem, count, count-cons, count-mem, count-map, count-filter}
+use Rattle.rules.proofs.ListLaws.{mem-filter, filter-mem, any-mem, none-mem, count, count-cons, count-mem, count-map}
+use Rattle.rules.proofs.ListLaws.{count-filter}
 use Rattle.demands.proofs.SerialOps.{isNumber, filter-same}
 use Rattle.demands.proofs.Numbers.{eqb-sym, numbers-ascend, committed-distinct}
 use Rattle.rules.proofs.StepCases.{bool-cases, cond-cases, step-cases}
 use Rattle.demands.proofs.LookUpLaws.{carriedOut-lookUp}
 use Rattle.rules.proofs.RefusalLaws.{Clear, clear}
-use Rattle.demands.proofs.Trace.{Asks, Silent, expires, leaves, Event, writes, finds, gives-nothing, waits, creates, commits, aborts, excepts, ticks, Trace, ends, silent, says, carried-out}
+use Rattle.demands.proofs.Trace.{Asks, Silent, expires, leaves, Event, writes, finds, gives-nothing, waits}
+use Rattle.demands.proofs.Trace.{creates, commits, aborts, excepts, ticks, Trace, ends, silent, says}
+use Rattle.demands.proofs.Trace.{carried-out}
 use Rattle.demands.proofs.Sound.{Sound, sound-silent, sound-event, sound-empty}
 use Rattle.demands.proofs.Leases.{lasting}
-use Rattle.demands.proofs.Simulation.{carryOut-same, carryOutAll-same, Sim, Knows, knows-asks, sim-silent, sim-event}
+use Rattle.demands.proofs.Simulation.{carryOut-same, carryOutAll-same, Sim, Knows, knows-asks, sim-silent}
+use Rattle.demands.proofs.Simulation.{sim-event}
 
 -- following a record changes nothing of what is known of the look-ups
 follow-asked : (f : Frame) (a : Record) (r : Run) → follow f a r .asked ≡ r .asked

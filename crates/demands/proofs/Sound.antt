@@ -5,7 +5,8 @@ use mathlib.Core.Bool.{Bool, true, false, cond, not, _&&_, _||_, true≢false}
 use mathlib.Core.Logic.{_⊎_, inl, inr, ⊎-elim}
 use mathlib.Core.Path.{_≡_, refl, sym, ap, _∙_, subst, subst⁻¹}
 use mathlib.Core.Option.{Option, none, some}
-use mathlib.Core.List.{List, [], _∷_, _++_, map, List·Memᴰ, List·Memᴰ·head, List·Memᴰ·tail, List·Memᴰ·not-nil, List·Memᴰ·append-cases, List·Memᴰ·eq-of-singleton, Memᴰ·of-map}
+use mathlib.Core.List.{List, [], _∷_, _++_, map, List·Memᴰ, List·Memᴰ·head, List·Memᴰ·tail, List·Memᴰ·not-nil}
+use mathlib.Core.List.{List·Memᴰ·append-cases, List·Memᴰ·eq-of-singleton, Memᴰ·of-map}
 use native.Mathlib.Omega.{arith}
 use borrow.Author.Tests.{eqb-true, eqb-false, ne-eqb, not-true, not-false}
 use lib.Dec.{eqb}
@@ -25,10 +26,13 @@ use Rattle.rules.specs.Transactions.{orZero, freeSlot, create, released, withou
 use Rattle.rules.specs.Tick.{dropEnded}
 use Rattle.rules.specs.Step.{Outcome, newEntry, stored, step, accepted, refusedWith}
 use Rattle.demands.specs.SerialRun.{distinct}
-use Rattle.rules.proofs.ListLaws.{count-mem, length-split, mem-filter, filter-mem, any-mem, mem-any, none-mem, find-some, find-none}
+use Rattle.rules.proofs.ListLaws.{count-mem, length-split, mem-filter, filter-mem, any-mem, mem-any, none-mem}
+use Rattle.rules.proofs.ListLaws.{find-some, find-none}
 use Rattle.rules.proofs.StepCases.{step-cases, and-left, and-right, or-cases, cond-cases, option-cases}
 use Rattle.rules.proofs.ReaderLaws.{bit-of-zero}
-use Rattle.demands.proofs.Trace.{Live, Asks, Silent, expires, leaves, Event, writes, finds, gives-nothing, waits, creates, commits, aborts, excepts, ticks, Trace, ends, silent, says, carried-out}
+use Rattle.demands.proofs.Trace.{Live, Asks, Silent, expires, leaves, Event, writes, finds, gives-nothing, waits}
+use Rattle.demands.proofs.Trace.{creates, commits, aborts, excepts, ticks, Trace, ends, silent, says}
+use Rattle.demands.proofs.Trace.{carried-out}
 use Rattle.rules.proofs.RefusalLaws.{clear}
 use Rattle.demands.proofs.Runs.{made-keep}
 use Rattle.demands.proofs.Runs.{Input, made}

@@ -3,7 +3,9 @@ use Prim.Native.Nat.{ℕ, _+_, _≤_, _<_}
 use mathlib.Core.Bool.{Bool, true, false, cond, not, _||_, true≢false}
 use mathlib.Core.Logic.{_⊎_, inl, inr, ⊎-elim}
 use mathlib.Core.Path.{_≡_, refl, sym, ap, _∙_, subst, subst⁻¹}
-use mathlib.Core.List.{List, [], _∷_, _++_, map, List·Memᴰ, List·Memᴰ·head, List·Memᴰ·tail, List·Memᴰ·not-nil, List·Memᴰ·cases-cons, List·Memᴰ·append-cases, List·Memᴰ·eq-of-singleton, Memᴰ·append-left, Memᴰ·append-right, Memᴰ·of-map, Memᴰ·map, Memᴰ·cast}
+use mathlib.Core.List.{List, [], _∷_, _++_, map, List·Memᴰ, List·Memᴰ·head, List·Memᴰ·tail, List·Memᴰ·not-nil}
+use mathlib.Core.List.{List·Memᴰ·cases-cons, List·Memᴰ·append-cases, List·Memᴰ·eq-of-singleton, Memᴰ·append-left}
+use mathlib.Core.List.{Memᴰ·append-right, Memᴰ·of-map, Memᴰ·map, Memᴰ·cast}
 use native.Mathlib.Omega.{arith}
 use borrow.Author.Tests.{eqb-true, eqb-false, eq-eqb, ne-eqb, not-true}
 use lib.Dec.{eqb}
@@ -14,15 +16,20 @@ use Rattle.rules.specs.Time.{reached}
 use Rattle.rules.specs.State.{Model, empty}
 use Rattle.rules.specs.Template.{bit}
 use Rattle.demands.proofs.Runs.{runs, Input, made}
-use Rattle.demands.specs.SerialRun.{Kept, Operation, adds, finds, Pending, Run, isKept, taking, carryOut, carryOutAll, followLog, serialRun, start}
+use Rattle.demands.specs.SerialRun.{Kept, Operation, adds, finds, Pending, Run, isKept, taking, carryOut}
+use Rattle.demands.specs.SerialRun.{carryOutAll, followLog, serialRun, start}
 use Rattle.demands.specs.SerialRun.{keptOf}
-use Rattle.demands.specs.Told.{Told, takesNumber, readsNumber, whoTakes, whoReads, committedTold, privateTold, told, AsTold, Explained}
-use Rattle.rules.proofs.ListLaws.{mem-filter, filter-mem, any-mem, mem-any, none-mem, all-false, count, count-cons, count-mem, count-map, count-filter}
+use Rattle.demands.specs.Told.{Told, takesNumber, readsNumber, whoTakes, whoReads, committedTold, privateTold}
+use Rattle.demands.specs.Told.{told, AsTold, Explained}
+use Rattle.rules.proofs.ListLaws.{mem-filter, filter-mem, any-mem, mem-any, none-mem, all-false, count, count-cons}
+use Rattle.rules.proofs.ListLaws.{count-mem, count-map, count-filter}
 use Rattle.rules.proofs.StepCases.{bool-cases, cond-cases, and-right}
 use Rattle.rules.proofs.ReaderLaws.{bit-of-zero}
 use Rattle.demands.proofs.Sound.{Sound}
 use Rattle.demands.proofs.Leases.{lasting}
-use Rattle.demands.proofs.SerialOps.{after, afterFind, afterAll, CanOne, Can, carryOut-can, carryOutAll-can, takesIt, after-split, survives, mentionsIt, isNumber, addsIt, total-carryOutAll}
+use Rattle.demands.proofs.SerialOps.{after, afterFind, afterAll, CanOne, Can, carryOut-can, carryOutAll-can}
+use Rattle.demands.proofs.SerialOps.{takesIt, after-split, survives, mentionsIt, isNumber, addsIt}
+use Rattle.demands.proofs.SerialOps.{total-carryOutAll}
 use Rattle.demands.proofs.Agreement.{Holds, takes-number}
 use Rattle.demands.proofs.Simulation.{listed, pendingAdds}
 use Rattle.demands.proofs.Tied.{Ok, Whole, whole}

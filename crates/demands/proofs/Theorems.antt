@@ -3,7 +3,8 @@ use Prim.Native.Nat.{ℕ, _*_, _≤_}
 use mathlib.Core.Bool.{true, false}
 use mathlib.Core.Logic.{_⊎_, inl, inr, ⊎-elim}
 use mathlib.Core.Path.{_≡_, refl, sym, ap, ap₂, _∙_, subst, subst⁻¹}
-use mathlib.Core.List.{List, [], _∷_, _++_, List·Memᴰ, List·Memᴰ·head, List·Memᴰ·tail, List·Memᴰ·not-nil, List·Memᴰ·cases-cons}
+use mathlib.Core.List.{List, [], _∷_, _++_, List·Memᴰ, List·Memᴰ·head, List·Memᴰ·tail, List·Memᴰ·not-nil}
+use mathlib.Core.List.{List·Memᴰ·cases-cons}
 use native.Mathlib.Omega.{arith}
 use borrow.Author.Tests.{ltb-true, ltb-false}
 use lib.Dec.{ltb}
@@ -32,7 +33,8 @@ use Rattle.demands.specs.Bounds.{Bounded, ByNumber, ReadByLive, OwnTakeH
 use Rattle.demands.proofs.Runs.{Input, runs, made, answersTo}
 use Rattle.demands.proofs.Carried.{ByRule, Follows, space-follows, rules-follow, inputOf, RunTo, run-to, run-of}
 use Rattle.demands.proofs.Capacity.{bounded, step-fits}
-use Rattle.demands.proofs.Judging.{refusal-fits, number-is, one-is, refused-record, no-record, area-length, area-front, area-rest}
+use Rattle.demands.proofs.Judging.{refusal-fits, number-is, one-is, refused-record, no-record, area-length}
+use Rattle.demands.proofs.Judging.{area-front, area-rest}
 use Rattle.demands.proofs.LookUpLaws.{answered-now}
 use Rattle.demands.proofs.Numbers.{numbers-ascend}
 use Rattle.demands.proofs.Momentary.{step-moments}
@@ -112,14 +114,15 @@ module _ (S : Machine) (f : Follows S) where
       }
 
   -- a look-up, its step, and the history after it are one run
-  closed-in-time : (log later : List Logged) (t u v : S .State) (h : Handed) (a : Answered) → Made S log t → S .Steps t h u a → History S u later v
+  closed-in-time : (log : List Logged) (t u : S .State) (h : Handed) (a : Answered) → Made S log t → S .Steps t h u a
+      → (later : List Logged) (v : S .State) → History S u later v
       → refusal (S .view t) (h .frame) (length (h .area)) ≡ 0
       → isLookUp (decode (h .frame) .op) ≡ true
       → (decode (h .frame) .leaseOrTimeout ≡ forever → ⊥)
       → decode (h .frame) .leaseOrTimeout ≤ length (filterb isTicked (a .records ++ recordsOf later))
       → anyb (closes (decode (h .frame) .party) (decode (h .frame) .txn)) (a .records ++ recordsOf later) ≡ true
   unfolding answersTo
-  closed-in-time log later t u v h a r p rest n l d =
+  closed-in-time log t u h a r p later v rest n l d =
       let q = f .steps t h u a p in
       let is = run-of S f r in
       let m = made (is .inputs) in

@@ -12,13 +12,15 @@ use Rattle.rules.specs.declared.Record.{Record}
 use Rattle.rules.specs.State.{Model, empty}
 use Rattle.rules.specs.Records.{areaAfter}
 use Rattle.rules.specs.Step.{Outcome, step}
-use Rattle.rules.specs.Tray.{pairsOf, frameCount, pairsEnd, pairs, badTray, badPairs, trayRefusal, frameAt, TrayOutcome, stopped, runFrames, runPairs, runTray, hostNumber}
+use Rattle.rules.specs.Tray.{pairsOf, frameCount, pairsEnd, pairs, badTray, badPairs, trayRefusal, frameAt, TrayOutcome}
+use Rattle.rules.specs.Tray.{stopped, runFrames, runPairs, runTray, hostNumber}
 use Rattle.rules.specs.Allowed.{Answered}
 use Rattle.rules.proofs.StepCases.{cond-cases, or-left, or-right}
 use Rattle.demands.specs.Machine.{Handed, Stepped, answeredBy, theRules}
 use Rattle.demands.specs.History.{Logged, recordsOf, History, begun, handed}
 use Rattle.demands.specs.Bounds.{Bounded}
-use Rattle.demands.specs.Trays.{HandedIn, none-left, one-more, TrayHistory, TraysAreHistories, ReadBack, NumbersAreReadBack}
+use Rattle.demands.specs.Trays.{HandedIn, none-left, one-more, TrayHistory, TraysAreHistories, ReadBack}
+use Rattle.demands.specs.Trays.{NumbersAreReadBack}
 use Rattle.demands.proofs.Capacity.{step-fits}
 use Rattle.demands.proofs.Judging.{area-length}
 

@@ -12,7 +12,8 @@ use Rattle.rules.specs.declared.Txn.{Txn}
 use Rattle.rules.specs.declared.LookUp.{LookUp}
 use Rattle.rules.specs.Lists.{filterb, pick}
 use Rattle.rules.specs.Template.{bit, matches}
-use Rattle.rules.specs.Holds.{liveTxn, addReader, dropReader, addReaderOf, dropReaderOf, readByOther, visible, available, availableTo, someAvailable}
+use Rattle.rules.specs.Holds.{liveTxn, addReader, dropReader, addReaderOf, dropReaderOf, readByOther, visible}
+use Rattle.rules.specs.Holds.{available, availableTo, someAvailable}
 use Rattle.rules.specs.LookUp.{removes, marked, isEntry, handOut}
 use Rattle.rules.specs.Service.{serve}
 use Rattle.rules.proofs.ListLaws.{none≢some, any-pick, mem-filter, none-mem, all-false}
@@ -20,7 +21,8 @@ use Rattle.rules.proofs.StepCases.{bool-cases, cond-cases, serve-ind, and-left}
 use Rattle.rules.proofs.ReaderLaws.{added, added-other, dropped, dropped-other, bit-of-zero, no-bits}
 use Rattle.demands.proofs.Sound.{available-unread, available-visible, visible-free, visible-owner}
 use Rattle.demands.proofs.Trace.{picked}
-use Rattle.demands.proofs.Finding.{mk-kept, mk-owner, mk-plain, mk-read-taker, mk-take-taker, mk-read-readers, kept-gone}
+use Rattle.demands.proofs.Finding.{mk-kept, mk-owner, mk-plain, mk-read-taker, mk-take-taker, mk-read-readers}
+use Rattle.demands.proofs.Finding.{kept-gone}
 use Rattle.demands.specs.SerialRun.{Kept}
 
 -- with one reader more an entry is read by another as before

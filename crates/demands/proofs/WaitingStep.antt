@@ -4,7 +4,8 @@ use mathlib.Core.Bool.{true, false, not, or-true}
 use mathlib.Core.Logic.{_⊎_, inl, inr, ⊎-elim}
 use mathlib.Core.Path.{_≡_, refl, sym, ap, subst⁻¹, subst₂}
 use mathlib.Core.Option.{Option, none, some}
-use mathlib.Core.List.{List, [], _∷_, _++_, map, List·Memᴰ, List·Memᴰ·head, List·Memᴰ·tail, List·Memᴰ·cases-cons, Memᴰ·append-left, Memᴰ·append-right, Memᴰ·map}
+use mathlib.Core.List.{List, [], _∷_, _++_, map, List·Memᴰ, List·Memᴰ·head, List·Memᴰ·tail, List·Memᴰ·cases-cons}
+use mathlib.Core.List.{Memᴰ·append-left, Memᴰ·append-right, Memᴰ·map}
 use borrow.Author.Tests.{eqb-true, ne-eqb}
 use lib.Dec.{eqb}
 use Rattle.rules.specs.declared.Entry.{Entry}
@@ -17,14 +18,16 @@ use Rattle.rules.specs.State.{Model, withClock}
 use Rattle.rules.specs.Holds.{available, availableTo, someAvailable}
 use Rattle.rules.specs.Frame.{decode}
 use Rattle.rules.specs.Records.{written, found, nothing, exception}
-use Rattle.rules.specs.LookUp.{Done, lookUpOf, givesNothing, answer, answerFound, answerNothing, answerWaiting, lookUp, handOut}
+use Rattle.rules.specs.LookUp.{Done, lookUpOf, givesNothing, answer, answerFound, answerNothing, answerWaiting, lookUp}
+use Rattle.rules.specs.LookUp.{handOut}
 use Rattle.rules.specs.Transactions.{create, commit, abort}
 use Rattle.rules.specs.Service.{Served, serve, service}
 use Rattle.rules.specs.Tick.{endedTxns, abortAll, dropEnded, closeWaits, tick}
 use Rattle.rules.specs.Step.{stored, write, commitFrame, abortFrame, step, accepted, refusedWith, Outcome}
 use Rattle.demands.proofs.Runs.{Input, made}
 use Rattle.rules.proofs.ListLaws.{mem-filter, filter-mem, any-pick, any-filter}
-use Rattle.rules.proofs.StepCases.{bool-cases, option-cases, cond-cases, step-cases, done-cases, serve-ind, serve-none, serve-some}
+use Rattle.rules.proofs.StepCases.{bool-cases, option-cases, cond-cases, step-cases, done-cases, serve-ind, serve-none}
+use Rattle.rules.proofs.StepCases.{serve-some}
 use Rattle.demands.proofs.LookUpLaws.{answered-now}
 use Rattle.rules.proofs.RefusalLaws.{clear}
 use Rattle.demands.proofs.Deadlines.{deadlines-above}

@@ -17,9 +17,9 @@ use Rattle.rules.specs.Frame.{Frame, isLookUp}
 use Rattle.rules.specs.Records.{found, nothing, waiting}
 use Rattle.rules.specs.LookUp.{lookUpOf, givesNothing}
 
--- The one record of a look-up that is not refused, for the four kinds together: found exactly when an entry is available, then with one
--- of those; nothing exactly under document 01's conditions (`givesNothing`); else waiting, behind those that wait. (The cases exclude each
--- other, and so do the kinds of their records.)
+-- The one record of a look-up that is not refused, for the four kinds together: found exactly when an entry is
+-- available, then with one of those; nothing exactly under document 01's conditions (`givesNothing`); else waiting,
+-- behind those that wait. (The cases exclude each other, and so do the kinds of their records.)
 pub record AnsweredNow (m : Model) (w : LookUp) (timeout : ℕ) (records : List Record) (n : Model) : Type 0 where
   pub found-case : someAvailable (m .txns) w (m .entries) ≡ true
       → (e : Entry) × List·Memᴰ e (availableTo (m .txns) w (m .entries)) × (records ≡ found w e ∷ [])
@@ -36,7 +36,8 @@ asked m f = cond (isLookUp (f .op)) (withWaits (m .waits ++ (lookUpOf m f ∷ []
 
 -- an open look-up that a step gives nothing has no available entry when the step is over
 abbrev pub NothingLeft : Model → List Record → Model → Type 0
-NothingLeft m records n = (w : LookUp) → List·Memᴰ w (m .waits) → List·Memᴰ (nothing w) records → someAvailable (n .txns) w (n .entries) ≡ false
+NothingLeft m records n = (w : LookUp) → List·Memᴰ w (m .waits) → List·Memᴰ (nothing w) records
+    → someAvailable (n .txns) w (n .entries) ≡ false
 
 -- after each step no waiting look-up has an available entry, and every deadline lies ahead
 pub record Settled (m : Model) : Type 0 where
@@ -55,4 +56,7 @@ isTicked a = eqb (a .kind) kindTicked
 
 -- whether a record closes a look-up of a party in a transaction: found, nothing, or the transaction's exception
 abbrev pub closes : ℕ → ℕ → Record → Bool
-closes p t a = eqb (a .party) p && eqb (a .txn .0) t && (eqb (a .kind) kindFound || eqb (a .kind) kindNothing || eqb (a .kind) kindException)
+closes p t a =
+    eqb (a .party) p
+    && eqb (a .txn .0) t
+    && (eqb (a .kind) kindFound || eqb (a .kind) kindNothing || eqb (a .kind) kindException)

@@ -9,7 +9,8 @@ use Rattle.rules.specs.declared.LookUp.{LookUp}
 use Rattle.rules.specs.declared.Record.{Record}
 use Rattle.rules.specs.declared.Txn.{Txn}
 use Rattle.rules.specs.declared.Until.{Until}
-use Rattle.rules.specs.Numbers.{kindWritten, kindFound, kindNothing, kindCreated, kindCommitted, kindAborted, kindException, kindTicked}
+use Rattle.rules.specs.Numbers.{kindWritten, kindFound, kindNothing, kindCreated, kindCommitted, kindAborted}
+use Rattle.rules.specs.Numbers.{kindException, kindTicked}
 use Rattle.rules.specs.Lists.{filterb}
 use Rattle.rules.specs.Time.{until}
 use Rattle.rules.specs.State.{Model, empty, withClock}
@@ -47,7 +48,8 @@ closing a = eqb (a .kind) kindFound || eqb (a .kind) kindNothing
 abbrev pub ending : Record → Bool
 ending a = eqb (a .kind) kindCommitted || eqb (a .kind) kindAborted || eqb (a .kind) kindException
 
--- whether a record is right by the book: a found or nothing names exactly one open look-up; numbers are counted, each from 1
+-- whether a record is right by the book: a found or nothing names exactly one open look-up; numbers are counted, each
+-- from 1
 abbrev pub rightly : Record → Book → Bool
 rightly a b =
     cond (closing a) (eqb (length (filterb (names a) (b .waiting))) 1)
@@ -65,7 +67,8 @@ liveAfter f a b =
 abbrev pub waitingAfter : Record → Book → List LookUp
 waitingAfter a b =
     cond (closing a) (filterb (λ w. not (names a w)) (b .waiting))
-    (cond (eqb (a .kind) kindException) (filterb (λ (w : LookUp). not (eqb (w .txn .0) (a .txn .0))) (b .waiting)) (b .waiting))
+    (cond (eqb (a .kind) kindException) (filterb (λ (w : LookUp). not (eqb (w .txn .0) (a .txn .0))) (b .waiting))
+    (b .waiting))
 
 unfoldable pub enters : Frame → Record → Book → Book
 enters f a b =
@@ -105,8 +108,8 @@ keepBook (l ∷ ls) b = let f = decode (l .frame) in keepBook ls (entersAll f (l
 unfoldable pub bookOf : List Logged → Book
 bookOf log = keepBook log newBook
 
--- every record is right by the book; and the space's clock, next numbers, live transactions and waiting look-ups are what frames and
--- records tell
+-- every record is right by the book; and the space's clock, next numbers, live transactions and waiting look-ups are
+-- what frames and records tell
 pub record Booked (b : Book) (m : Model) : Type 0 where
   pub right : b .right ≡ true
   pub clock : b .clock ≡ m .clock

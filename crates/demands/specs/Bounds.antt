@@ -1,4 +1,5 @@
--- What else holds of every space that frames make: capacities, numbers in order, two sentences on holds, and that records fit their bytes.
+-- What else holds of every space that frames make: capacities, numbers in order, two sentences on holds, and that
+-- records fit their bytes.
 use Prim.Native.Nat.{ℕ, _≤_, _<_}
 use mathlib.Core.Bool.{true, false}
 use mathlib.Core.Path.{_≡_}
@@ -35,7 +36,8 @@ pub record ByNumber (m : Model) : Type 0 where
 -- "no live transaction other than its own holds a read on it": what the rules tell by bits
 abbrev pub ReadByLive : Model → Type 0
 ReadByLive m = (e : Entry) (t : ℕ) → List·Memᴰ e (m .entries)
-    → (readByOther (m .txns) t e ≡ true) ↔ ((x : Txn) × List·Memᴰ x (m .txns) × (x .id .0 ≡ t → ⊥) × (bit (x .slot) (e .readers) ≡ true))
+    → (readByOther (m .txns) t e ≡ true)
+    ↔ ((x : Txn) × List·Memᴰ x (m .txns) × (x .id .0 ≡ t → ⊥) × (bit (x .slot) (e .readers) ≡ true))
 
 -- "T's own take hold makes an entry neither available nor conflicting."
 abbrev pub OwnTakeHold : Model → Type 0
@@ -66,4 +68,5 @@ pub record Bounds (S : Machine) : Type 0 where
   pub read-by-live : (log : List Logged) (t : S .State) → Made S log t → ReadByLive (S .view t)
   pub own-take-hold : (log : List Logged) (t : S .State) → Made S log t → OwnTakeHold (S .view t)
   -- where frames are bytes, every record of a history fits its 28 bytes
-  pub in-range : (log : List Logged) (t : S .State) → Made S log t → ((l : Logged) → List·Memᴰ l log → AreBytes (l .frame)) → AllInRange (recordsOf log)
+  pub in-range : (log : List Logged) (t : S .State) → Made S log t
+      → ((l : Logged) → List·Memᴰ l log → AreBytes (l .frame)) → AllInRange (recordsOf log)

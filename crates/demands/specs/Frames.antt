@@ -3,7 +3,9 @@ use Prim.Native.Nat.{ℕ, zero, suc}
 use mathlib.Core.List.{List, [], _∷_, _++_}
 use Rattle.rules.specs.declared.Fields.{Fields}
 use Rattle.rules.specs.declared.Record.{Record}
-use Rattle.rules.specs.Numbers.{opWrite, opRead, opTake, opReadIfExists, opTakeIfExists, opCreate, opCommit, opAbort, opTick, kindWritten, kindFound, kindNothing, kindWaiting, kindCreated, kindCommitted, kindAborted, kindException, kindTicked, kindRefused}
+use Rattle.rules.specs.Numbers.{opWrite, opRead, opTake, opReadIfExists, opTakeIfExists, opCreate, opCommit, opAbort}
+use Rattle.rules.specs.Numbers.{opTick, kindWritten, kindFound, kindNothing, kindWaiting, kindCreated, kindCommitted}
+use Rattle.rules.specs.Numbers.{kindAborted, kindException, kindTicked, kindRefused}
 use Rattle.rules.specs.Records.{noFields, plain, fourBytes}
 
 -- four fields

@@ -1,4 +1,5 @@
--- Histories: lists of frames handed in order, each to the space that the one before it left. Refused ones stand in them.
+-- Histories: lists of frames handed in order, each to the space that the one before it left. Refused ones stand in
+-- them.
 use mathlib.Core.List.{List, [], _∷_, map}
 use Prim.Native.Nat.{ℕ}
 use Rattle.rules.specs.declared.Record.{Record}

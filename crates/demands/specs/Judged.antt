@@ -20,7 +20,8 @@ pub record Judged (S : Machine) (t : S .State) (h : Handed) (u : S .State) (a : 
   pub one-record : (a .number ≡ 0 → ⊥) → (a .number ≡ areaRefused → ⊥) → a .records ≡ refused (h .frame) (a .number) ∷ []
   pub no-record : a .number ≡ areaRefused → a .records ≡ []
   pub too-short : (a .number ≡ areaRefused) ↔ (length (h .area) < stepArea)
-  -- the area keeps its length; the records' bytes stand in front, and every byte after the last record keeps its contents
+  -- the area keeps its length; the records' bytes stand in front, and every byte after the last record keeps its
+  -- contents
   pub same-length : length (a .area) ≡ length (h .area)
   pub written : take (recordSize * length (a .records)) (a .area) ≡ answerBytes (a .records)
   pub kept : drop (recordSize * length (a .records)) (a .area) ≡ drop (recordSize * length (a .records)) (h .area)

@@ -14,8 +14,8 @@ pub record Handed : Type 0 where
   pub frame : List ℕ
   pub area : List ℕ
 
--- its states, how a state is read as document 01's tables, which states are empty, and what a frame does: the state after it, and what is
--- answered
+-- its states, how a state is read as document 01's tables, which states are empty, and what a frame does: the state
+-- after it, and what is answered
 pub record Machine : Type 1 where
   pub State : Type 0
   pub view : State → Model
@@ -37,7 +37,8 @@ unfoldable pub answeredBy : Outcome → List ℕ → Answered
 answeredBy o area =
     record { records = o .records; count = length (o .records); number = o .number; area = areaAfter (o .records) area }
 
--- the space whose frames do what a function says, by a free choice, to a model, a frame and the length of the answers area
+-- the space whose frames do what a function says, by a free choice, to a model, a frame and the length of the answers
+-- area
 abbrev pub Stepper : Type 0
 Stepper = (ℕ → ℕ) → Model → List ℕ → ℕ → Outcome
 

@@ -27,14 +27,19 @@ pub data Out {A : Type 0} (x : A) : List A → List A → Type 0 where
 pub data Event (f : Frame) : Model → Record → Model → Type 0 where
   writes : (m : Model) → isWrite (f .op) ≡ true → Event f m (written f (m .nextEntry)) (stored m f)
   -- found: the entry is stored and available just then; the look-up waits no longer
-  is-found : (m : Model) (w : LookUp) (e : Entry) (ws : List LookUp) → Out w (m .waits) ws → List·Memᴰ e (m .entries) → available (m .txns) w e ≡ true
+  is-found : (m : Model) (w : LookUp) (e : Entry) (ws : List LookUp) → Out w (m .waits) ws
+      → List·Memᴰ e (m .entries) → available (m .txns) w e ≡ true
       → Event f m (found w e) (withEntries (handOut (m .txns) w e (m .entries)) (withWaits ws m))
-  -- nothing: no entry is available just then; and the deadline is reached, or it is an IfExists look-up just asked and none conflicts
-  is-nothing : (m : Model) (w : LookUp) (ws : List LookUp) → Out w (m .waits) ws → someAvailable (m .txns) w (m .entries) ≡ false
-      → (reached (m .clock) (w .deadline) ≡ true) ⊎ ((w ≡ lookUpOf m f) × (w .«if_exists» ≡ true) × (someConflicts (m .txns) w (m .entries) ≡ false))
+  -- nothing: no entry is available just then; and the deadline is reached, or it is an IfExists look-up just asked
+  -- and none conflicts
+  is-nothing : (m : Model) (w : LookUp) (ws : List LookUp) → Out w (m .waits) ws
+      → someAvailable (m .txns) w (m .entries) ≡ false
+      → (reached (m .clock) (w .deadline) ≡ true)
+      ⊎ ((w ≡ lookUpOf m f) × (w .«if_exists» ≡ true) × (someConflicts (m .txns) w (m .entries) ≡ false))
       → Event f m (nothing w) (withWaits ws m)
   -- waiting: it stays, since none is available, its deadline lies ahead, and for an IfExists kind some entry conflicts
-  is-waiting : (m : Model) (w : LookUp) → List·Memᴰ w (m .waits) → w ≡ lookUpOf m f → someAvailable (m .txns) w (m .entries) ≡ false
+  is-waiting : (m : Model) (w : LookUp) → List·Memᴰ w (m .waits) → w ≡ lookUpOf m f
+      → someAvailable (m .txns) w (m .entries) ≡ false
       → reached (m .clock) (w .deadline) ≡ false
       → (w .«if_exists» ≡ true → someConflicts (m .txns) w (m .entries) ≡ true)
       → Event f m (waiting w) m
@@ -43,7 +48,8 @@ pub data Event (f : Frame) : Model → Record → Model → Type 0 where
   aborts : (m : Model) → isAbort (f .op) ≡ true → Event f m (aborted f) (abort (f .txn) m)
   ticks : (m : Model) → Event f m ticked (withClock (m .clock + 1) m)
   -- exception: its transaction is live and ends just then
-  excepts : (m : Model) (t : Txn) → List·Memᴰ t (m .txns) → reached (m .clock) (t .end) ≡ true → Event f m (exception t) (abort (t .id .0) m)
+  excepts : (m : Model) (t : Txn) → List·Memᴰ t (m .txns) → reached (m .clock) (t .end) ≡ true
+      → Event f m (exception t) (abort (t .id .0) m)
 
 -- without a record, entries that end now are removed
 pub data Moments (f : Frame) : Model → List Record → Model → Type 0 where

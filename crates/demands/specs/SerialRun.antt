@@ -12,7 +12,8 @@ use Rattle.rules.specs.declared.Until.{Until}
 use Rattle.rules.specs.Lists.{filterb, anyb}
 use Rattle.rules.specs.State.{Model}
 use Rattle.rules.specs.Time.{until, reached}
-use Rattle.rules.specs.Numbers.{kindWritten, kindFound, kindCommitted, kindAborted, kindException, kindTicked, kindRefused}
+use Rattle.rules.specs.Numbers.{kindWritten, kindFound, kindCommitted, kindAborted, kindException, kindTicked}
+use Rattle.rules.specs.Numbers.{kindRefused}
 use Rattle.rules.specs.Frame.{Frame, decode, isLookUp, isTake}
 use Rattle.rules.specs.Transactions.{privateTo}
 use Rattle.demands.specs.History.{Logged}
@@ -140,12 +141,18 @@ advanced r =
       succeeds = r .succeeds;
     }
 
+-- "adds the record's number, the frame's fields and the end, which is the run's clock at this record plus the frame's
+-- lease, or never for FOREVER"
+abbrev pub writtenBy : Frame → Record → ℕ → Kept
+writtenBy f a clock = record { number = a .entry .0; fields = f .fields; end = until clock (f .leaseOrTimeout) }
+
 -- one record of a frame
 unfoldable pub follow : Frame → Record → Run → Run
 follow f a r =
     cond (eqb (a .kind) kindWritten)
-    (perform (a .txn .0) (adds (record { number = a .entry .0; fields = f .fields; end = until (r .clock) (f .leaseOrTimeout) })) r)
-    (cond (eqb (a .kind) kindFound) (perform (a .txn .0) (finds (lastTakes (a .party) (r .asked)) (a .entry .0) (a .fields)) r)
+    (perform (a .txn .0) (adds (writtenBy f a (r .clock))) r)
+    (cond (eqb (a .kind) kindFound)
+    (perform (a .txn .0) (finds (lastTakes (a .party) (r .asked)) (a .entry .0) (a .fields)) r)
     (cond (eqb (a .kind) kindCommitted) (carryOutAll (listOf (a .txn .0) r) (thrownAway (a .txn .0) r))
     (cond (eqb (a .kind) kindAborted || eqb (a .kind) kindException) (thrownAway (a .txn .0) r)
     (cond (eqb (a .kind) kindTicked) (advanced r) r))))
@@ -203,8 +210,8 @@ distinct (n ∷ ns) = not (anyb (eqb n) ns) && distinct ns
 abbrev pub numbersOf : List Kept → List ℕ
 numbersOf ks = map (λ (k : Kept). k .number) ks
 
--- the run succeeds, no number is taken by two operations carried out, and what is left equals the committed entries in numbers, fields
--- and ends, each number once on either side
+-- the run succeeds, no number is taken by two operations carried out, and what is left equals the committed entries
+-- in numbers, fields and ends, each number once on either side
 pub record Serial (r : Run) (m : Model) : Type 0 where
   pub succeeds : r .succeeds ≡ true
   pub taken-once : distinct (r .taken) ≡ true

@@ -1,4 +1,5 @@
--- Demand 2, who holds what: told from frames and records alone, by the serial run's set and the live transactions' lists.
+-- Demand 2, who holds what: told from frames and records alone, by the serial run's set and the live transactions'
+-- lists.
 use Prim.Native.Nat.{ℕ, _<_}
 use mathlib.Core.Bool.{Bool, true, false, not, cond, _&&_}
 use mathlib.Core.Path.{_≡_}
@@ -32,15 +33,19 @@ unfoldable pub whoTakes : ℕ → Run → List ℕ
 whoTakes n r = map (λ (p : Pending). p .txn) (filterb (λ (p : Pending). takesNumber n (p .operation)) (r .pending))
 
 unfoldable pub whoReads : ℕ → Run → List ℕ
-whoReads n r = filterb (λ t. not (anyb (eqb t) (whoTakes n r))) (map (λ (p : Pending). p .txn) (filterb (λ (p : Pending). readsNumber n (p .operation)) (r .pending)))
+whoReads n r =
+    filterb (λ t. not (anyb (eqb t) (whoTakes n r)))
+    (map (λ (p : Pending). p .txn) (filterb (λ (p : Pending). readsNumber n (p .operation)) (r .pending)))
 
 unfoldable pub committedTold : Run → Kept → Told
-committedTold r k = record { kept = k; «private_to» = 0; takers = whoTakes (k .number) r; readers = whoReads (k .number) r }
+committedTold r k =
+    record { kept = k; «private_to» = 0; takers = whoTakes (k .number) r; readers = whoReads (k .number) r }
 
 -- what a live transaction has written and not taken
 unfoldable pub privateTold : Run → Pending → List Told
 privateTold r p = elim (p .operation) [
-  | adds k ↦ cond (anyb (eqb (p .txn)) (whoTakes (k .number) r)) [] (record { kept = k; «private_to» = p .txn; takers = []; readers = [] } ∷ [])
+  | adds k ↦ cond (anyb (eqb (p .txn)) (whoTakes (k .number) r)) []
+      (record { kept = k; «private_to» = p .txn; takers = []; readers = [] } ∷ [])
   | finds takes n x ↦ []
 ]
 
@@ -60,4 +65,5 @@ pub record AsTold (ts : List Txn) (e : Entry) (x : Told) : Type 0 where
 pub record Explained (r : Run) (m : Model) : Type 0 where
   pub stored-told : (e : Entry) → List·Memᴰ e (m .entries) → (x : Told) × List·Memᴰ x (told r) × AsTold (m .txns) e x
   pub told-stored : (x : Told) → List·Memᴰ x (told r) → (e : Entry) × List·Memᴰ e (m .entries) × AsTold (m .txns) e x
-  pub holders-live : (e : Entry) (p : ℕ) → List·Memᴰ e (m .entries) → bit p (e .readers) ≡ true → (t : Txn) × List·Memᴰ t (m .txns) × (t .slot ≡ p)
+  pub holders-live : (e : Entry) (p : ℕ) → List·Memᴰ e (m .entries) → bit p (e .readers) ≡ true
+      → (t : Txn) × List·Memᴰ t (m .txns) × (t .slot ≡ p)

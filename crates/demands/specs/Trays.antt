@@ -1,4 +1,5 @@
--- A tray's run is a history of the rules; its records fit its area; its 64-bit number is read back uniquely; records' bytes tell them.
+-- A tray's run is a history of the rules; its records fit its area; its 64-bit number is read back uniquely; records'
+-- bytes tell them.
 use Prim.Native.Nat.{ℕ, suc, _+_, _-_, _*_, _/_, _%_, _≤_, _<_}
 use mathlib.Core.Path.{_≡_}
 use mathlib.Core.Logic.{_⊎_}
@@ -15,11 +16,12 @@ use Rattle.demands.specs.Machine.{Handed, Stepped, theRules}
 use Rattle.demands.specs.History.{Logged, logged, recordsOf, History}
 use Rattle.demands.specs.Bounds.{AllInRange}
 
--- the frames are handed in one after another, each with its own choice and with the part of the answers area that the records before it
--- left, as it stands then
+-- the frames are handed in one after another, each with its own choice and with the part of the answers area that the
+-- records before it left, as it stands then
 pub data HandedIn : (ℕ → ℕ → ℕ) → Model → List ℕ → List (List ℕ) → List Logged → Model → Type 0 where
   none-left : (choices : ℕ → ℕ → ℕ) (m : Model) (area : List ℕ) → HandedIn choices m area [] [] m
-  one-more : (choices : ℕ → ℕ → ℕ) {m n o : Model} {area frame : List ℕ} {frames : List (List ℕ)} {log : List Logged} (a : Answered)
+  one-more : (choices : ℕ → ℕ → ℕ) {m n o : Model} {area frame : List ℕ} {frames : List (List ℕ)} {log : List Logged}
+      (a : Answered)
       (s : Stepped step m (record { frame = frame; area = area }) n a)
       → s .choice ≡ choices 0
       → HandedIn (λ i. choices (suc i)) n (drop (recordSize * length (a .records)) (a .area)) frames log o

@@ -1,5 +1,5 @@
--- What the demands rule out: a small wrong space for each of document 01's Contracts c and for each mistake that students make, and the
--- statement that the demand named for it fails.
+-- What the demands rule out: a small wrong space for each of document 01's Contracts c and for each mistake that
+-- students make, and the statement that the demand named for it fails.
 use Prim.Native.Nat.{ℕ, suc, _+_}
 use mathlib.Core.Bool.{Bool, not, cond, _&&_, _||_}
 use mathlib.Core.Path.{_≡_}
@@ -55,7 +55,8 @@ sameRecord choice m bs area = record { model = step choice m bs area .model; rec
 -- stores nothing: a write is answered, and its number used up, and no more
 unfoldable pub storesNothing : Stepper
 storesNothing =
-    carrying (λ f. isWrite (f .op)) (λ choice m f. record { model = withNextEntry (m .nextEntry + 1) m; records = written f (m .nextEntry) ∷ [] })
+    carrying (λ f. isWrite (f .op))
+    (λ choice m f. record { model = withNextEntry (m .nextEntry + 1) m; records = written f (m .nextEntry) ∷ [] })
 
 -- works on the first frame only: once a number has been given out, every frame is refused
 unfoldable pub firstFrameOnly : Stepper
@@ -96,24 +97,32 @@ then first second m =
     record { model = b .model; records = a .records ++ b .records }
 
 -- puts an entry back on abort after its lease ended: what is take-held is not dropped when its lease ends
+abbrev pub dropFree : Model → Model
+dropFree m = withEntries (filterb (λ e. not (reached (m .clock) (e .end)) || not (takenBy 0 e)) (m .entries)) m
+
 unfoldable pub putsBackLate : Stepper
 putsBackLate =
     carrying (λ f. isTick (f .op))
-    (λ choice m f. tickWith (λ n. withEntries (filterb (λ e. not (reached (n .clock) (e .end)) || not (takenBy 0 e)) (n .entries)) n) (then (service choice) closeWaits) m)
+    (λ choice m f. tickWith dropFree (then (service choice) closeWaits) m)
 
 -- lets a transaction's own read bar its own take
+abbrev pub unreadByAny : LookUp → Entry → Bool
+unreadByAny w e =
+    matches (w .mask) (w .fields) (e .fields) && visible (w .txn .0) e && not (w .takes && not (eqb (e .readers) 0))
+
 unfoldable pub ownReadBars : Stepper
 ownReadBars =
     carrying lookUps
     (λ choice m f. let w = lookUpOf m f in
     answer m w (f .leaseOrTimeout)
-    (pick (choice (w .party)) (filterb (λ (e : Entry). matches (w .mask) (w .fields) (e .fields) && visible (w .txn .0) e && not (w .takes && not (eqb (e .readers) 0))) (m .entries))))
+    (pick (choice (w .party)) (filterb (unreadByAny w) (m .entries))))
 
 -- gives nothing before service in the tick of the deadline
 unfoldable pub nothingFirst : Stepper
 nothingFirst = carrying (λ f. isTick (f .op)) (λ choice m f. tickWith dropEnded (then closeWaits (service choice)) m)
 
--- shows another's private entry to a waiting look-up: the first that waits is handed what is written inside a transaction
+-- shows another's private entry to a waiting look-up: the first that waits is handed what is written inside a
+-- transaction
 abbrev pub shown : Entry → Model → List LookUp → Done
 shown e m [] = quiet m
 shown e m (w ∷ ws) =
