@@ -14,8 +14,8 @@ use Rattle.rules.specs.Records.{noFields, fourBytes, recordBytes}
 use Rattle.rules.specs.Step.{step}
 use Rattle.rules.specs.Tray.{runTray, hostNumber}
 use Rattle.rules.specs.Print.{digits, line, recordLine, doneLine, printed}
-use Rattle.demands.specs.Frames.{F, E, long, write-by, read-by, take-by, create-by, commit-by, a-tick, times}
-use Rattle.demands.specs.Frames.{Written, Found, Created, Committed, Exception, Ticked, Refused}
+use Rattle.demands.specs.Frames.{F, E, long, write-by, read-by, take-by, create-by, commit-by, abort-by, a-tick, times}
+use Rattle.demands.specs.Frames.{Written, Found, Nothing, Created, Committed, Aborted, Exception, Ticked, Refused}
 use Rattle.demands.specs.Course.{answersFrom, answers, Starred}
 use Rattle.demands.proofs.Computed.{all-rules, all-trays}
 
@@ -163,8 +163,54 @@ refusals =
       r16-past = refl;
     }
 
--- mistakes that students make (an entry put back after its lease ended is C7, one's own read barring one's own take C4)
+-- of several refusals that apply the first is given: a frame with two faults for each pair of neighbours
+pub record Precedence : Type 0 where
+  pub r1-before-2 : oneAnswer empty [] 699 ≡ ([], 1)
+  pub r2-before-3 : Refuses empty (10 ∷ []) 2
+  pub r3-before-4 : Refuses empty (9 ∷ 0 ∷ 0 ∷ 1 ∷ 0 ∷ []) 3
+  pub r4-before-5 : Refuses empty (9 ∷ 1 ∷ 1 ∷ 0 ∷ []) 4
+  pub r5-before-7 : Refuses empty (commit-by 0 1) 5
+  pub r6-before-7 : Refuses (withWaits (a-wait ∷ []) empty) (commit-by 1 1) 6
+  pub r7-before-10 : Refuses (withClock 1 empty) (write-by 1 1 4294967294 E) 7
+  pub r8-before-10 : later 2 first (create-by 1 9 ∷ a-tick ∷ write-by 2 1 4294967294 E ∷ [])
+      ≡ (Refused 2 8 ∷ []) ∷ []
+  pub r9-before-12 : later 8 first (times 8 (create-by 1 9) ++ (create-by 1 0 ∷ [])) ≡ (Refused 1 9 ∷ []) ∷ []
+  pub r10-before-12 : later 9 first (times 8 (create-by 1 9) ++ (a-tick ∷ create-by 1 4294967294 ∷ []))
+      ≡ (Refused 1 10 ∷ []) ∷ []
+  pub r10-before-13 : Refuses (withClock 1 (withNextEntry 4294967295 empty)) (write-by 1 0 4294967294 E) 10
+  pub r15-before-16 : trayAnswers first (fourBytes 1 ++ fourBytes 0) 65536 ≡ (4294967296 * 15, [])
+  -- 15 and 16 come before any area is looked at
+  pub r15-before-1 : trayAnswers first [] 0 ≡ (4294967296 * 15, [])
+  pub r16-before-1 : trayAnswers first (fourBytes 1 ++ fourBytes 11 ++ fourBytes 1) 0 ≡ (4294967296 * 16, [])
+
+precedence : Precedence
+unfolding all-trays answers answersFrom oneAnswer trayAnswers
+precedence =
+    record {
+      r1-before-2 = refl;
+      r2-before-3 = refl;
+      r3-before-4 = refl;
+      r4-before-5 = refl;
+      r5-before-7 = refl;
+      r6-before-7 = refl;
+      r7-before-10 = refl;
+      r8-before-10 = refl;
+      r9-before-12 = refl;
+      r10-before-12 = refl;
+      r10-before-13 = refl;
+      r15-before-16 = refl;
+      r15-before-1 = refl;
+      r16-before-1 = refl;
+    }
+
+-- the mistakes that students make, as histories that the rules answer rightly
 pub record Mistakes : Type 0 where
+  -- an entry is not put back on abort after its lease ended
+  pub put-back : later 4 first (write-by 1 0 1 E ∷ create-by 1 9 ∷ take-by 1 1 0 7 ∷ a-tick ∷ abort-by 1 1 ∷ read-by 2 0 0 7 ∷ [])
+      ≡ (Aborted 1 1 ∷ []) ∷ (Nothing 2 0 ∷ []) ∷ []
+  -- a transaction's own read does not bar its own take
+  pub own-read : later 3 first (write-by 1 0 9 E ∷ create-by 1 9 ∷ read-by 1 1 0 7 ∷ take-by 1 1 0 7 ∷ [])
+      ≡ (Found 1 1 1 E ∷ []) ∷ []
   -- service comes before nothing in the tick of the deadline: T1's abort by that tick serves the take
   pub nothing-last : later 4 first (write-by 1 0 9 E ∷ create-by 1 1 ∷ take-by 1 1 0 7 ∷ take-by 2 0 1 7 ∷ a-tick ∷ [])
       ≡ (Ticked ∷ Exception 1 1 ∷ Found 2 0 1 E ∷ []) ∷ []
@@ -174,7 +220,7 @@ pub record Mistakes : Type 0 where
 
 mistakes : Mistakes
 unfolding all-rules answers answersFrom
-mistakes = record { nothing-last = refl; private = refl }
+mistakes = record { put-back = refl; own-read = refl; nothing-last = refl; private = refl }
 
 -- the bytes of a record
 found-bytes : recordBytes (Found 2 0 1 (F 7 1 40 258))
