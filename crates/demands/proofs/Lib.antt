@@ -7,6 +7,7 @@ pub mod Carried
 pub mod Capacity
 pub mod Deadlines
 pub mod Leases
+pub mod Ends
 pub mod Trace
 pub mod Sound
 pub mod Numbers

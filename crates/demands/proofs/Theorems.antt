@@ -29,7 +29,7 @@ use Rattle.demands.specs.Book.{bookOf, Booked}
 use Rattle.demands.specs.Told.{Explained}
 use Rattle.demands.specs.SerialRun.{serialRun, Serial}
 use Rattle.demands.specs.Demands.{Demand1, Demand2, Demand3}
-use Rattle.demands.specs.Bounds.{Bounded, ByNumber, ReadByLive, OwnTakeHold, AreBytes, AllInRange, Bounds}
+use Rattle.demands.specs.Bounds.{Bounded, ByNumber, Timely, ReadByLive, OwnTakeHold, AreBytes, AllInRange, Bounds}
 use Rattle.demands.proofs.Runs.{Input, runs, made, answersTo}
 use Rattle.demands.proofs.Carried.{ByRule, Follows, space-follows, rules-follow, inputOf, RunTo, run-to, run-of}
 use Rattle.demands.proofs.Capacity.{bounded, step-fits}
@@ -43,6 +43,7 @@ use Rattle.demands.proofs.Deadlines.{OpenIn, deadlines-above}
 use Rattle.demands.proofs.InTime.{one-each, in-time, answersTo-cons}
 use Rattle.demands.proofs.NothingLeft.{nothing-left}
 use Rattle.demands.proofs.HoldSentences.{readers-are-live, own-take-hold}
+use Rattle.demands.proofs.Ends.{timely}
 use Rattle.demands.proofs.Ranges.{range-demand}
 use Rattle.demands.proofs.Booking.{book-demand}
 use Rattle.demands.proofs.Telling.{told-demand}
@@ -178,6 +179,7 @@ module _ (S : Machine) (f : Follows S) where
       record {
         capacities = λ log t r. of-made Bounded bounded r;
         by-number = λ log t r. of-made ByNumber numbers-ascend r;
+        timely = λ log t r. of-made Timely timely r;
         read-by-live = λ log t r. of-made ReadByLive readers-are-live r;
         own-take-hold = λ log t r. of-made OwnTakeHold own-take-hold r;
         in-range = λ log t r h.

@@ -10,7 +10,9 @@ use Rattle.rules.specs.declared.Entry.{Entry}
 use Rattle.rules.specs.declared.LookUp.{LookUp}
 use Rattle.rules.specs.declared.Record.{Record}
 use Rattle.rules.specs.declared.Txn.{Txn}
-use Rattle.rules.specs.Numbers.{maxEntries, maxTxns, maxWaits}
+use Rattle.rules.specs.declared.Until.{Until}
+use Rattle.rules.specs.declared.Until.the-variants.{Tick, Forever}
+use Rattle.rules.specs.Numbers.{maxEntries, maxTxns, maxWaits, lastClock}
 use Rattle.rules.specs.Template.{bit}
 use Rattle.rules.specs.State.{Model}
 use Rattle.rules.specs.Holds.{readByOther, available, conflicts}
@@ -44,6 +46,17 @@ abbrev pub OwnTakeHold : Model → Type 0
 OwnTakeHold m = (w : LookUp) (e : Entry) → List·Memᴰ e (m .entries) → 0 < w .txn .0 → e .«taken_by» .0 ≡ w .txn .0
     → (available (m .txns) w e ≡ false) × (conflicts (m .txns) w e ≡ false)
 
+-- the clock, and each end and deadline that is not FOREVER, are at most the last clock
+abbrev pub EndFits : Until → Type 0
+EndFits (Tick n) = n ≤ lastClock
+EndFits Forever = Unit {0}
+
+pub record Timely (m : Model) : Type 0 where
+  pub clock : m .clock ≤ lastClock
+  pub entries : (e : Entry) → List·Memᴰ e (m .entries) → EndFits (e .end)
+  pub txns : (t : Txn) → List·Memᴰ t (m .txns) → EndFits (t .end)
+  pub waits : (w : LookUp) → List·Memᴰ w (m .waits) → EndFits (w .deadline)
+
 -- a record's numbers fit their bytes
 pub record InRange (r : Record) : Type 0 where
   pub kind : r .kind < 256
@@ -65,6 +78,7 @@ AreBytes bs = (b : ℕ) → List·Memᴰ b bs → b < 256
 pub record Bounds (S : Machine) : Type 0 where
   pub capacities : (log : List Logged) (t : S .State) → Made S log t → Bounded (S .view t)
   pub by-number : (log : List Logged) (t : S .State) → Made S log t → ByNumber (S .view t)
+  pub timely : (log : List Logged) (t : S .State) → Made S log t → Timely (S .view t)
   pub read-by-live : (log : List Logged) (t : S .State) → Made S log t → ReadByLive (S .view t)
   pub own-take-hold : (log : List Logged) (t : S .State) → Made S log t → OwnTakeHold (S .view t)
   -- where frames are bytes, every record of a history fits its 28 bytes
