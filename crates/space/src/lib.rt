@@ -8,3 +8,4 @@ pub mod rows;
 mod service;
 mod sweep;
 mod time;
+mod txns;
