@@ -25,10 +25,9 @@ use Rattle.rules.specs.Step.{Outcome, stored, carriedOut, step, accepted, refus
 use Rattle.demands.specs.History.{Input, runs}
 use Rattle.demands.specs.Serial.{wasRefused}
 use Rattle.demands.specs.Claims.{ByNumber, ofParty, LiveTold, Book, newBook, isOf, enters, entersAll, withAsked, arrives, keepBook, bookOf, Booked, Book-demand, Out, here, there, asked, Event, writes, is-found, is-nothing, is-waiting, creates, commits, aborts, ticks, excepts, Moments, over, expires, says}
-use Rattle.rules.proofs.ListLaws.{count, count-cons, length-filter, filter-all, mem-filter, any-filter, all-false}
+use Rattle.rules.proofs.ListLaws.{count, count-cons, length-filter, filter-all, filter-filter, filter-pass, mem-filter}
 use Rattle.rules.proofs.StepCases.{cond-cases, step-cases}
 use Rattle.rules.proofs.RefusalLaws.{Clear, clear}
-use Rattle.demands.proofs.SerialOps.{filter-filter}
 use Rattle.demands.proofs.SerialRun.{look-up-taken}
 use Rattle.demands.proofs.Sound.{Sound, sound-step, sound-empty}
 use Rattle.demands.proofs.Numbers.{step-ascends, empty-ascends}
@@ -88,9 +87,7 @@ unfolding told
 ended t m h = ap (filterb (λ (x : LiveTold). not (eqb (x .number) t))) (h .live) ∙ filter-map (λ (x : LiveTold). not (eqb (x .number) t)) told (m .txns)
 
 all-pass : (t : ℕ) (ws : List LookUp) → ((w : LookUp) → List·Memᴰ w ws → w .txn .0 ≡ t → ⊥) → filterb (λ (w : LookUp). not (eqb (w .txn .0) t)) ws ≡ ws
-all-pass t ws h =
-    let inside : LookUp → Bool = λ w. eqb (w .txn .0) t in
-    none-passes inside ws (omega (arith, ap length (any-filter inside ws (all-false inside ws (λ w i. ne-eqb (w .txn .0) t (h w i))))))
+all-pass t ws h = filter-pass (λ w. not (eqb (w .txn .0) t)) ws (λ w i. ap not (ne-eqb (w .txn .0) t (h w i)))
 
 itself : (w : LookUp) → (eqb (w .party) (w .party) && eqb (w .txn .0) (w .txn .0)) ≡ true
 itself w = ap₂ (λ p q. p && q) (eq-eqb (w .party) (w .party) refl) (eq-eqb (w .txn .0) (w .txn .0) refl)

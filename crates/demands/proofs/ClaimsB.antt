@@ -33,7 +33,6 @@ use Rattle.demands.specs.History.{Input, Logged, runs, made}
 use Rattle.demands.specs.Demands.{AnsweredNow, Later, waits-on, gets-found, gets-nothing, gets-exception}
 use Rattle.demands.specs.Claims.{ofParty, OneEach, answersTo, isTicked, closes, InTime}
 use Rattle.rules.proofs.ListLaws.{length-filter, filter-append, any-filter, mem-any, any-append}
-use Rattle.demands.proofs.SerialOps.{filter-filter}
 use Rattle.rules.proofs.StepCases.{bool-cases, cond-cases, step-cases, done-cases, serve-ind}
 use Rattle.rules.proofs.RefusalLaws.{Clear, clear}
 use Rattle.demands.proofs.Reach.{made-keep}

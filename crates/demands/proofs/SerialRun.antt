@@ -27,8 +27,8 @@ use Rattle.demands.specs.History.{Input, runs}
 use Rattle.demands.specs.Serial.{Kept, Operation, Run, start, perform, listOf, thrownAway, lastTakes, advanced, follow, followAll, wasRefused, noteLookUp, followLog, serialRun, left}
 use Rattle.demands.specs.Demands.{keptOf, committedIn, distinct, numbersOf, Demand3}
 use Rattle.demands.specs.Claims.{NumbersAscend}
-use Rattle.rules.proofs.ListLaws.{mem-filter, filter-mem, any-mem, none-mem, count, count-cons, count-mem, count-map, count-filter}
-use Rattle.demands.proofs.SerialOps.{isNumber, filter-same}
+use Rattle.rules.proofs.ListLaws.{mem-filter, filter-mem, any-mem, none-mem, count, count-cons, count-mem, count-map, count-filter, filter-same}
+use Rattle.demands.proofs.SerialOps.{isNumber}
 use Rattle.demands.proofs.Numbers.{eqb-sym, numbers-ascend, committed-distinct}
 use Rattle.rules.proofs.StepCases.{bool-cases, cond-cases, step-cases}
 use Rattle.demands.proofs.LookUpLaws.{carriedOut-lookUp}

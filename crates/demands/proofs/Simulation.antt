@@ -22,9 +22,9 @@ use Rattle.rules.specs.Transactions.{create, commit, abort}
 use Rattle.rules.specs.Tick.{dropEnded}
 use Rattle.rules.specs.Step.{stored}
 use Rattle.demands.specs.Serial.{Kept, Operation, adds, finds, Pending, Run, isKept, withPending, failed, taking, carryOut, carryOutAll, perform, listOf, thrownAway, lastTakes, advanced, follow}
-use Rattle.rules.proofs.ListLaws.{filter-append, count, count-append, count-cons, count-filter, count-map}
+use Rattle.rules.proofs.ListLaws.{filter-append, count, count-append, count-cons, count-filter, count-map, filter-filter, filter-same}
 use Rattle.rules.proofs.StepCases.{bool-cases, cond-cases}
-use Rattle.demands.proofs.SerialOps.{after, afterAll, CanOne, carryOut-can, carryOutAll-can, filter-filter, filter-same, total, addsIt, total-carryOut, total-carryOutAll}
+use Rattle.demands.proofs.SerialOps.{after, afterAll, CanOne, carryOut-can, carryOutAll-can, total, addsIt, total-carryOut, total-carryOutAll}
 use Rattle.demands.proofs.Trace.{Live, Asks, Silent, expires, leaves, Event, writes, finds as finds-event, gives-nothing, waits, creates, commits, aborts, excepts, ticks}
 use Rattle.demands.proofs.Sound.{Sound, asks-below}
 use Rattle.demands.proofs.Agreement.{Agree}
