@@ -1,6 +1,6 @@
 -- Aborting again changes nothing; so the transactions that end now may be aborted one by one, the first that is left each time.
 use Prim.Native.Nat.{ℕ, _<_}
-use mathlib.Core.Bool.{Bool, true, false, cond, not}
+use mathlib.Core.Bool.{true, false, cond, not}
 use mathlib.Core.Logic.{_⊎_, inl, inr}
 use mathlib.Core.Option.{none}
 use mathlib.Core.Path.{_≡_, refl, sym, ap, ap₂, _∙_, subst}
@@ -13,11 +13,11 @@ use Rattle.rules.specs.declared.Entry.{Entry}
 use Rattle.rules.specs.declared.Txn.{Txn}
 use Rattle.rules.specs.declared.TxnId.{TxnId}
 use Rattle.rules.specs.declared.LookUp.{LookUp}
-use Rattle.rules.specs.Lists.{filterb, findb}
+use Rattle.rules.specs.Lists.{filterb}
 use Rattle.rules.specs.Time.{reached}
 use Rattle.rules.specs.State.{Model, withEntries, withTxns, withWaits}
-use Rattle.rules.specs.Holds.{liveTxn, dropReaderOf}
-use Rattle.rules.specs.Transactions.{noTxn, privateTo, takenBy, released, withoutTxn, abort}
+use Rattle.rules.specs.Holds.{liveTxn}
+use Rattle.rules.specs.Transactions.{noTxn, privateTo, released, withoutTxn, abort}
 use Rattle.rules.specs.Tick.{endedTxns, abortAll}
 use Rattle.rules.proofs.ListLaws.{mem-filter, filter-pass, filter-comm, find-fail, map-same, length-split, count-mem}
 use Rattle.rules.proofs.StepCases.{cond-cases, bool-cases}
