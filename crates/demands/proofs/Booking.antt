@@ -9,6 +9,7 @@ use native.Mathlib.Nat.{le-trans}
 use borrow.Author.Tests.{eqb-true, eq-eqb, ne-eqb}
 use lib.Dec.{eqb}
 use lib.ListN.{length}
+use Rattle.rules.proofs.ListLaws.{filter-filter, filter-pass}
 use Rattle.rules.specs.declared.Record.{Record}
 use Rattle.rules.specs.declared.Txn.{Txn}
 use Rattle.rules.specs.declared.LookUp.{LookUp}
@@ -34,7 +35,6 @@ use Rattle.demands.specs.Moments.{commits, aborts, ticks, excepts, Momen
 use Rattle.rules.proofs.ListLaws.{count, count-cons, length-filter, filter-all, mem-filter, any-filter, all-false}
 use Rattle.rules.proofs.StepCases.{cond-cases, step-cases}
 use Rattle.rules.proofs.RefusalLaws.{Clear, clear}
-use Rattle.demands.proofs.SerialOps.{filter-filter}
 use Rattle.demands.proofs.Serializing.{look-up-taken}
 use Rattle.demands.proofs.Sound.{Sound, sound-step, sound-empty}
 use Rattle.demands.proofs.Numbers.{step-ascends, empty-ascends}
@@ -94,9 +94,7 @@ unfolding told
 ended t m h = ap (filterb (λ (x : LiveTold). not (eqb (x .number) t))) (h .live) ∙ filter-map (λ (x : LiveTold). not (eqb (x .number) t)) told (m .txns)
 
 all-pass : (t : ℕ) (ws : List LookUp) → ((w : LookUp) → List·Memᴰ w ws → w .txn .0 ≡ t → ⊥) → filterb (λ (w : LookUp). not (eqb (w .txn .0) t)) ws ≡ ws
-all-pass t ws h =
-    let inside : LookUp → Bool = λ w. eqb (w .txn .0) t in
-    none-passes inside ws (omega (arith, ap length (any-filter inside ws (all-false inside ws (λ w i. ne-eqb (w .txn .0) t (h w i))))))
+all-pass t ws h = filter-pass (λ w. not (eqb (w .txn .0) t)) ws (λ w i. ap not (ne-eqb (w .txn .0) t (h w i)))
 
 itself : (w : LookUp) → (eqb (w .party) (w .party) && eqb (w .txn .0) (w .txn .0)) ≡ true
 itself w = ap₂ (λ p q. p && q) (eq-eqb (w .party) (w .party) refl) (eq-eqb (w .txn .0) (w .txn .0) refl)

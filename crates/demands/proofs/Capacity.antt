@@ -22,35 +22,18 @@ use Rattle.rules.specs.Records.{written, committed, aborted, exception, nothing
 use Rattle.rules.specs.LookUp.{Done, lookUpOf, givesNothing, mustWait, removes, isEntry, marked, handOut, answer}
 use Rattle.rules.specs.LookUp.{answerFound, answerNothing, answerWaiting, lookUp}
 use Rattle.rules.specs.Transactions.{create, released, withoutTxn, commit, abort}
-use Rattle.rules.specs.Service.{Served, serve, service}
+use Rattle.rules.specs.Service.{service}
 use Rattle.rules.specs.Tick.{endedTxns, abortAll, dropEnded, closeWaits, tick}
 use Rattle.rules.specs.Refusals.{entriesFull, txnsFull, waitsFull}
 use Rattle.rules.specs.Step.{Outcome, newEntry, stored, write, commitFrame, abortFrame, step, accepted, refusedWith}
 use Rattle.demands.proofs.Runs.{Input, made}
 use Rattle.demands.specs.Bounds.{Bounded}
 use Rattle.rules.proofs.ListLaws.{length-filter}
-use Rattle.rules.proofs.StepCases.{and-false-right, cond-cases, step-cases, done-cases, serve-ind}
+use Rattle.rules.proofs.StepCases.{and-false-right, cond-cases, step-cases, done-cases}
+use Rattle.rules.proofs.ServeLength.{handOut-length, serve-length}
 use Rattle.rules.proofs.RefusalLaws.{clear}
 use Rattle.demands.proofs.Runs.{made-keep}
 use Rattle.demands.proofs.Unavailable.{pick-nothing}
-
-handOut-length : (ts : List Txn) (w : LookUp) (e : Entry) (es : List Entry) → length (handOut ts w e es) ≤ length es
-unfolding handOut
-handOut-length ts w e es =
-    cond-cases (λ (l : List Entry). length l ≤ length es) (removes w e) (λ q. length-filter (λ x. not (isEntry e x)) es) (λ q. omega (arith, length-map es (λ x. cond (isEntry e x) (marked ts w x) x)))
-
--- each look-up is answered or waits on
-pub record ServeLength (es : List Entry) (ws : List LookUp) (r : Served) : Type 0 where
-  pub entries : length (r .entries) ≤ length es
-  pub waits : length (r .waits) + length (r .records) ≡ length ws
-
-serve-length : (choice : ℕ → ℕ) (ts : List Txn) (es : List Entry) (ws : List LookUp) → ServeLength es ws (serve choice ts es ws)
-serve-length choice ts es ws =
-    serve-ind choice ts ServeLength (λ es. record { entries = omega arith; waits = refl })
-    (λ es w ws q below. record { entries = below .entries; waits = omega (arith, below .waits) })
-    (λ es w ws x q below. record { entries = omega (arith, below .entries, handOut-length ts w x es); waits = omega (arith, below .waits) })
-    es
-    ws
 
 -- a step's new tables and records
 pub record Fits (d : Done) : Type 0 where

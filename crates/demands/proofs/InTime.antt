@@ -40,7 +40,6 @@ use Rattle.demands.specs.Answers.{ofParty, OneEach, isTicked, closes}
 use Rattle.demands.specs.History.{recordsOf}
 use Rattle.demands.proofs.Runs.{answersTo}
 use Rattle.rules.proofs.ListLaws.{length-filter, filter-append, any-filter, mem-any, any-append}
-use Rattle.demands.proofs.SerialOps.{filter-filter}
 use Rattle.rules.proofs.StepCases.{bool-cases, cond-cases, step-cases, done-cases, serve-ind}
 use Rattle.rules.proofs.RefusalLaws.{Clear, clear}
 use Rattle.demands.proofs.Runs.{made-keep}

@@ -30,7 +30,8 @@ use Rattle.demands.specs.SerialRun.{follow, followAll, wasRefused, noteL
 use Rattle.demands.specs.SerialRun.{keptOf, committedIn, distinct, numbersOf, Serial}
 use Rattle.rules.proofs.ListLaws.{mem-filter, filter-mem, any-mem, none-mem, count, count-cons, count-mem, count-map}
 use Rattle.rules.proofs.ListLaws.{count-filter}
-use Rattle.demands.proofs.SerialOps.{isNumber, filter-same}
+use Rattle.rules.proofs.ListLaws.{filter-same}
+use Rattle.demands.proofs.SerialOps.{isNumber}
 use Rattle.demands.proofs.Numbers.{eqb-sym, numbers-ascend, committed-distinct}
 use Rattle.rules.proofs.StepCases.{bool-cases, cond-cases, step-cases}
 use Rattle.demands.proofs.LookUpLaws.{carriedOut-lookUp}

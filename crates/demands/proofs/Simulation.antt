@@ -26,8 +26,9 @@ use Rattle.demands.specs.SerialRun.{taking, carryOut, carryOutAll, perfo
 use Rattle.demands.specs.SerialRun.{advanced, follow}
 use Rattle.rules.proofs.ListLaws.{filter-append, count, count-append, count-cons, count-filter, count-map}
 use Rattle.rules.proofs.StepCases.{bool-cases, cond-cases}
-use Rattle.demands.proofs.SerialOps.{after, afterAll, CanOne, carryOut-can, carryOutAll-can, filter-filter}
-use Rattle.demands.proofs.SerialOps.{filter-same, total, addsIt, total-carryOut, total-carryOutAll}
+use Rattle.rules.proofs.ListLaws.{filter-filter, filter-same}
+use Rattle.demands.proofs.SerialOps.{after, afterAll, CanOne, carryOut-can, carryOutAll-can}
+use Rattle.demands.proofs.SerialOps.{total, addsIt, total-carryOut, total-carryOutAll}
 use Rattle.demands.proofs.Trace.{Live, Asks, Silent, expires, leaves, Event, writes, finds as finds-event}
 use Rattle.demands.proofs.Trace.{gives-nothing, waits, creates, commits, aborts, excepts, ticks}
 use Rattle.demands.proofs.Sound.{Sound, asks-below}

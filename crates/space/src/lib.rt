@@ -1,4 +1,5 @@
 // The space: one lent array of words, and what each frame does to it.
+mod answers;
 mod endings;
 mod holds;
 mod live;
@@ -6,3 +7,5 @@ mod records;
 pub mod rows;
 mod service;
 mod sweep;
+mod time;
+mod txns;
