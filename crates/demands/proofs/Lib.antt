@@ -4,7 +4,7 @@
 pub mod Runs
 pub mod Carried
 -- what holds of every space that frames make of the empty one
-pub mod Capacity
+pub mod Capacities
 pub mod Deadlines
 pub mod Leases
 pub mod Ends

@@ -29,10 +29,12 @@ use Rattle.demands.specs.Book.{bookOf, Booked}
 use Rattle.demands.specs.Told.{Explained}
 use Rattle.demands.specs.SerialRun.{serialRun, Serial}
 use Rattle.demands.specs.Demands.{Demand1, Demand2, Demand3}
-use Rattle.demands.specs.Bounds.{Bounded, ByNumber, Timely, ReadByLive, OwnTakeHold, AreBytes, AllInRange, Bounds}
+use Rattle.rules.specs.State.{Bounded}
+use Rattle.demands.specs.Bounds.{ByNumber, Timely, ReadByLive, OwnTakeHold, AreBytes, AllInRange, Bounds}
 use Rattle.demands.proofs.Runs.{Input, runs, made, answersTo}
 use Rattle.demands.proofs.Carried.{ByRule, Follows, space-follows, rules-follow, inputOf, RunTo, run-to, run-of}
-use Rattle.demands.proofs.Capacity.{bounded, step-fits}
+use Rattle.rules.proofs.Capacity.{step-fits}
+use Rattle.demands.proofs.Capacities.{bounded}
 use Rattle.demands.proofs.Judging.{refusal-fits, number-is, one-is, refused-record, no-record, area-length}
 use Rattle.demands.proofs.Judging.{area-front, area-rest}
 use Rattle.demands.proofs.LookUpLaws.{answered-now}
@@ -59,7 +61,7 @@ records-room choice m bs area b = go (bool-cases (ltb area 700))
         omega (arith, ap (λ (rs : List Record). length rs) none)
     go (inr t) =
         let l = ltb-false area 700 t in
-        omega (arith, step-fits (record { frame = bs; area = area; choice = choice }) m b .1)
+        omega (arith, step-fits choice m bs area b .1)
 
 -- what holds of the frames of a log holds of the frames handed in
 frames-in : (m : Model) (is : List Input) (P : List ℕ → Type 0) → ((l : Logged) → List·Memᴰ l (runs m is .log) → P (l .frame))
@@ -156,7 +158,7 @@ module _ (S : Machine) (f : Follows S) where
             (nothing-left (S .view t) (of-made Stable stable r .none-for) (of-made OneEach one-each r) (q .choice) (h .frame) (length (h .area)) n);
         counted = λ log t u h a r p.
             let q = f .steps t h u a p in
-            let few = step-fits (inputOf h (q .choice)) (S .view t) (of-made Bounded bounded r) .1 in
+            let few = step-fits (q .choice) (S .view t) (h .frame) (length (h .area)) (of-made Bounded bounded r) .1 in
             (q .count, omega (arith, q .count, ap (λ (rs : List Record). length rs) (q .records)));
         settled = λ log t r.
             record {

@@ -18,10 +18,11 @@ use Rattle.rules.specs.Allowed.{Answered}
 use Rattle.rules.proofs.StepCases.{cond-cases, or-left, or-right}
 use Rattle.demands.specs.Machine.{Handed, Stepped, answeredBy, theRules}
 use Rattle.demands.specs.History.{Logged, recordsOf, History, begun, handed}
-use Rattle.demands.specs.Bounds.{Bounded}
+use Rattle.rules.specs.State.{Bounded}
+
 use Rattle.demands.specs.Trays.{HandedIn, none-left, one-more, TrayHistory, TraysAreHistories, ReadBack}
 use Rattle.demands.specs.Trays.{NumbersAreReadBack}
-use Rattle.demands.proofs.Capacity.{step-fits}
+use Rattle.rules.proofs.Capacity.{step-fits}
 use Rattle.demands.proofs.Judging.{area-length}
 
 empty-bounded : Bounded empty
@@ -85,7 +86,7 @@ from choices m area (f ∷ fs) b =
     rest = drop (28 * length (o .records)) (areaAfter (o .records) area)
 
     s : Bounded (o .model) × (length (o .records) ≤ 25)
-    s = step-fits (record { frame = f; area = length area; choice = choices 0 }) m b
+    s = step-fits (choices 0) m f (length area) b
 
     does : Stepped step m (record { frame = f; area = area }) (o .model) a
     does = record { choice = choices 0; space = refl; answered = refl }

@@ -12,18 +12,12 @@ use Rattle.rules.specs.declared.Record.{Record}
 use Rattle.rules.specs.declared.Txn.{Txn}
 use Rattle.rules.specs.declared.Until.{Until}
 use Rattle.rules.specs.declared.Until.the-variants.{Tick, Forever}
-use Rattle.rules.specs.Numbers.{maxEntries, maxTxns, maxWaits, lastClock}
+use Rattle.rules.specs.Numbers.{lastClock}
 use Rattle.rules.specs.Template.{bit}
-use Rattle.rules.specs.State.{Model}
+use Rattle.rules.specs.State.{Model, Bounded}
 use Rattle.rules.specs.Holds.{readByOther, available, conflicts}
 use Rattle.demands.specs.Machine.{Machine}
 use Rattle.demands.specs.History.{Logged, recordsOf, Made}
-
--- "At most 64 entries are stored", "At most 8 transactions live and 16 look-ups wait."
-pub record Bounded (m : Model) : Type 0 where
-  pub entries-fit : length (m .entries) ≤ maxEntries
-  pub txns-fit : length (m .txns) ≤ maxTxns
-  pub waits-fit : length (m .waits) ≤ maxWaits
 
 -- each number is below all that stand after it
 unfoldable pub Ascending : List ℕ → Type 0
