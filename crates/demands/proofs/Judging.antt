@@ -7,12 +7,10 @@ use mathlib.Core.List.{List, [], _∷_, _++_, map, List·Memᴰ, List·Memᴰ·h
 use native.Mathlib.Omega.{arith}
 use borrow.Author.Tests.{eqb-true, eqb-false, ltb-true, ltb-false, leb-false}
 use lib.Dec.{eqb, ltb, leb}
-use lib.ListN.{length, take, drop, length-append, length-drop}
-use lib.Seq.{take-at, drop-at}
 use Rattle.rules.specs.declared.Record.{Record}
 use Rattle.rules.specs.Lists.{firstRow}
 use Rattle.rules.specs.State.{Model}
-use Rattle.rules.specs.Records.{refused, recordBytes, answerBytes, areaAfter}
+use Rattle.rules.specs.Records.{refused}
 use Rattle.rules.specs.Frame.{decode}
 use Rattle.rules.specs.Refusals.{refusal, noOperation, wrongLength, malformed, wrongParty, partyWaits, notLive, notOwn}
 use Rattle.rules.specs.Refusals.{noLease, tooLate, entriesFull, txnsFull, noNumber, waitsFull}
@@ -84,23 +82,3 @@ module _ (choice : ℕ → ℕ) (m : Model) (bs : List ℕ) (area : ℕ) where
   no-record h =
       ap (λ (o : Outcome). o .records) (step-refused choice m bs area (λ z. omega arith))
       ∙ cond-cases (λ (l : List Record). l ≡ []) (eqb (refusal m bs area) 1) (λ _. refl) (λ t. absurd (eqb-false _ 1 t h))
-
--- ---- the answers area
-
-pub bytes-length : (rs : List Record) → length (answerBytes rs) ≡ 28 * length rs
-unfolding answerBytes recordBytes
-bytes-length [] = refl
-bytes-length (r ∷ rs) = length-append (recordBytes r) (answerBytes rs) ∙ omega (arith, bytes-length rs)
-
-pub area-length : (rs : List Record) (area : List ℕ) → 28 * length rs ≤ length area → length (areaAfter rs area) ≡ length area
-unfolding areaAfter
-area-length rs area h =
-    length-append (answerBytes rs) (drop (28 * length rs) area) ∙ omega (arith, length-drop (28 * length rs) area, bytes-length rs)
-
-pub area-front : (rs : List Record) (area : List ℕ) → take (28 * length rs) (areaAfter rs area) ≡ answerBytes rs
-unfolding areaAfter
-area-front rs area = take-at (answerBytes rs) (drop (28 * length rs) area) (28 * length rs) (bytes-length rs)
-
-pub area-rest : (rs : List Record) (area : List ℕ) → drop (28 * length rs) (areaAfter rs area) ≡ drop (28 * length rs) area
-unfolding areaAfter
-area-rest rs area = drop-at (answerBytes rs) (drop (28 * length rs) area) (28 * length rs) (bytes-length rs)

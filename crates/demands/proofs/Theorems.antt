@@ -35,8 +35,9 @@ use Rattle.demands.proofs.Runs.{Input, runs, made, answersTo}
 use Rattle.demands.proofs.Carried.{ByRule, Follows, space-follows, rules-follow, inputOf, RunTo, run-to, run-of}
 use Rattle.rules.proofs.Capacity.{step-fits}
 use Rattle.demands.proofs.Capacities.{bounded}
-use Rattle.demands.proofs.Judging.{refusal-fits, number-is, one-is, refused-record, no-record, area-length}
-use Rattle.demands.proofs.Judging.{area-front, area-rest}
+use Rattle.rules.proofs.AreaLaws.{area-length}
+use Rattle.demands.proofs.Judging.{refusal-fits, number-is, one-is, refused-record, no-record}
+use Rattle.rules.proofs.AreaLaws.{area-front, area-rest}
 use Rattle.demands.proofs.LookUpLaws.{answered-now}
 use Rattle.demands.proofs.Numbers.{numbers-ascend}
 use Rattle.demands.proofs.Momentary.{step-moments}

@@ -23,7 +23,7 @@ use Rattle.rules.specs.State.{Bounded}
 use Rattle.demands.specs.Trays.{HandedIn, none-left, one-more, TrayHistory, TraysAreHistories, ReadBack}
 use Rattle.demands.specs.Trays.{NumbersAreReadBack}
 use Rattle.rules.proofs.Capacity.{step-fits}
-use Rattle.demands.proofs.Judging.{area-length}
+use Rattle.rules.proofs.AreaLaws.{area-length}
 
 empty-bounded : Bounded empty
 empty-bounded = record { entries-fit = omega arith; txns-fit = omega arith; waits-fit = omega arith }
