@@ -2,7 +2,6 @@
 mod endings;
 mod holds;
 mod live;
-mod records;
 pub mod rows;
 mod service;
 mod sweep;
