@@ -3,7 +3,6 @@ mod answers;
 mod endings;
 mod holds;
 mod live;
-mod records;
 pub mod rows;
 mod service;
 mod sweep;
