@@ -2,3 +2,4 @@
 pub mod RunLaws
 pub mod PairLaws
 pub mod RunningLaws
+pub mod JudgeLaws

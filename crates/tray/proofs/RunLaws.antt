@@ -68,7 +68,7 @@ ran-more fs size m rs f c r h =
     one : (gs : List (List ℕ)) (more : ℕ → ℕ → ℕ)
         → before (length fs) rs (runFrames (ahead c more) m (size - 28 * length rs) (f ∷ gs))
         ≡ before (length (fs ++ (f ∷ []))) (rs ++ step c m f (size - 28 * length rs) .records)
-          (runFrames more (step c m f (size - 28 * length rs) .model) (size - 28 * length (rs ++ step c m f (size - 28 * length rs) .records)) gs)
+        (runFrames more (step c m f (size - 28 * length rs) .model) (size - 28 * length (rs ++ step c m f (size - 28 * length rs) .records)) gs)
     one gs more =
         let o = step c m f (size - 28 * length rs) in
         let n : size - 28 * length (rs ++ o .records) ≡ size - 28 * length rs - 28 * length (o .records) = omega (arith, length-append rs (o .records)) in

@@ -1,1 +1,2 @@
 // The tray runner: judges a tray, then hands its frames to an empty space, one after another.
+mod judge;
