@@ -7,7 +7,8 @@ use native.Mathlib.Omega.{arith}
 use lib.Dec.{ltb}
 use Rattle.rules.specs.State.{Model}
 use Rattle.rules.specs.Frame.{decode}
-use Rattle.rules.specs.Refusals.{noOperation, wrongLength, malformed, wrongParty, partyWaits, notLive, notOwn, noLease, tooLate, entriesFull, txnsFull, noNumber, waitsFull, refusal}
+use Rattle.rules.specs.Refusals.{noOperation, wrongLength, malformed, wrongParty, partyWaits, notLive, notOwn}
+use Rattle.rules.specs.Refusals.{noLease, tooLate, entriesFull, txnsFull, noNumber, waitsFull, refusal}
 
 pub row : (b : Bool) (n rest : ℕ) → cond b (suc n) rest ≡ 0 → (b ≡ false) × (rest ≡ 0)
 row true n rest e = absurd (omega arith)

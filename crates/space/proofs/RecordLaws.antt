@@ -1,6 +1,6 @@
 -- Records in the answers area, one after another.
 use Prim.Native.Nat.{ℕ, _+_, _*_, _≤_}
-use mathlib.Core.Path.{_≡_, sym, ap, ap₂, _∙_, subst₃}
+use mathlib.Core.Path.{_≡_, refl, sym, ap, ap₂, _∙_, subst₃}
 use mathlib.Core.List.{List, [], _∷_, _++_, append-assoc, append-nil}
 use native.Mathlib.Omega.{arith}
 use lib.ListN.{length, take, drop, length-append, length-drop, take-append-drop, drop-of-length-le}
@@ -11,10 +11,15 @@ use Rattle.rules.specs.Records.{areaAfter}
 use Rattle.codec.specs.Area.{over}
 pub use Rattle.codec.proofs.FrontLaws.{set4-over, Front, front-length, front-more, record-length}
 
+pub answers-append : (rs ss : List Record) → answerBytes (rs ++ ss) ≡ answerBytes rs ++ answerBytes ss
+unfolding answerBytes
+answers-append [] ss = refl
+answers-append (r ∷ rs) ss =
+    ap (λ l. recordBytes r ++ l) (answers-append rs ss) ∙ sym (append-assoc (recordBytes r) (answerBytes rs) (answerBytes ss))
+
 answers-more : (rs : List Record) (r : Record) → answerBytes (rs ++ (r ∷ [])) ≡ answerBytes rs ++ recordBytes r
 unfolding answerBytes
-answers-more [] r = append-nil (recordBytes r)
-answers-more (x ∷ rs) r = ap (λ l. recordBytes x ++ l) (answers-more rs r) ∙ sym (append-assoc (recordBytes x) (answerBytes rs) (recordBytes r))
+answers-more rs r = answers-append rs (r ∷ []) ∙ ap (λ l. answerBytes rs ++ l) (append-nil (recordBytes r))
 
 -- the records rs stand in the area a₀, behind `count` others; they are `done` in all
 pub record Area (count : ℕ) (a₀ a : List ℕ) (rs : List Record) (done : ℕ) : Type 0 where

@@ -4,7 +4,8 @@ use mathlib.Core.Bool.{Bool, true, false, not, cond, _&&_, _||_, true≢false, o
 use mathlib.Core.Path.{_≡_, refl, sym, ap, _∙_, subst, subst⁻¹}
 use mathlib.Core.Logic.{_⊎_, inl, inr, ⊎-elim}
 use mathlib.Core.Option.{Option, none, some}
-use mathlib.Core.List.{List, [], _∷_, _++_, map, List·Memᴰ, List·Memᴰ·head, List·Memᴰ·tail, Memᴰ·append-left, Memᴰ·append-right}
+use mathlib.Core.List.{List, [], _∷_, _++_, map, List·Memᴰ, List·Memᴰ·head, List·Memᴰ·tail, Memᴰ·append-left}
+use mathlib.Core.List.{Memᴰ·append-right}
 use native.Mathlib.Omega.{arith}
 use native.Mathlib.Nat.{le-trans}
 use borrow.Author.Tests.{eqb-true, eqb-false, eq-eqb, le-leb, leb-true}
@@ -22,25 +23,30 @@ use Rattle.rules.specs.Numbers.{forever}
 use Rattle.rules.specs.State.{Model, empty, withClock}
 use Rattle.rules.specs.Holds.{availableTo, someAvailable}
 use Rattle.rules.specs.Frame.{Frame, decode, isLookUp}
-use Rattle.rules.specs.Records.{written, found, nothing, waiting, created, committed, aborted, exception, ticked, refused}
-use Rattle.rules.specs.LookUp.{Done, handOut, lookUpOf, givesNothing, answer, answerFound, answerNothing, answerWaiting, lookUp}
+use Rattle.rules.specs.Records.{written, found, nothing, waiting, created, committed, aborted, exception, ticked}
+use Rattle.rules.specs.Records.{refused}
+use Rattle.rules.specs.LookUp.{Done, handOut, lookUpOf, givesNothing, answer, answerFound, answerNothing, answerWaiting}
+use Rattle.rules.specs.LookUp.{lookUp}
 use Rattle.rules.specs.Transactions.{create, commit, abort}
 use Rattle.rules.specs.Service.{Served, serve, service}
 use Rattle.rules.specs.Tick.{endedTxns, abortAll, dropEnded, closeWaits, tick}
 use Rattle.rules.specs.Refusals.{partyWaits, refusal}
 use Rattle.rules.specs.Step.{Outcome, stored, write, commitFrame, abortFrame, step, accepted, refusedWith}
-use Rattle.demands.specs.History.{Input, Logged, runs, made}
-use Rattle.demands.specs.Demands.{AnsweredNow, Later, waits-on, gets-found, gets-nothing, gets-exception}
-use Rattle.demands.specs.Claims.{ofParty, OneEach, answersTo, isTicked, closes, InTime}
+use Rattle.demands.proofs.Runs.{Input, runs, made}
+use Rattle.demands.specs.History.{Logged}
+use Rattle.demands.specs.Answers.{AnsweredNow}
+use Rattle.demands.proofs.WaitingStep.{Later, waits-on, gets-found, gets-nothing, gets-exception}
+use Rattle.demands.specs.Answers.{ofParty, OneEach, isTicked, closes}
+use Rattle.demands.specs.History.{recordsOf}
+use Rattle.demands.proofs.Runs.{answersTo}
 use Rattle.rules.proofs.ListLaws.{length-filter, filter-append, any-filter, mem-any, any-append}
-use Rattle.demands.proofs.SerialOps.{filter-filter}
 use Rattle.rules.proofs.StepCases.{bool-cases, cond-cases, step-cases, done-cases, serve-ind}
 use Rattle.rules.proofs.RefusalLaws.{Clear, clear}
-use Rattle.demands.proofs.Reach.{made-keep}
+use Rattle.demands.proofs.Runs.{made-keep}
 use Rattle.demands.proofs.Deadlines.{OpenIn, step-open, deadlines-above}
 use Rattle.demands.proofs.Settling.{Stable, stable, stable-step}
 use Rattle.demands.proofs.LookUpLaws.{answered-now}
-use Rattle.demands.proofs.Answering.{step-later}
+use Rattle.demands.proofs.WaitingStep.{step-later}
 
 -- ===== at most one each
 
@@ -117,8 +123,7 @@ each-step i m h =
     let left = abortAll (endedTxns later) later in
     filtered (λ (w : LookUp). not (reached (left .clock) (w .deadline))) (service (i .choice) (dropEnded left) .model .waits) (service-each (i .choice) (dropEnded left) (abortAll-each (endedTxns later) later h))))
 
-pub one-each : OneEach
-unfolding OneEach
+pub one-each : (is : List Input) → OneEach (made is)
 one-each is = made-keep (λ m. Each (m .waits)) each-step (λ p. omega arith) is
 
 -- ===== in time
@@ -211,12 +216,12 @@ unfolding exception
 exception-closes w t e p = rw (eq-eqb (t .party) (w .party) p, eq-eqb (t .id .0) (w .txn .0) (ap (λ n. n .0) e))
 
 pub answersTo-cons : (m : Model) (i : Input) (is : List Input) → answersTo m (i ∷ is) ≡ step (i .choice) m (i .frame) (i .area) .records ++ answersTo (step (i .choice) m (i .frame) (i .area) .model) is
-unfolding answersTo runs
+unfolding answersTo recordsOf runs
 answersTo-cons m i is = refl
 
 closed : (m : Model) (js : List Input) (w : LookUp) (d : ℕ) → Stable m → OpenIn m → List·Memᴰ w (m .waits) → w .deadline ≡ Tick d
     → d ≤ m .clock + ticksIn (answersTo m js) → ItsClose w (answersTo m js)
-unfolding answersTo runs reached
+unfolding answersTo recordsOf runs reached
 closed m [] w d k o i q l = absurd (true≢false (sym (ap (reached (m .clock)) q ∙ le-leb d (m .clock) (omega arith)) ∙ o w i))
 closed m (j ∷ js) w d k o i q l = go (λ v p. closed (step (j .choice) m (j .frame) (j .area) .model) js w d (stable-step j m k) (step-open j m o) v q p) (step-later j m k w i)
   where
@@ -245,8 +250,14 @@ closed m (j ∷ js) w d k o i q l = go (λ v p. closed (step (j .choice) m (j .f
         (λ x. ap (λ (y : Txn). y .party) (k .sound-model .txns-ok .unique t (x .0) u (x .1) (ap (λ y. y .0) e ∙ sym (x .2))) ∙ x .3)
         (k .owned w i))))
 
-pub in-time : InTime
-unfolding InTime answersTo runs lookUpOf until
+-- after as many ticks carried out as its timeout a look-up has had its closing answer
+pub in-time : (is : List Input) (i : Input) (js : List Input)
+    → refusal (made is) (i .frame) (i .area) ≡ 0
+    → isLookUp (decode (i .frame) .op) ≡ true
+    → (decode (i .frame) .leaseOrTimeout ≡ forever → ⊥)
+    → decode (i .frame) .leaseOrTimeout ≤ length (filterb isTicked (answersTo (made is) (i ∷ js)))
+    → anyb (closes (decode (i .frame) .party) (decode (i .frame) .txn)) (answersTo (made is) (i ∷ js)) ≡ true
+unfolding answersTo recordsOf runs lookUpOf until
 in-time is i js n l f h = go (bool-cases (someAvailable (m .txns) w (m .entries))) (bool-cases (givesNothing m w leaseOrTimeout))
   where
     m : Model
@@ -258,7 +269,7 @@ in-time is i js n l f h = go (bool-cases (someAvailable (m .txns) w (m .entries)
     leaseOrTimeout : ℕ
     leaseOrTimeout = decode (i .frame) .leaseOrTimeout
 
-    a : AnsweredNow m w leaseOrTimeout (step (i .choice) m (i .frame) (i .area))
+    a : AnsweredNow m w leaseOrTimeout (step (i .choice) m (i .frame) (i .area) .records) (step (i .choice) m (i .frame) (i .area) .model)
     a = answered-now (i .choice) m (i .frame) (i .area) n l
 
     rs : List Record

@@ -1,14 +1,21 @@
--- The serial run: fed the frames in order, each with the records that its step wrote, and nothing from the space.
+-- "The serial run": "fed the frames in order, each with the records its step wrote, and nothing from the space".
 use Prim.Native.Nat.{ℕ, _+_}
 use mathlib.Core.Bool.{Bool, true, false, not, cond, _&&_, _||_}
-use mathlib.Core.List.{List, [], _∷_, _++_, map}
+use mathlib.Core.Logic.{_↔_}
+use mathlib.Core.Path.{_≡_}
+use mathlib.Core.List.{List, [], _∷_, _++_, map, List·Memᴰ}
 use lib.Dec.{eqb}
+use Rattle.rules.specs.declared.Entry.{Entry}
 use Rattle.rules.specs.declared.Fields.{Fields}
 use Rattle.rules.specs.declared.Record.{Record}
 use Rattle.rules.specs.declared.Until.{Until}
 use Rattle.rules.specs.Lists.{filterb, anyb}
+use Rattle.rules.specs.State.{Model}
 use Rattle.rules.specs.Time.{until, reached}
+use Rattle.rules.specs.Numbers.{kindWritten, kindFound, kindCommitted, kindAborted, kindException, kindTicked}
+use Rattle.rules.specs.Numbers.{kindRefused}
 use Rattle.rules.specs.Frame.{Frame, decode, isLookUp, isTake}
+use Rattle.rules.specs.Transactions.{privateTo}
 use Rattle.demands.specs.History.{Logged}
 
 -- an entry of the plain set
@@ -134,15 +141,21 @@ advanced r =
       succeeds = r .succeeds;
     }
 
+-- "adds the record's number, the frame's fields and the end, which is the run's clock at this record plus the frame's
+-- lease, or never for FOREVER"
+abbrev pub writtenBy : Frame → Record → ℕ → Kept
+writtenBy f a clock = record { number = a .entry .0; fields = f .fields; end = until clock (f .leaseOrTimeout) }
+
 -- one record of a frame
 unfoldable pub follow : Frame → Record → Run → Run
 follow f a r =
-    cond (eqb (a .kind) 1)
-    (perform (a .txn .0) (adds (record { number = a .entry .0; fields = f .fields; end = until (r .clock) (f .leaseOrTimeout) })) r)
-    (cond (eqb (a .kind) 2) (perform (a .txn .0) (finds (lastTakes (a .party) (r .asked)) (a .entry .0) (a .fields)) r)
-    (cond (eqb (a .kind) 6) (carryOutAll (listOf (a .txn .0) r) (thrownAway (a .txn .0) r))
-    (cond (eqb (a .kind) 7 || eqb (a .kind) 8) (thrownAway (a .txn .0) r)
-    (cond (eqb (a .kind) 9) (advanced r) r))))
+    cond (eqb (a .kind) kindWritten)
+    (perform (a .txn .0) (adds (writtenBy f a (r .clock))) r)
+    (cond (eqb (a .kind) kindFound)
+    (perform (a .txn .0) (finds (lastTakes (a .party) (r .asked)) (a .entry .0) (a .fields)) r)
+    (cond (eqb (a .kind) kindCommitted) (carryOutAll (listOf (a .txn .0) r) (thrownAway (a .txn .0) r))
+    (cond (eqb (a .kind) kindAborted || eqb (a .kind) kindException) (thrownAway (a .txn .0) r)
+    (cond (eqb (a .kind) kindTicked) (advanced r) r))))
 
 unfoldable pub followAll : Frame → List Record → Run → Run
 followAll f [] r = r
@@ -151,7 +164,7 @@ followAll f (a ∷ later) r = followAll f later (follow f a r)
 -- refused: with 1 there is no record, else the first is of kind 15
 unfoldable pub wasRefused : List Record → Bool
 wasRefused [] = true
-wasRefused (a ∷ later) = eqb (a .kind) 15
+wasRefused (a ∷ later) = eqb (a .kind) kindRefused
 
 unfoldable pub noteLookUp : Frame → List Record → Run → Run
 noteLookUp f answers r =
@@ -175,6 +188,33 @@ followLog (l ∷ ls) r =
 unfoldable pub serialRun : List Logged → Run
 serialRun ls = followLog ls start
 
--- at the end, entries past their lease are dropped
+-- "At the end, entries past their lease are dropped: those whose end is at most the run's clock."
 unfoldable pub left : Run → List Kept
 left r = filterb (λ k. not (reached (r .clock) (k .end))) (r .kept)
+
+-- What the demand says of it
+
+-- an entry as the plain set keeps it
+abbrev pub keptOf : Entry → Kept
+keptOf e = record { number = e .id .0; fields = e .fields; end = e .end }
+
+-- "the space's committed entries: those stored and private to no transaction, held or not"
+unfoldable pub committedIn : Model → List Kept
+committedIn m = map keptOf (filterb (privateTo 0) (m .entries))
+
+-- no number stands twice in a list
+unfoldable pub distinct : List ℕ → Bool
+distinct [] = true
+distinct (n ∷ ns) = not (anyb (eqb n) ns) && distinct ns
+
+abbrev pub numbersOf : List Kept → List ℕ
+numbersOf ks = map (λ (k : Kept). k .number) ks
+
+-- the run succeeds, no number is taken by two operations carried out, and what is left equals the committed entries
+-- in numbers, fields and ends, each number once on either side
+pub record Serial (r : Run) (m : Model) : Type 0 where
+  pub succeeds : r .succeeds ≡ true
+  pub taken-once : distinct (r .taken) ≡ true
+  pub left-once : distinct (numbersOf (left r)) ≡ true
+  pub committed-once : distinct (numbersOf (committedIn m)) ≡ true
+  pub same : (k : Kept) → List·Memᴰ k (left r) ↔ List·Memᴰ k (committedIn m)

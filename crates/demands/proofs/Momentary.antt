@@ -4,10 +4,12 @@ use mathlib.Core.Bool.{Bool, true, false, not, cond, true≢false}
 use mathlib.Core.Path.{_≡_, refl, sym, ap, _∙_, subst, subst⁻¹}
 use mathlib.Core.Logic.{inl, inr, ⊎-elim}
 use mathlib.Core.Option.{Option, none, some}
-use mathlib.Core.List.{List, [], _∷_, _++_, map, append-assoc, List·Memᴰ, List·Memᴰ·head, List·Memᴰ·tail, Memᴰ·append-right, Memᴰ·map}
+use mathlib.Core.List.{List, [], _∷_, _++_, map, append-assoc, List·Memᴰ, List·Memᴰ·head, List·Memᴰ·tail}
+use mathlib.Core.List.{Memᴰ·append-right, Memᴰ·map}
 use native.Mathlib.Omega.{arith}
 use borrow.Author.Tests.{eqb-true, eqb-false, ne-eqb, le-leb, not-true, not-false}
 use lib.Dec.{eqb}
+use Rattle.rules.specs.Refusals.{refusal}
 use Rattle.rules.specs.declared.Entry.{Entry}
 use Rattle.rules.specs.declared.Record.{Record}
 use Rattle.rules.specs.declared.Txn.{Txn}
@@ -24,12 +26,16 @@ use Rattle.rules.specs.LookUp.{Done, lookUpOf, givesNothing, answer, answerFoun
 use Rattle.rules.specs.Transactions.{create, withoutTxn, commit, abort}
 use Rattle.rules.specs.Service.{serve, service}
 use Rattle.rules.specs.Tick.{endedTxns, abortAll, dropEnded, closeWaits, tick}
-use Rattle.rules.specs.Step.{Outcome, stored, write, commitFrame, abortFrame, carriedOut, accepted}
-use Rattle.demands.specs.History.{made}
-use Rattle.demands.specs.Claims.{Ascending, ByNumber, NumbersAscend, Out, here, there, asked, writes, is-found, is-nothing, is-waiting, creates, commits, aborts, ticks, excepts, Moments, over, expires, says, Momentary}
+use Rattle.rules.specs.Step.{step, Outcome, stored, write, commitFrame, abortFrame, carriedOut, accepted}
+use Rattle.demands.proofs.Runs.{made, Input}
+use Rattle.demands.specs.Bounds.{Ascending, ByNumber}
+use Rattle.demands.specs.Moments.{Out, here, there, writes, is-found, is-nothing, is-waiting, creates, commits}
+use Rattle.demands.specs.Moments.{aborts, ticks, excepts, Moments, expires, says, over}
+use Rattle.demands.specs.Answers.{asked}
 use Rattle.rules.proofs.ListLaws.{mem-filter, filter-mem}
 use Rattle.demands.proofs.Numbers.{ascend-filter, numbers-ascend}
-use Rattle.rules.proofs.StepCases.{cond-cases, done-cases, serve-ind, or-cases, or-left, or-right, and-left, and-right, and-false-right}
+use Rattle.rules.proofs.StepCases.{cond-cases, done-cases, serve-ind, or-cases, or-left, or-right, and-left, and-right}
+use Rattle.rules.proofs.StepCases.{and-false-right}
 use Rattle.demands.proofs.Deadlines.{until-later}
 use Rattle.demands.proofs.Unavailable.{pick-nothing, serve-settled}
 use Rattle.demands.proofs.Trace.{picked}
@@ -164,7 +170,10 @@ carried-moments choice m f b =
     (λ t. says (aborts m t) (service-moments f choice (abort (f .txn) m)))
     (tick-moments f choice m b))
 
-pub momentary : Momentary
-unfolding Momentary NumbersAscend accepted
-momentary is i n =
-    subst⁻¹ (λ (o : Outcome). Moments (decode (i .frame)) (asked (made is) (decode (i .frame))) (o .records) (o .model)) (step-accepted (i .choice) (made is) (i .frame) (i .area) n) (carried-moments (i .choice) (made is) (decode (i .frame)) (numbers-ascend is))
+-- every record of a step that is not refused is written at a moment that allows it
+pub step-moments : (choice : ℕ → ℕ) (m : Model) (bs : List ℕ) (area : ℕ) → ByNumber m → refusal m bs area ≡ 0
+    → Moments (decode bs) (asked m (decode bs)) (step choice m bs area .records) (step choice m bs area .model)
+unfolding accepted
+step-moments choice m bs area b n =
+    subst⁻¹ (λ (o : Outcome). Moments (decode bs) (asked m (decode bs)) (o .records) (o .model)) (step-accepted choice m bs area n)
+    (carried-moments choice m (decode bs) b)

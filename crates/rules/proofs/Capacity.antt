@@ -9,47 +9,27 @@ use native.Mathlib.Omega.{arith}
 use borrow.Author.Tests.{leb-false}
 use lib.Dec.{eqb}
 use lib.ListN.{length, length-append, length-map}
 use Rattle.rules.specs.declared.Entry.{Entry}
 use Rattle.rules.specs.declared.Record.{Record}
 use Rattle.rules.specs.declared.Txn.{Txn}
 use Rattle.rules.specs.declared.LookUp.{LookUp}
 use Rattle.rules.specs.Lists.{filterb, pick}
 use Rattle.rules.specs.Time.{reached}
-use Rattle.rules.specs.State.{Model, withClock}
-use Rattle.rules.specs.Holds.{availableTo, someAvailable}
+use Rattle.rules.specs.State.{Model, withClock, Bounded}
+use Rattle.rules.specs.Holds.{available, availableTo, someAvailable}
 use Rattle.rules.specs.Frame.{Frame, decode, isWrite, isLookUp, isCreate}
 use Rattle.rules.specs.Records.{written, committed, aborted, exception, nothing}
-use Rattle.rules.specs.LookUp.{Done, lookUpOf, givesNothing, mustWait, removes, isEntry, marked, handOut, answer, answerFound, answerNothing, answerWaiting, lookUp}
+use Rattle.rules.specs.LookUp.{Done, lookUpOf, givesNothing, mustWait, removes, isEntry, marked, handOut, answer}
+use Rattle.rules.specs.LookUp.{answerFound, answerNothing, answerWaiting, lookUp}
 use Rattle.rules.specs.Transactions.{create, released, withoutTxn, commit, abort}
-use Rattle.rules.specs.Service.{Served, serve, service}
+use Rattle.rules.specs.Service.{service}
 use Rattle.rules.specs.Tick.{endedTxns, abortAll, dropEnded, closeWaits, tick}
 use Rattle.rules.specs.Refusals.{entriesFull, txnsFull, waitsFull}
 use Rattle.rules.specs.Step.{Outcome, newEntry, stored, write, commitFrame, abortFrame, step, accepted, refusedWith}
-use Rattle.demands.specs.History.{Input, made}
-use Rattle.demands.specs.Demands.{Bounded, Bounds}
-use Rattle.rules.proofs.ListLaws.{length-filter}
-use Rattle.rules.proofs.StepCases.{and-false-right, cond-cases, step-cases, done-cases, serve-ind}
+use Rattle.rules.proofs.ListLaws.{length-filter, pick-none}
+use Rattle.rules.proofs.StepCases.{and-false-right, cond-cases, step-cases, done-cases}
+use Rattle.rules.proofs.ServeLength.{handOut-length, serve-length}
 use Rattle.rules.proofs.RefusalLaws.{clear}
-use Rattle.demands.proofs.Reach.{made-keep}
-use Rattle.demands.proofs.Unavailable.{pick-nothing}
-
-handOut-length : (ts : List Txn) (w : LookUp) (e : Entry) (es : List Entry) → length (handOut ts w e es) ≤ length es
-unfolding handOut
-handOut-length ts w e es =
-    cond-cases (λ (l : List Entry). length l ≤ length es) (removes w e) (λ q. length-filter (λ x. not (isEntry e x)) es) (λ q. omega (arith, length-map es (λ x. cond (isEntry e x) (marked ts w x) x)))
-
--- each look-up is answered or waits on
-pub record ServeLength (es : List Entry) (ws : List LookUp) (r : Served) : Type 0 where
-  pub entries : length (r .entries) ≤ length es
-  pub waits : length (r .waits) + length (r .records) ≡ length ws
-
-serve-length : (choice : ℕ → ℕ) (ts : List Txn) (es : List Entry) (ws : List LookUp) → ServeLength es ws (serve choice ts es ws)
-serve-length choice ts es ws =
-    serve-ind choice ts ServeLength (λ es. record { entries = omega arith; waits = refl })
-    (λ es w ws q below. record { entries = below .entries; waits = omega (arith, below .waits) })
-    (λ es w ws x q below. record { entries = omega (arith, below .entries, handOut-length ts w x es); waits = omega (arith, below .waits) })
-    es
-    ws
 
 -- a step's new tables and records
 pub record Fits (d : Done) : Type 0 where
@@ -113,7 +93,7 @@ answer-fits m f k t full b none q =
     free n =
         leb-false 16 (length (m .waits))
         (and-false-right (isLookUp (f .op) && (not (someAvailable (m .txns) w (m .entries)) && not (givesNothing m w (f .leaseOrTimeout)))) _
-        (ap₂ (λ x y. x && y) t (ap₂ (λ x y. not x && not y) (pick-nothing k (m .txns) w (m .entries) q) n)) full)
+        (ap₂ (λ x y. x && y) t (ap₂ (λ x y. not x && not y) (pick-none (available (m .txns) w) k (m .entries) q) n)) full)
 
 create-fits : (m : Model) (f : Frame) → isCreate (f .op) ≡ true → txnsFull m f ≡ false → Bounded m → Fits (create m f)
 unfolding create txnsFull
@@ -206,25 +186,20 @@ write-fits choice m f t e b =
     cond-cases (λ (d : Done). Fits (record { model = d .model; records = written f (m .nextEntry) ∷ d .records })) (eqb (f .txn) 0)
     (λ q. after-fits _ (service choice (stored m f)) (service-fits choice (stored m f) s)) (λ q. record { model-fits = s; records-fit = omega arith })
 
-pub step-fits : (i : Input) (m : Model) → Bounded m
-    → Bounded (step (i .choice) m (i .frame) (i .area) .model) × (length (step (i .choice) m (i .frame) (i .area) .records) ≤ 25)
+-- capacities are kept, and a step writes at most 25 records
+pub step-fits : (choice : ℕ → ℕ) (m : Model) (bs : List ℕ) (area : ℕ) → Bounded m
+    → Bounded (step choice m bs area .model) × (length (step choice m bs area .records) ≤ 25)
 unfolding refusedWith accepted lookUp commitFrame abortFrame
-step-fits i m b =
-    step-cases (λ (o : Outcome). Bounded (o .model) × (length (o .records) ≤ 25)) (i .choice) m (i .frame) (i .area)
+step-fits choice m bs area b =
+    step-cases (λ (o : Outcome). Bounded (o .model) × (length (o .records) ≤ 25)) choice m bs area
     (λ n. (b, cond-cases (λ (l : List Record). length l ≤ 25) (eqb n 1) (λ q. omega arith) (λ q. omega arith)))
-    (λ e. let f = decode (i .frame) in
-    let c = clear m (i .frame) (i .area) e in
+    (λ e. let f = decode bs in
+    let c = clear m bs area e in
     let w = lookUpOf m f in
-    done-cases (λ (d : Done). Bounded (d .model) × (length (d .records) ≤ 25)) (i .choice) m f
-    (λ t. both _ (write-fits (i .choice) m f t (c .entry-room) b))
-    (λ t. both _ (answer-fits m f (i .choice (w .party)) t (c .wait-room) b (pick (i .choice (w .party)) (availableTo (m .txns) w (m .entries))) refl))
+    done-cases (λ (d : Done). Bounded (d .model) × (length (d .records) ≤ 25)) choice m f
+    (λ t. both _ (write-fits choice m f t (c .entry-room) b))
+    (λ t. both _ (answer-fits m f (choice (w .party)) t (c .wait-room) b (pick (choice (w .party)) (availableTo (m .txns) w (m .entries))) refl))
     (λ t. both _ (create-fits m f t (c .txn-room) b))
-    (λ t. both _ (after-fits (committed f) (service (i .choice) (commit (f .txn) m)) (service-fits (i .choice) (commit (f .txn) m) (commit-fits (f .txn) m b))))
-    (λ t. both _ (after-fits (aborted f) (service (i .choice) (abort (f .txn) m)) (service-fits (i .choice) (abort (f .txn) m) (abort-fits (f .txn) m b))))
-    (both _ (tick-fits (i .choice) m b)))
-
-pub bounds : Bounds
-bounds = record { bounded = all; records-fit = λ is i. step-fits i (made is) (all is) .1 }
-  where
-    all : (is : List Input) → Bounded (made is)
-    all = made-keep Bounded (λ i m b. step-fits i m b .0) (record { entries-fit = omega arith; txns-fit = omega arith; waits-fit = omega arith })
+    (λ t. both _ (after-fits (committed f) (service choice (commit (f .txn) m)) (service-fits choice (commit (f .txn) m) (commit-fits (f .txn) m b))))
+    (λ t. both _ (after-fits (aborted f) (service choice (abort (f .txn) m)) (service-fits choice (abort (f .txn) m) (abort-fits (f .txn) m b))))
+    (both _ (tick-fits choice m b)))

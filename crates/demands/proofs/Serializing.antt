@@ -4,7 +4,8 @@ use mathlib.Core.Bool.{Bool, true, false, cond, not, _&&_, _||_, true≢false, a
 use mathlib.Core.Logic.{_⊎_, inl, inr, ⊎-elim}
 use mathlib.Core.Path.{_≡_, refl, sym, ap, ap₂, _∙_, subst⁻¹}
 use mathlib.Core.Option.{Option, none, some}
-use mathlib.Core.List.{List, [], _∷_, map, List·Memᴰ, List·Memᴰ·not-nil, List·Memᴰ·append-cases, List·Memᴰ·eq-of-singleton, Memᴰ·of-map, Memᴰ·map, Memᴰ·cast}
+use mathlib.Core.List.{List, [], _∷_, map, List·Memᴰ, List·Memᴰ·not-nil, List·Memᴰ·append-cases}
+use mathlib.Core.List.{List·Memᴰ·eq-of-singleton, Memᴰ·of-map, Memᴰ·map, Memᴰ·cast}
 use native.Mathlib.Omega.{arith}
 use borrow.Author.Tests.{eqb-true, eqb-false, eq-eqb, ne-eqb, not-true}
 use lib.Dec.{eqb}
@@ -23,20 +24,25 @@ use Rattle.rules.specs.Transactions.{create, commit, abort, privateTo}
 use Rattle.rules.specs.Tick.{dropEnded}
 use Rattle.rules.specs.Refusals.{partyWaits}
 use Rattle.rules.specs.Step.{Outcome, stored, carriedOut, step, accepted, refusedWith}
-use Rattle.demands.specs.History.{Input, runs}
-use Rattle.demands.specs.Serial.{Kept, Operation, Run, start, perform, listOf, thrownAway, lastTakes, advanced, follow, followAll, wasRefused, noteLookUp, followLog, serialRun, left}
-use Rattle.demands.specs.Demands.{keptOf, committedIn, distinct, numbersOf, Demand3}
-use Rattle.demands.specs.Claims.{NumbersAscend}
-use Rattle.rules.proofs.ListLaws.{mem-filter, filter-mem, any-mem, none-mem, count, count-cons, count-mem, count-map, count-filter}
-use Rattle.demands.proofs.SerialOps.{isNumber, filter-same}
+use Rattle.demands.proofs.Runs.{Input, runs, made}
+use Rattle.demands.specs.SerialRun.{Kept, Operation, Run, start, perform, listOf, thrownAway, lastTakes, advanced}
+use Rattle.demands.specs.SerialRun.{follow, followAll, wasRefused, noteLookUp, followLog, serialRun, left}
+use Rattle.demands.specs.SerialRun.{keptOf, committedIn, distinct, numbersOf, Serial}
+use Rattle.rules.proofs.ListLaws.{mem-filter, filter-mem, any-mem, none-mem, count, count-cons, count-mem, count-map}
+use Rattle.rules.proofs.ListLaws.{count-filter}
+use Rattle.rules.proofs.ListLaws.{filter-same}
+use Rattle.demands.proofs.SerialOps.{isNumber}
 use Rattle.demands.proofs.Numbers.{eqb-sym, numbers-ascend, committed-distinct}
 use Rattle.rules.proofs.StepCases.{bool-cases, cond-cases, step-cases}
 use Rattle.demands.proofs.LookUpLaws.{carriedOut-lookUp}
 use Rattle.rules.proofs.RefusalLaws.{Clear, clear}
-use Rattle.demands.proofs.Trace.{Asks, Silent, expires, leaves, Event, writes, finds, gives-nothing, waits, creates, commits, aborts, excepts, ticks, Trace, ends, silent, says, carried-out}
+use Rattle.demands.proofs.Trace.{Asks, Silent, expires, leaves, Event, writes, finds, gives-nothing, waits}
+use Rattle.demands.proofs.Trace.{creates, commits, aborts, excepts, ticks, Trace, ends, silent, says}
+use Rattle.demands.proofs.Trace.{carried-out}
 use Rattle.demands.proofs.Sound.{Sound, sound-silent, sound-event, sound-empty}
 use Rattle.demands.proofs.Leases.{lasting}
-use Rattle.demands.proofs.Simulation.{carryOut-same, carryOutAll-same, Sim, Knows, knows-asks, sim-silent, sim-event}
+use Rattle.demands.proofs.Simulation.{carryOut-same, carryOutAll-same, Sim, Knows, knows-asks, sim-silent}
+use Rattle.demands.proofs.Simulation.{sim-event}
 
 -- following a record changes nothing of what is known of the look-ups
 follow-asked : (f : Frame) (a : Record) (r : Run) → follow f a r .asked ≡ r .asked
@@ -200,9 +206,9 @@ distinct-of (n ∷ ns) h = rw (alone (bool-cases (anyb (eqb n) ns))) (distinct-o
         let both : count (eqb n) (n ∷ ns) ≡ 1 + count (eqb n) ns = count-cons (eqb n) n ns ∙ ap (λ b. cond b 1 0 + count (eqb n) ns) (eq-eqb n n refl) in
         absurd (omega (arith, h n))
 
-pub demand3 : Demand3
-unfolding Demand3 NumbersAscend serialRun left committedIn
-demand3 is =
+pub serializes : (is : List Input) → Serial (serialRun (runs empty is .log)) (made is)
+unfolding serialRun left committedIn
+serializes is =
     record {
       succeeds = h .sim .ok;
       taken-once = distinct-of (r .taken) (λ n. omega (arith, h .sim .once n));

@@ -4,7 +4,8 @@ use mathlib.Core.Bool.{true, false, not, or-true}
 use mathlib.Core.Logic.{_⊎_, inl, inr, ⊎-elim}
 use mathlib.Core.Path.{_≡_, refl, sym, ap, subst⁻¹, subst₂}
 use mathlib.Core.Option.{Option, none, some}
-use mathlib.Core.List.{List, [], _∷_, _++_, map, List·Memᴰ, List·Memᴰ·head, List·Memᴰ·tail, List·Memᴰ·cases-cons, Memᴰ·append-left, Memᴰ·append-right, Memᴰ·map}
+use mathlib.Core.List.{List, [], _∷_, _++_, map, List·Memᴰ, List·Memᴰ·head, List·Memᴰ·tail, List·Memᴰ·cases-cons}
+use mathlib.Core.List.{Memᴰ·append-left, Memᴰ·append-right, Memᴰ·map}
 use borrow.Author.Tests.{eqb-true, ne-eqb}
 use lib.Dec.{eqb}
 use Rattle.rules.specs.declared.Entry.{Entry}
@@ -17,20 +18,28 @@ use Rattle.rules.specs.State.{Model, withClock}
 use Rattle.rules.specs.Holds.{available, availableTo, someAvailable}
 use Rattle.rules.specs.Frame.{decode}
 use Rattle.rules.specs.Records.{written, found, nothing, exception}
-use Rattle.rules.specs.LookUp.{Done, lookUpOf, givesNothing, answer, answerFound, answerNothing, answerWaiting, lookUp, handOut}
+use Rattle.rules.specs.LookUp.{Done, lookUpOf, givesNothing, answer, answerFound, answerNothing, answerWaiting, lookUp}
+use Rattle.rules.specs.LookUp.{handOut}
 use Rattle.rules.specs.Transactions.{create, commit, abort}
 use Rattle.rules.specs.Service.{Served, serve, service}
 use Rattle.rules.specs.Tick.{endedTxns, abortAll, dropEnded, closeWaits, tick}
-use Rattle.rules.specs.Step.{stored, write, commitFrame, abortFrame, step, accepted, refusedWith}
-use Rattle.demands.specs.History.{Input, made}
-use Rattle.demands.specs.Demands.{Later, waits-on, gets-found, gets-nothing, gets-exception, Demand2}
+use Rattle.rules.specs.Step.{stored, write, commitFrame, abortFrame, step, accepted, refusedWith, Outcome}
+use Rattle.demands.proofs.Runs.{Input, made}
 use Rattle.rules.proofs.ListLaws.{mem-filter, filter-mem, any-pick, any-filter}
-use Rattle.rules.proofs.StepCases.{bool-cases, option-cases, cond-cases, step-cases, done-cases, serve-ind, serve-none, serve-some}
+use Rattle.rules.proofs.StepCases.{bool-cases, option-cases, cond-cases, step-cases, done-cases, serve-ind, serve-none}
+use Rattle.rules.proofs.StepCases.{serve-some}
 use Rattle.demands.proofs.LookUpLaws.{answered-now}
 use Rattle.rules.proofs.RefusalLaws.{clear}
 use Rattle.demands.proofs.Deadlines.{deadlines-above}
 use Rattle.demands.proofs.Owners.{own-named, not-inside, named-nonzero}
 use Rattle.demands.proofs.Settling.{Stable, stable}
+
+-- what a step does to a look-up that waits: it waits on, or it has its closing answer
+pub data Later (m : Model) (w : LookUp) (o : Outcome) : Type 0 where
+  waits-on : List·Memᴰ w (o .model .waits) → Later m w o
+  gets-found : (e : Entry) → List·Memᴰ (found w e) (o .records) → Later m w o
+  gets-nothing : reached (o .model .clock) (w .deadline) ≡ true → List·Memᴰ (nothing w) (o .records) → Later m w o
+  gets-exception : (t : Txn) → List·Memᴰ t (m .txns) → t .id ≡ w .txn → List·Memᴰ (exception t) (o .records) → Later m w o
 
 -- in service a look-up that waits is answered, or waits on
 serve-later : (choice : ℕ → ℕ) (ts : List Txn) (es : List Entry) (ws : List LookUp) (v : LookUp) → List·Memᴰ v ws
@@ -119,42 +128,3 @@ step-later i m k v j =
     after-service m v _ (service (i .choice) (abort (f .txn) m))
     (service-later (i .choice) (abort (f .txn) m) v (filter-mem (λ (u : LookUp). not (eqb (u .txn .0) (f .txn))) j (ap not (ne-eqb (v .txn .0) (f .txn) out)))))
     (tick-later (i .choice) m v j))
-
--- a look-up's turn in service, behind those before it
-module _ (choice : ℕ → ℕ) (ts : List Txn) (w : LookUp) (rest : List LookUp) where
-  abbrev Turn : Served → Served → Type 0
-  Turn a b =
-      (someAvailable ts w (a .entries) ≡ true → (e : Entry) × List·Memᴰ e (availableTo ts w (a .entries)) × List·Memᴰ (found w e) (b .records))
-      × (someAvailable ts w (a .entries) ≡ false → List·Memᴰ w (b .waits))
-
-  its-turn : (es : List Entry) → Turn (record { entries = es; waits = []; records = [] }) (serve choice ts es (w ∷ rest))
-  its-turn es = (
-    (λ t. let r = any-pick (available ts w) (choice (w .party)) es t in
-        (r .0, r .1, subst⁻¹ (λ (s : Served). List·Memᴰ (found w (r .0)) (s .records)) (serve-some choice ts es w rest (r .0) (r .2)) (List·Memᴰ·head refl))),
-    (λ t. subst⁻¹ (λ (s : Served). List·Memᴰ w (s .waits)) (serve-none choice ts es w rest (ap (pick (choice (w .party))) (any-filter (available ts w) es t))) (List·Memᴰ·head refl)),
-  )
-
-  in-turn : (before : List LookUp) (es : List Entry) → Turn (serve choice ts es before) (serve choice ts es (before ++ w ∷ rest))
-  unfolding serve
-  in-turn [] es = its-turn es
-  in-turn (v ∷ before) es = go (option-cases (pick (choice (v .party)) (availableTo ts v es))) (in-turn before)
-    where
-      go : (pick (choice (v .party)) (availableTo ts v es) ≡ none) ⊎ ((x : Entry) × (pick (choice (v .party)) (availableTo ts v es) ≡ some x))
-          → ((fs : List Entry) → Turn (serve choice ts fs before) (serve choice ts fs (before ++ w ∷ rest)))
-          → Turn (serve choice ts es (v ∷ before)) (serve choice ts es (v ∷ (before ++ w ∷ rest)))
-      go (inl q) below =
-          let h = below es in
-          subst₂ Turn (sym (serve-none choice ts es v before q)) (sym (serve-none choice ts es v (before ++ w ∷ rest) q)) (h .0, λ t. List·Memᴰ·tail (h .1 t))
-      go (inr r) below =
-          let h = below (handOut ts v (r .0) es) in
-          subst₂ Turn (sym (serve-some choice ts es v before (r .0) (r .1))) (sym (serve-some choice ts es v (before ++ w ∷ rest) (r .0) (r .1)))
-          ((λ t. let k = h .0 t in (k .0, k .1, List·Memᴰ·tail (k .2))), h .1)
-
-pub demand2 : Demand2
-demand2 =
-    record {
-      now = λ is i n l. answered-now (i .choice) (made is) (i .frame) (i .area) n l;
-      later = λ is i w j. step-later i (made is) (stable is) w j;
-      settled = λ is. record { none-available = stable is .none-for; not-reached = deadlines-above is };
-      in-turn = λ choice ts es before w rest. let h = in-turn choice ts w rest before es in record { found-case = h .0; waits-on-case = h .1 };
-    }
