@@ -7,5 +7,6 @@ mod records;
 pub mod rows;
 mod service;
 mod sweep;
+mod tick;
 mod time;
 mod txns;
