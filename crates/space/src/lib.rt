@@ -6,5 +6,6 @@ mod live;
 pub mod rows;
 mod service;
 mod sweep;
+mod tick;
 mod time;
 mod txns;
