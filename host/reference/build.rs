@@ -11,7 +11,7 @@ fn main() {
     };
     println!("cargo:rerun-if-env-changed=SPACE_ARCHIVE");
     println!("cargo:rerun-if-changed={}", archive.display());
-    for program in ["differ"] {
+    for program in ["differ", "bench"] {
         println!("cargo:rustc-link-arg-bin={program}={}", archive.display());
     }
 }

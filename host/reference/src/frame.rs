@@ -33,21 +33,21 @@ pub enum Refusal {
 
 #[derive(Clone, Copy, PartialEq, Eq, Debug)]
 pub struct Template {
-    /// All ones for a field whose mask bit is 1, else 0.
-    wanted: Fields,
+    /// Whether the field's mask bit is 1.
+    wanted: [bool; 4],
     fields: Fields,
 }
 
 impl Template {
     pub fn new(mask: u8, fields: Fields) -> Template {
-        let wanted = std::array::from_fn(|i| if mask >> i & 1 == 1 { u32::MAX } else { 0 });
+        let wanted = std::array::from_fn(|i| mask >> i & 1 == 1);
         Template { wanted, fields }
     }
 
-    /// Every field whose bit is 1 is equal. Without branches, so that a search over all entries is fast.
+    /// Every field whose bit is 1 is equal. `&` and `|` make no branches, so that a search over all entries is fast.
     pub fn matches(&self, entry: &Fields) -> bool {
-        let differs = |i: usize| (entry[i] ^ self.fields[i]) & self.wanted[i];
-        differs(0) | differs(1) | differs(2) | differs(3) == 0
+        let agrees = |i: usize| (entry[i] == self.fields[i]) | !self.wanted[i];
+        agrees(0) & agrees(1) & agrees(2) & agrees(3)
     }
 }
 
@@ -84,16 +84,19 @@ pub fn length_of(operation: u8) -> Option<usize> {
     }
 }
 
+#[inline]
 pub fn word(bytes: &[u8], at: usize) -> u32 {
-    u32::from_le_bytes([bytes[at], bytes[at + 1], bytes[at + 2], bytes[at + 3]])
+    u32::from_le_bytes(bytes[at..at + 4].try_into().unwrap())
 }
 
 /// The four fields of a frame of 28 bytes.
+#[inline]
 pub fn fields_of(frame: &[u8]) -> Fields {
     [word(frame, 12), word(frame, 16), word(frame, 20), word(frame, 24)]
 }
 
 /// Refusals 2 to 5, in document 01's order.
+#[inline]
 pub fn decode(frame: &[u8]) -> Result<Request, Refusal> {
     let Some(&operation) = frame.first() else { return Err(Refusal::Operation) };
     let Some(length) = length_of(operation) else { return Err(Refusal::Operation) };
@@ -102,12 +105,16 @@ pub fn decode(frame: &[u8]) -> Result<Request, Refusal> {
     }
 
     let (party, mask) = (frame[1], frame[2]);
+    let transaction = if length >= 8 { word(frame, 4) } else { NONE };
+    let duration = if length >= 12 { word(frame, 8) } else { 0 };
+    let fields = if length == 28 { fields_of(frame) } else { [0; 4] };
+
     let is_look_up = LOOK_UPS.contains(&operation);
     let ill_formed = frame[3] != 0
         || mask > 15
         || mask != 0 && !is_look_up
-        || is_look_up && fields_of(frame).iter().enumerate().any(|(i, &f)| mask >> i & 1 == 0 && f != 0)
-        || operation == 6 && word(frame, 4) != NONE;
+        || is_look_up && (0..4).any(|i| mask >> i & 1 == 0 && fields[i] != 0)
+        || operation == 6 && transaction != NONE;
     if ill_formed {
         return Err(Refusal::Form);
     }
@@ -118,17 +125,14 @@ pub fn decode(frame: &[u8]) -> Result<Request, Refusal> {
     }
 
     Ok(match operation {
-        1 => Request::Write { party, transaction: word(frame, 4), lease: word(frame, 8), fields: fields_of(frame) },
-        2..=5 => Request::LookUp {
-            party,
-            transaction: word(frame, 4),
-            timeout: word(frame, 8),
-            kind: look_up_kind(operation),
-            template: Template::new(mask, fields_of(frame)),
-        },
-        6 => Request::Create { party, lease: word(frame, 8) },
-        7 => Request::Commit { party, transaction: word(frame, 4) },
-        8 => Request::Abort { party, transaction: word(frame, 4) },
+        1 => Request::Write { party, transaction, lease: duration, fields },
+        2..=5 => {
+            let (kind, template) = (look_up_kind(operation), Template::new(mask, fields));
+            Request::LookUp { party, transaction, timeout: duration, kind, template }
+        }
+        6 => Request::Create { party, lease: duration },
+        7 => Request::Commit { party, transaction },
+        8 => Request::Abort { party, transaction },
         _ => Request::Tick,
     })
 }
