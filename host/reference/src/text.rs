@@ -2,21 +2,25 @@
 //!
 //! One frame to a line; `#` begins a comment. D is a number of ticks or `forever`; `in T` may be left out.
 //!
-//!     party P write KIND SIDE IMAGE PLACE lease D in T
-//!     party P read any timeout D in T                       also: take, readIfExists, takeIfExists
-//!     party P take kind K side S image I place L timeout D  (any of the four fields)
-//!     party P create lease D
-//!     party P commit T                                      also: abort
-//!     tick
-//!     bytes 01 02 ff                                        a frame given byte by byte
-//!     repeat N .. end                                       the lines between, N times
+//! ```text
+//! party P write KIND SIDE IMAGE PLACE lease D in T
+//! party P read any timeout D in T                       also: take, readIfExists, takeIfExists
+//! party P take kind K side S image I place L timeout D  (any of the four fields)
+//! party P create lease D
+//! party P commit T                                      also: abort
+//! tick
+//! bytes 01 02 ff                                        a frame given byte by byte
+//! repeat N .. end                                       the lines between, N times
+//! ```
 //!
 //! For trays that are to be refused, the finished tray can be changed:
 //!
-//!     gap N                                                 N bytes that belong to no frame come next
-//!     count N                                               the count says N
-//!     pair I offset O length L                              pair I (from 1) says this
-//!     size N                                                the tray is cut or filled up to N bytes
+//! ```text
+//! gap N                                                 N bytes that belong to no frame come next
+//! count N                                               the count says N
+//! pair I offset O length L                              pair I (from 1) says this
+//! size N                                                the tray is cut or filled up to N bytes
+//! ```
 
 use crate::answer::{records, Record};
 use crate::frame::{decode, fields_of, word, Fields, FOREVER, LOOK_UPS, NONE};
