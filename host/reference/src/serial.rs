@@ -116,8 +116,9 @@ impl SerialRun {
             .map(|(&number, &(fields, end))| Member { number, fields, end })
             .filter(|member| !member.end.reached(self.clock))
             .collect();
-        if left != committed {
-            return Err(format!("left: {left:?}\ncommitted: {committed:?}"));
+        let most = left.len().max(committed.len());
+        if let Some(place) = (0..most).find(|&i| left.get(i) != committed.get(i)) {
+            return Err(format!("left: {:?}, committed: {:?}", left.get(place), committed.get(place)));
         }
         Ok(())
     }
