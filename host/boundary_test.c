@@ -64,7 +64,8 @@ int main(void)
     memcpy(before, space, sizeof space);
     check(space_step(space, NULL, 0, NULL, 0) == 65536 * 1, "a step without an area");
     check(space_step(space, NULL, 0, answers, SPACE_STEP_BYTES) == 1 + 65536 * 2, "an empty frame");
-    check(answers[0] == SPACE_REFUSED && answers[1] == 0 && answers[2] == SPACE_BAD_OPERATION, "its record");
+    check(answers[0] == SPACE_RECORD_REFUSED, "an empty frame's record");
+    check(answers[1] == 0 && answers[2] == SPACE_REFUSAL_BAD_OPERATION, "an empty frame's party and number");
     check(memcmp(before, space, sizeof space) == 0, "refused frames leave the space as it was");
     return 0;
 }

@@ -52,11 +52,11 @@ static void release(uint8_t *memory)
 static size_t put_frame(uint8_t *frame, int operation, int party, uint32_t transaction, uint32_t duration)
 {
     static const size_t lengths[] = {0, 28, 28, 28, 28, 28, 12, 8, 8, 4};
-    int is_look_up = operation >= SPACE_READ && operation <= SPACE_TAKE_IF_EXISTS;
-    uint8_t whole[28] = {(uint8_t)operation, (uint8_t)party, is_look_up ? SPACE_KIND : 0, 0};
-    space_put_word(whole + SPACE_FRAME_TRANSACTION, transaction);
-    space_put_word(whole + SPACE_FRAME_DURATION, duration);
-    space_put_word(whole + SPACE_FRAME_FIELDS, 1);
+    int is_look_up = operation >= SPACE_OP_READ && operation <= SPACE_OP_TAKE_IF_EXISTS;
+    uint8_t whole[28] = {(uint8_t)operation, (uint8_t)party, is_look_up ? SPACE_MASK_KIND : 0, 0};
+    space_put_word(whole + SPACE_FRAME_AT_TRANSACTION, transaction);
+    space_put_word(whole + SPACE_FRAME_AT_DURATION, duration);
+    space_put_word(whole + SPACE_FRAME_AT_FIELDS, 1);
     memcpy(frame, whole, lengths[operation]);
     return lengths[operation];
 }
@@ -65,8 +65,8 @@ static size_t put_frame(uint8_t *frame, int operation, int party, uint32_t trans
 static size_t make_frame(uint8_t frame[28])
 {
     int operation = 1 + (int)below(9);
-    int party = operation == SPACE_TICK ? 0 : 1 + (int)below(5);
-    uint32_t transaction = operation == SPACE_CREATE || below(2) ? 0 : below(9);
+    int party = operation == SPACE_OP_TICK ? 0 : 1 + (int)below(5);
+    uint32_t transaction = operation == SPACE_OP_CREATE || below(2) ? 0 : below(9);
     memset(frame, 0, 28);
     size_t length = put_frame(frame, operation, party, transaction, below(9) ? below(6) : odd_number());
     if (!below(12))
@@ -115,13 +115,14 @@ static void read_records(const uint8_t *answers, uint32_t records)
     uint32_t with_words = 0;
     for (uint32_t i = 0; i < records; i++) {
         const uint8_t *record = answers + SPACE_RECORD_BYTES * i;
-        int refused = record[0] == SPACE_REFUSED;
+        int refused = record[0] == SPACE_RECORD_REFUSED;
         uint32_t any = 0;
         for (int at = 4; at < SPACE_RECORD_BYTES; at += 4)
             any |= space_get_word(record + at);
-        if (record[0] == 0 || (record[0] > SPACE_TICKED && !refused) || (record[2] != 0) != refused || record[3] != 0
-            || (refused && any != 0))
+        if (record[0] == 0 || (record[0] > SPACE_RECORD_TICKED && !refused) || record[3] != 0)
             fail("a record", i);
+        if ((record[2] != 0) != refused || (refused && any != 0))
+            fail("a refused record", i);
         with_words += any != 0;
     }
     if (with_words > records)
@@ -130,7 +131,7 @@ static void read_records(const uint8_t *answers, uint32_t records)
 
 static void run_one_tray(void)
 {
-    static uint8_t made[SPACE_TRAY_BYTES + 8];
+    static uint8_t made[SPACE_MAX_TRAY_BYTES + 8];
     size_t tray_len = make_tray(made);
     size_t answers_len = below(4) ? below(6000) : below(65537);
     uint8_t *tray = buffer(0, tray_len), *answers = buffer(1, answers_len);
@@ -139,9 +140,9 @@ static void run_one_tray(void)
         memset(answers, 0x5a, answers_len);
     uint64_t returned = space_run_tray(tray, tray_len, answers, answers_len);
     uint32_t records = space_run_records(returned), number = space_run_number(returned);
-    if (space_run_frames(returned) > SPACE_TRAY_FRAMES || SPACE_RECORD_BYTES * (size_t)records > answers_len)
+    if (space_run_frames(returned) > SPACE_MAX_TRAY_FRAMES || SPACE_RECORD_BYTES * (size_t)records > answers_len)
         fail("counts", returned);
-    if (number != 0 && number != SPACE_AREA_TOO_SMALL && number != SPACE_BAD_TRAY && number != SPACE_BAD_PAIR)
+    if (number > SPACE_REFUSAL_AREA_TOO_SMALL && number != SPACE_REFUSAL_BAD_TRAY && number != SPACE_REFUSAL_BAD_PAIR)
         fail("number", returned);
     read_records(answers, records);
     for (size_t i = SPACE_RECORD_BYTES * (size_t)records; fenced && i < answers_len; i++)
@@ -162,11 +163,11 @@ static void run_longest_step(void)
     uint64_t returned = 0;
     space_empty(fresh);
     for (int i = 0; i < 57; i++) {
-        size_t frame_len = i < 16   ? put_frame(frame, SPACE_WRITE, 1, 0, SPACE_FOREVER)
-                           : i < 24 ? put_frame(frame, SPACE_CREATE, i - 15, 0, 1)
-                           : i < 40 ? put_frame(frame, SPACE_TAKE, (i - 22) / 2, (uint32_t)(i - 22) / 2, 0)
-                           : i < 56 ? put_frame(frame, SPACE_TAKE, i - 39, 0, SPACE_FOREVER)
-                                    : put_frame(frame, SPACE_TICK, 0, 0, 0);
+        size_t frame_len = i < 16   ? put_frame(frame, SPACE_OP_WRITE, 1, 0, SPACE_FOREVER)
+                           : i < 24 ? put_frame(frame, SPACE_OP_CREATE, i - 15, 0, 1)
+                           : i < 40 ? put_frame(frame, SPACE_OP_TAKE, (i - 22) / 2, (uint32_t)(i - 22) / 2, 0)
+                           : i < 56 ? put_frame(frame, SPACE_OP_TAKE, i - 39, 0, SPACE_FOREVER)
+                                    : put_frame(frame, SPACE_OP_TICK, 0, 0, 0);
         uint8_t *answers = buffer(2, SPACE_STEP_BYTES);
         returned = space_step(fresh, frame, frame_len, answers, SPACE_STEP_BYTES);
         read_records(answers, space_step_records(returned));
@@ -190,7 +191,7 @@ static void run_steps(void)
         uint8_t *frame = buffer(1, frame_len), *answers = buffer(2, answers_len);
         memcpy(frame, made, frame_len);
         uint64_t returned = space_step(space, frame, frame_len, answers, answers_len);
-        if (space_step_records(returned) > 25 || space_step_number(returned) > SPACE_WAITING_FULL)
+        if (space_step_records(returned) > 25 || space_step_number(returned) > SPACE_REFUSAL_WAITING_FULL)
             fail("a step", returned);
         read_records(answers, space_step_records(returned));
         release(frame);

@@ -11,7 +11,7 @@ static inline void print_lines(const uint8_t *answers, uint64_t returned)
     for (uint32_t i = 0; i < space_run_records(returned); i++) {
         const uint8_t *record = answers + SPACE_RECORD_BYTES * i;
         printf("%u %u %u", record[0], record[1], record[2]);
-        for (int at = SPACE_RECORD_TRANSACTION; at < SPACE_RECORD_BYTES; at += 4)
+        for (int at = SPACE_RECORD_AT_TRANSACTION; at < SPACE_RECORD_BYTES; at += 4)
             printf(" %" PRIu32, space_get_word(record + at));
         printf("\n");
     }

@@ -1,7 +1,7 @@
 /* Does what the program `viewer` does, through the C boundary: reads a tray from standard input, runs it, prints. */
 #include "lines.h"
 
-static uint8_t tray[SPACE_TRAY_BYTES + 1];
+static uint8_t tray[SPACE_MAX_TRAY_BYTES + 1];
 static uint8_t answers[65536];
 
 int main(void)

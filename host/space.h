@@ -13,76 +13,76 @@
 extern "C" {
 #endif
 
-#define SPACE_WORDS 758          /* words of a space */
-#define SPACE_RECORD_BYTES 28    /* bytes of a record */
-#define SPACE_STEP_BYTES 700     /* room that a frame needs in the answers area: 25 records */
-#define SPACE_TRAY_BYTES 65536   /* bytes of a tray at most */
-#define SPACE_TRAY_FRAMES 2000   /* frames of a tray at most */
-#define SPACE_ENTRIES 64         /* entries stored at most */
-#define SPACE_TRANSACTIONS 8     /* transactions live at most */
-#define SPACE_WAITING 16         /* look-ups waiting at most */
-#define SPACE_PARTIES 16         /* parties are 1 to 16 */
+#define SPACE_WORDS 758              /* words of a space */
+#define SPACE_RECORD_BYTES 28        /* bytes of a record */
+#define SPACE_STEP_BYTES 700         /* room that a frame needs in the answers area: 25 records */
+#define SPACE_MAX_TRAY_BYTES 65536   /* bytes of a tray at most */
+#define SPACE_MAX_TRAY_FRAMES 2000   /* frames of a tray at most */
+#define SPACE_MAX_ENTRIES 64         /* entries stored at most */
+#define SPACE_MAX_TRANSACTIONS 8     /* transactions live at most */
+#define SPACE_MAX_WAITING 16         /* look-ups waiting at most */
+#define SPACE_MAX_PARTY 16           /* parties are 1 to 16 */
 #define SPACE_FOREVER 4294967295u
 
 /* Frame: byte 0 operation, 1 party (0 for tick), 2 mask, 3 zero, then words at these offsets. */
-#define SPACE_FRAME_TRANSACTION 4
-#define SPACE_FRAME_DURATION 8   /* lease or timeout */
-#define SPACE_FRAME_FIELDS 12    /* kind, side, image, place */
+#define SPACE_FRAME_AT_TRANSACTION 4
+#define SPACE_FRAME_AT_DURATION 8    /* lease or timeout */
+#define SPACE_FRAME_AT_FIELDS 12     /* kind, side, image, place */
 
-enum space_operation {           /* and the frame's length */
-    SPACE_WRITE = 1,             /* 28 */
-    SPACE_READ = 2,              /* 28 */
-    SPACE_TAKE = 3,              /* 28 */
-    SPACE_READ_IF_EXISTS = 4,    /* 28 */
-    SPACE_TAKE_IF_EXISTS = 5,    /* 28 */
-    SPACE_CREATE = 6,            /* 12 */
-    SPACE_COMMIT = 7,            /* 8 */
-    SPACE_ABORT = 8,             /* 8 */
-    SPACE_TICK = 9               /* 4 */
+enum space_operation {               /* and the frame's length */
+    SPACE_OP_WRITE = 1,              /* 28 */
+    SPACE_OP_READ = 2,               /* 28 */
+    SPACE_OP_TAKE = 3,               /* 28 */
+    SPACE_OP_READ_IF_EXISTS = 4,     /* 28 */
+    SPACE_OP_TAKE_IF_EXISTS = 5,     /* 28 */
+    SPACE_OP_CREATE = 6,             /* 12 */
+    SPACE_OP_COMMIT = 7,             /* 8 */
+    SPACE_OP_ABORT = 8,              /* 8 */
+    SPACE_OP_TICK = 9                /* 4 */
 };
 
 /* Mask bits of a template. */
-#define SPACE_KIND 1
-#define SPACE_SIDE 2
-#define SPACE_IMAGE 4
-#define SPACE_PLACE 8
+#define SPACE_MASK_KIND 1
+#define SPACE_MASK_SIDE 2
+#define SPACE_MASK_IMAGE 4
+#define SPACE_MASK_PLACE 8
 
 /* Record: byte 0 kind, 1 party, 2 refusal number, 3 zero, then words at these offsets. */
-#define SPACE_RECORD_TRANSACTION 4
-#define SPACE_RECORD_ENTRY 8
-#define SPACE_RECORD_FIELDS 12
+#define SPACE_RECORD_AT_TRANSACTION 4
+#define SPACE_RECORD_AT_ENTRY 8
+#define SPACE_RECORD_AT_FIELDS 12
 
 enum space_record_kind {
-    SPACE_WRITTEN = 1,
-    SPACE_FOUND = 2,
-    SPACE_NOTHING = 3,
-    SPACE_IS_WAITING = 4,
-    SPACE_CREATED = 5,
-    SPACE_COMMITTED = 6,
-    SPACE_ABORTED = 7,
-    SPACE_EXCEPTION = 8,
-    SPACE_TICKED = 9,
-    SPACE_REFUSED = 15
+    SPACE_RECORD_WRITTEN = 1,
+    SPACE_RECORD_FOUND = 2,
+    SPACE_RECORD_NOTHING = 3,
+    SPACE_RECORD_WAITING = 4,
+    SPACE_RECORD_CREATED = 5,
+    SPACE_RECORD_COMMITTED = 6,
+    SPACE_RECORD_ABORTED = 7,
+    SPACE_RECORD_EXCEPTION = 8,
+    SPACE_RECORD_TICKED = 9,
+    SPACE_RECORD_REFUSED = 15
 };
 
 /* Numbers 1 to 14 are of a frame, 15 and 16 of a tray; 0 is no refusal. docs/MANUAL.md says what to do about each. */
 enum space_refusal {
-    SPACE_AREA_TOO_SMALL = 1,
-    SPACE_BAD_OPERATION = 2,
-    SPACE_BAD_LENGTH = 3,
-    SPACE_BAD_FORM = 4,
-    SPACE_BAD_PARTY = 5,
-    SPACE_PARTY_WAITS = 6,
-    SPACE_NOT_LIVE = 7,
-    SPACE_NOT_OWNER = 8,
-    SPACE_CREATE_WITHOUT_LEASE = 9,
-    SPACE_TOO_LATE = 10,
-    SPACE_ENTRIES_FULL = 11,
-    SPACE_TRANSACTIONS_FULL = 12,
-    SPACE_NUMBERS_USED_UP = 13,
-    SPACE_WAITING_FULL = 14,
-    SPACE_BAD_TRAY = 15,
-    SPACE_BAD_PAIR = 16
+    SPACE_REFUSAL_AREA_TOO_SMALL = 1,
+    SPACE_REFUSAL_BAD_OPERATION = 2,
+    SPACE_REFUSAL_BAD_LENGTH = 3,
+    SPACE_REFUSAL_BAD_FORM = 4,
+    SPACE_REFUSAL_BAD_PARTY = 5,
+    SPACE_REFUSAL_PARTY_WAITS = 6,
+    SPACE_REFUSAL_NOT_LIVE = 7,
+    SPACE_REFUSAL_NOT_OWNER = 8,
+    SPACE_REFUSAL_CREATE_WITHOUT_LEASE = 9,
+    SPACE_REFUSAL_TOO_LATE = 10,
+    SPACE_REFUSAL_ENTRIES_FULL = 11,
+    SPACE_REFUSAL_TRANSACTIONS_FULL = 12,
+    SPACE_REFUSAL_NUMBERS_USED_UP = 13,
+    SPACE_REFUSAL_WAITING_FULL = 14,
+    SPACE_REFUSAL_BAD_TRAY = 15,
+    SPACE_REFUSAL_BAD_PAIR = 16
 };
 
 /* Makes `space` the empty space: clock 0, nothing stored, live or waiting, 1 as both next numbers.
@@ -92,16 +92,15 @@ void space_empty(uint32_t space[SPACE_WORDS]);
 /* Carries out one frame on a space that space_empty and space_step alone have written.
  * Returns records + 65536 * number: the records written to `answers`, one behind the other from its beginning, and
  * the refusal's number or 0. A refused frame leaves every word of `space` as it was; it writes one record, or none
- * for SPACE_AREA_TOO_SMALL (answers_len under 700). Bytes of `answers` after the last record keep their contents.
- * `frame` is only read. On words made in any other way the call still ends and keeps to its buffers, and nothing
- * more is promised. */
+ * for number 1 (answers_len under 700). Bytes of `answers` after the last record keep their contents. `frame` is only
+ * read. On words made in any other way the call still ends and keeps to its buffers; nothing more is promised. */
 uint64_t space_step(uint32_t space[SPACE_WORDS], const uint8_t *frame, size_t frame_len,
                     uint8_t *answers, size_t answers_len);
 
 /* Runs a whole tray from an empty space of its own.
  * Returns frames + 65536 * records + 4294967296 * number: frames done (refused ones count), records written to
- * `answers` one behind the other, and 0 at the tray's end, SPACE_AREA_TOO_SMALL if it stopped before a frame for
- * which under 700 bytes were left, or SPACE_BAD_TRAY or SPACE_BAD_PAIR (then nothing was done). Bytes of `answers`
+ * `answers` one behind the other from its beginning, and a number: 0 at the tray's end; 1 if it stopped before a frame
+ * for which under 700 bytes were left; 15 or 16 if the tray is refused, and then nothing was done. Bytes of `answers`
  * after the last record keep their contents. `tray` is only read. */
 uint64_t space_run_tray(const uint8_t *tray, size_t tray_len, uint8_t *answers, size_t answers_len);
 

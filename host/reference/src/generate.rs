@@ -158,7 +158,7 @@ impl Generator {
     /// Perhaps another party's, ended, not made yet, or none.
     fn stray_transaction(&mut self, guide: &Space) -> u32 {
         match self.random.below(4) {
-            0 => self.random.next() as u32,
+            0 => self.random.number() as u32,
             1 => NONE,
             2 if !guide.transactions.is_empty() => {
                 guide.transactions[self.random.below(guide.transactions.len())].number
@@ -281,7 +281,7 @@ impl Generator {
     pub fn damage(&mut self, mut tray: Vec<u8>) -> Vec<u8> {
         let random = &mut self.random;
         let count = u32::from_le_bytes([tray[0], tray[1], tray[2], tray[3]]) as usize;
-        let odd = [random.next() as u32 % 65536, u32::MAX, random.next() as u32, 4, 0];
+        let odd = [random.number() as u32 % 65536, u32::MAX, random.number() as u32, 4, 0];
         match random.below(11) {
             0 => tray.truncate(random.below(tray.len() + 1)),
             1 => tray.truncate(random.below(4)),

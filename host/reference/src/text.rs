@@ -156,7 +156,7 @@ fn party_frame(words: &mut Words) -> Result<Vec<u8>, String> {
 
 fn raw_frame(words: &mut Words) -> Result<Vec<u8>, String> {
     let mut frame = Vec::new();
-    while let Some(word) = words.words.next() {
+    for word in words.words.by_ref() {
         frame.push(u8::from_str_radix(word, 16).map_err(|_| format!("`{word}` is no byte in base 16"))?);
     }
     Ok(frame)

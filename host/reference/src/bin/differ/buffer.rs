@@ -17,7 +17,7 @@ impl Buffer {
         let (before, behind) = (16 + random.below(16), 16);
         let mut bytes = Vec::with_capacity(before + length + behind + 8);
         while bytes.len() < before + length + behind {
-            bytes.extend(random.next().to_le_bytes());
+            bytes.extend(random.number().to_le_bytes());
         }
         Buffer { bytes, area: before..before + length }
     }

@@ -67,7 +67,7 @@ fn step(words: &mut Words, space: &mut Space, frame: &[u8], area: Buffer) -> Res
 /// The words of the empty space, or of one like it in which many ticks, writes with lease 0 and aborted
 /// transactions lie behind; and the same for the reference.
 fn beginning(random: &mut Random) -> Result<(Words, Space), String> {
-    let mut words: Words = std::array::from_fn(|_| random.next() as u32);
+    let mut words: Words = std::array::from_fn(|_| random.number() as u32);
     boundary::empty(&mut words);
     let mut space = Space::new();
     if let Some(why) = difference(&view(&words), &space) {
@@ -121,7 +121,7 @@ pub fn on_any_words(generator: &mut Generator) -> Result<(), String> {
         let mut words: Words = [0; WORDS];
         let (small, zero) = (random.below(100), random.below(100));
         for word in &mut words {
-            let any = random.next() as u32;
+            let any = random.number() as u32;
             *word = match random.below(100) {
                 draw if draw < small => any % 20,
                 draw if draw < zero => 0,
