@@ -6,19 +6,30 @@ out=$PWD/target/host
 mkdir -p "$out"
 export CARGO_TARGET_DIR=$out/cargo
 
+missing_or_old() { # FILE: it is not there, or older than something in crates/
+    [ ! -f "$1" ] || [ -n "$(find crates crates.txt -newer "$1" -print -quit)" ]
+}
+
+rt_makes() { # FILE WORDS: has `rt WORDS` make the file, if need be
+    local file=$1
+    shift
+    missing_or_old "$file" || return 0
+    echo "rt $*"
+    rt "$@" > "$out/rt-$1.log" || { tail -n 20 "$out/rt-$1.log"; return 1; }
+}
+
 find_archive() {
-    if [ -z "${SPACE_ARCHIVE:-}" ] && [ ! -f target/staticlib/libtray.a ]; then
-        rt staticlib tray > "$out/staticlib.log" || { tail -n 20 "$out/staticlib.log"; return 1; }
-    fi
-    archive=$(realpath "${SPACE_ARCHIVE:-target/staticlib/libtray.a}")
+    archive=${SPACE_ARCHIVE:-target/staticlib/libtray.a}
+    [ -n "${SPACE_ARCHIVE:-}" ] || rt_makes "$archive" staticlib tray || return 1
     [ -f "$archive" ] || { echo "there is no $archive"; return 1; }
+    archive=$(realpath "$archive")
     export SPACE_ARCHIVE=$archive
 }
 
 find_program() {
     program=${SPACE_PROGRAM:-target/bin/viewer}
-    if [ -z "${SPACE_PROGRAM:-}" ] && [ ! -x "$program" ] && grep -q '^viewer:' crates.txt; then
-        rt check viewer > "$out/viewer.log" || { tail -n 20 "$out/viewer.log"; return 1; }
+    if [ -z "${SPACE_PROGRAM:-}" ] && grep -q '^viewer:' crates.txt; then
+        rt_makes "$program" check viewer || return 1
     fi
     [ -x "$program" ] || program=
 }
