@@ -65,12 +65,12 @@ impl Bench {
 }
 
 fn row(name: &str, times: &Times) {
-    println!("| {name:<44} | {:>6.1} | {:>6.1} | {:>5.2} |", times.here, times.reference, times.here / times.reference);
+    println!("| {name:<54} | {:>6.1} | {:>6.1} | {:>5.2} |", times.here, times.reference, times.here / times.reference);
 }
 
 fn head(first: &str) {
-    println!("\n| {first:<44} | here   | Rust   | ratio |");
-    println!("|{}|-------:|-------:|------:|", "-".repeat(46));
+    println!("\n| {first:<54} | here   | Rust   | ratio |");
+    println!("|{}|-------:|-------:|------:|", "-".repeat(56));
 }
 
 fn main() {
