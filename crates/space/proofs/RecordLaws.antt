@@ -58,10 +58,15 @@ pub record-length : (r : Record) → length (recordBytes r) ≡ 28
 unfolding recordBytes
 record-length r = refl
 
+pub answers-append : (rs ss : List Record) → answerBytes (rs ++ ss) ≡ answerBytes rs ++ answerBytes ss
+unfolding answerBytes
+answers-append [] ss = refl
+answers-append (r ∷ rs) ss =
+    ap (λ l. recordBytes r ++ l) (answers-append rs ss) ∙ sym (append-assoc (recordBytes r) (answerBytes rs) (answerBytes ss))
+
 answers-more : (rs : List Record) (r : Record) → answerBytes (rs ++ (r ∷ [])) ≡ answerBytes rs ++ recordBytes r
 unfolding answerBytes
-answers-more [] r = append-nil (recordBytes r)
-answers-more (x ∷ rs) r = ap (λ l. recordBytes x ++ l) (answers-more rs r) ∙ sym (append-assoc (recordBytes x) (answerBytes rs) (recordBytes r))
+answers-more rs r = answers-append rs (r ∷ []) ∙ ap (λ l. answerBytes rs ++ l) (append-nil (recordBytes r))
 
 -- the records rs stand in the area a₀, behind `count` others; they are `done` in all
 pub record Area (count : ℕ) (a₀ a : List ℕ) (rs : List Record) (done : ℕ) : Type 0 where

@@ -3,6 +3,7 @@ use Prim.Native.Nat.{ℕ, _+_, _*_}
 use mathlib.Core.Path.{_≡_}
 use mathlib.Core.List.{List, _++_}
 use lib.ListN.{length, take, drop}
+use Rattle.rules.specs.declared.Record.{Record}
 use Rattle.rules.specs.Numbers.{recordSize}
 use Rattle.rules.specs.Records.{areaAfter}
 use Rattle.rules.specs.LookUp.{Done}
@@ -11,6 +12,11 @@ use Rattle.rules.specs.Words.{view}
 -- the free choice as the code makes it: the first available entry
 abbrev pub first : ℕ → ℕ
 first party = 0
+
+-- the answers area, in which `count` records stand, becomes area′ with count′ records: the records rs behind those that stand there
+pub record Adds (rs : List Record) (area area′ : List ℕ) (count count′ : ℕ) : Type 0 where
+  pub counts : count′ ≡ count + length rs
+  pub bytes : area′ ≡ take (recordSize * count) area ++ areaAfter rs (drop (recordSize * count) area)
 
 -- the words become ws′ and the answers area, in which `count` records stand, becomes area′ with count′ records, as the rules' `d` says:
 -- its model, and its records behind those that stand there

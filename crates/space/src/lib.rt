@@ -1,4 +1,5 @@
 // The space: one lent array of words, and what each frame does to it.
+mod answers;
 mod endings;
 mod find;
 mod holds;
@@ -7,3 +8,4 @@ mod records;
 pub mod rows;
 mod service;
 mod sweep;
+mod time;
