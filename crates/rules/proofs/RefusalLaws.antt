@@ -1,13 +1,17 @@
--- What is known of a frame that is not refused: none of the table's rows applies.
+-- What is known of a frame that is not refused: none of the table's rows applies. The table in parts.
 use Prim.Native.Nat.{ℕ, suc}
-use mathlib.Core.Bool.{Bool, true, false, cond}
-use mathlib.Core.Path.{_≡_, refl}
-use mathlib.Core.List.{List}
+use mathlib.Core.Bool.{Bool, true, false, not, cond, _&&_}
+use mathlib.Core.Path.{_≡_, refl, sym, ap, _∙_}
+use mathlib.Core.List.{List, [], _∷_, _++_}
 use native.Mathlib.Omega.{arith}
-use lib.Dec.{ltb}
+use lib.Dec.{eqb, ltb}
+use Rattle.rules.specs.Lists.{firstRow}
+use Rattle.rules.specs.Numbers.{stepArea, areaRefused, operationRefused, lengthRefused, formRefused, partyRefused, waitingRefused, notLiveRefused, notOwnRefused, leaseRefused, clockRefused, entriesRefused, txnsRefused, numberRefused, waitsRefused}
 use Rattle.rules.specs.State.{Model}
 use Rattle.rules.specs.Frame.{decode}
 use Rattle.rules.specs.Refusals.{noOperation, wrongLength, malformed, wrongParty, partyWaits, notLive, notOwn, noLease, tooLate, entriesFull, txnsFull, noNumber, waitsFull, refusal}
+use Rattle.rules.specs.Requests.{formRefusal, spaceRefusal}
+use Rattle.rules.proofs.StepCases.{and-left, and-right}
 
 row : (b : Bool) (n rest : ℕ) → cond b (suc n) rest ≡ 0 → (b ≡ false) × (rest ≡ 0)
 row true n rest e = absurd (omega arith)
@@ -62,3 +66,45 @@ clear m bs area e =
       numbers = r13 .0;
       wait-room = r14 .0;
     }
+
+-- ---- the table in parts
+-- no row has the number 0, which says that none applies
+abbrev pub numbered : List (Bool × ℕ) → Bool
+numbered [] = true
+numbered (r ∷ rs) = not (eqb (r .1) 0) && numbered rs
+
+-- the first of some rows that applies, or else of the rows behind them
+pub first-append : (xs ys : List (Bool × ℕ)) → numbered xs ≡ true → firstRow (xs ++ ys) ≡ cond (eqb (firstRow xs) 0) (firstRow ys) (firstRow xs)
+first-append [] ys e = refl
+first-append (x ∷ xs) ys e =
+    go (x .0) (not-false (eqb (x .1) 0) (and-left (not (eqb (x .1) 0)) (numbered xs) e)) (first-append xs ys (and-right (not (eqb (x .1) 0)) (numbered xs) e))
+  where
+    not-false : (b : Bool) → not b ≡ true → b ≡ false
+    not-false true q = sym q
+    not-false false q = refl
+
+    go : (b : Bool) → eqb (x .1) 0 ≡ false → firstRow (xs ++ ys) ≡ cond (eqb (firstRow xs) 0) (firstRow ys) (firstRow xs)
+        → cond b (x .1) (firstRow (xs ++ ys)) ≡ cond (eqb (cond b (x .1) (firstRow xs)) 0) (firstRow ys) (cond b (x .1) (firstRow xs))
+    go true q below = rw q
+    go false q below = below
+
+-- the answers area is judged first, then the frame's bytes, then the frame against the space
+pub refusal-parts : (m : Model) (bs : List ℕ) (area : ℕ)
+    → refusal m bs area
+    ≡ cond (ltb area stepArea) areaRefused (cond (eqb (formRefusal bs) 0) (spaceRefusal m (decode bs)) (formRefusal bs))
+unfolding refusal formRefusal spaceRefusal
+refusal-parts m bs area =
+    let f = decode bs in
+    ap (λ n. cond (ltb area stepArea) areaRefused n)
+    (first-append
+    ((noOperation bs f, operationRefused) ∷ (wrongLength bs f, lengthRefused) ∷ (malformed f, formRefused) ∷ (wrongParty f, partyRefused) ∷ [])
+    ((partyWaits m f, waitingRefused)
+    ∷ (notLive m f, notLiveRefused)
+    ∷ (notOwn m f, notOwnRefused)
+    ∷ (noLease f, leaseRefused)
+    ∷ (tooLate m f, clockRefused)
+    ∷ (entriesFull m f, entriesRefused)
+    ∷ (txnsFull m f, txnsRefused)
+    ∷ (noNumber m f, numberRefused)
+    ∷ (waitsFull m f, waitsRefused)
+    ∷ []) refl)

@@ -3,6 +3,7 @@ mod answers;
 mod endings;
 mod find;
 mod holds;
+mod judge;
 mod live;
 mod records;
 pub mod rows;
