@@ -1,62 +1,15 @@
--- A record's bytes, written one number after another, and records one after another.
-use Prim.Native.Nat.{ℕ, zero, suc, _+_, _*_, _-_, _/_, _%_, _≤_, _<_}
-use mathlib.Core.Path.{_≡_, refl, sym, ap, ap₂, _∙_, subst₃}
-use mathlib.Core.List.{List, [], _∷_, _++_, map, append-assoc, append-nil, map-append}
+-- Records in the answers area, one after another.
+use Prim.Native.Nat.{ℕ, _+_, _*_, _≤_}
+use mathlib.Core.Path.{_≡_, sym, ap, ap₂, _∙_, subst₃}
+use mathlib.Core.List.{List, [], _∷_, _++_, append-assoc, append-nil}
 use native.Mathlib.Omega.{arith}
-use native.Mathlib.Numerals.{towards-suc}
-use lib.ListN.{length, take, drop, set, length-append, length-drop, take-append-drop, drop-of-length-le}
-use lib.Seq.{take-all, take-at, drop-at, drop-drop, drop-append-add, sets, sets-eq, length-take-le}
+use lib.ListN.{length, take, drop, length-append, length-drop, take-append-drop, drop-of-length-le}
+use lib.Seq.{take-all, drop-drop, length-take-le}
 use Rattle.rules.specs.declared.Record.{Record}
-use Rattle.rules.specs.Lists.{joined}
-use Rattle.rules.specs.Records.{fourBytes, recordBytes, answerBytes}
+use Rattle.rules.specs.Records.{recordBytes, answerBytes}
 use Rattle.rules.specs.Records.{areaAfter}
-use Rattle.space.specs.Rows.{set4}
-use Rattle.space.proofs.RowLaws.{over}
-
-pub set4-over : (ws : List ℕ) (o a b c d : ℕ) → o + 4 ≤ length ws → set4 ws o a b c d ≡ over ws o (a ∷ b ∷ c ∷ d ∷ [])
-unfolding over
-set4-over ws o a b c d p =
-    simp towards-suc (simp towards-suc at (sets-eq (a ∷ b ∷ c ∷ d ∷ []) ws o p ∙ append-assoc (take o ws) (a ∷ b ∷ c ∷ d ∷ []) (drop (o + 4) ws)))
-
--- `new` has the bytes `front` in place of the first o of `old`
-pub record Front (old new front : List ℕ) (o : ℕ) : Type 0 where
-  pub size : length front ≡ o
-  pub room : o ≤ length old
-  pub is : new ≡ front ++ drop o old
-
-pub front-length : (old new front : List ℕ) (o : ℕ) → Front old new front o → length new ≡ length old
-front-length old new front o f = ap length (f .is) ∙ simp (length-append, length-drop) (omega (arith, f .size, f .room))
-
-pub front-more : (old new front r : List ℕ) (o : ℕ) → Front old new front o → o + length r ≤ length old
-    → Front old (over new o r) (front ++ r) (o + length r)
-unfolding over
-front-more old new front r o f h =
-    record {
-      size = simp length-append (omega (arith, f .size));
-      room = h;
-      is =
-          ap₂ (λ a b. a ++ (r ++ b))
-          (ap (take o) (f .is) ∙ take-at front (drop o old) o (f .size))
-          (sym (drop-drop (length r) o new) ∙ ap (drop (length r)) (ap (drop o) (f .is) ∙ drop-at front (drop o old) o (f .size)) ∙ drop-drop (length r) o old)
-          ∙ sym (append-assoc front r (drop (o + length r) old));
-    }
-
-pub front-four : (old new front : List ℕ) (o a b c d : ℕ) → Front old new front o → o + 4 ≤ length old
-    → Front old (set4 new o a b c d) (front ++ (a ∷ b ∷ c ∷ d ∷ [])) (o + 4)
-front-four old new front o a b c d f h =
-    rw (set4-over new o a b c d (omega (arith, front-length old new front o f))) (front-more old new front (a ∷ b ∷ c ∷ d ∷ []) o f h)
-
-pub front-next : (old new new′ front : List ℕ) (o a b c d : ℕ) → Front old new front o → o + 4 ≤ length old → new′ ≡ set4 new o a b c d
-    → Front old new′ (front ++ (a ∷ b ∷ c ∷ d ∷ [])) (o + 4)
-front-next old new new′ front o a b c d f h e = rw e (front-four old new front o a b c d f h)
-
-pub front-none : (old : List ℕ) → Front old old [] 0
-front-none old = record { size = refl; room = omega arith; is = refl }
-
--- ---- records in the answers area
-pub record-length : (r : Record) → length (recordBytes r) ≡ 28
-unfolding recordBytes
-record-length r = refl
+use Rattle.codec.specs.Area.{over}
+pub use Rattle.codec.proofs.FrontLaws.{set4-over, Front, front-length, front-more, record-length}
 
 pub answers-append : (rs ss : List Record) → answerBytes (rs ++ ss) ≡ answerBytes rs ++ answerBytes ss
 unfolding answerBytes

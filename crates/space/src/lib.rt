@@ -5,7 +5,6 @@ mod find;
 mod holds;
 mod judge;
 mod live;
-mod records;
 pub mod rows;
 mod service;
 mod sweep;

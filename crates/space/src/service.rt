@@ -6,8 +6,6 @@ ghost use Rattle.rules.specs.Words.{view};
 ghost use Rattle.space.specs.Does.{Does, first};
 use crate::holds::is_available;
 use crate::live::slot_of;
-use crate::records::found_record;
-use crate::records::put_record;
 use crate::rows::Words;
 use crate::rows::entry_at;
 use crate::rows::entry_count;
@@ -15,6 +13,8 @@ use crate::rows::move_wait;
 use crate::rows::wait_at;
 use crate::rows::wait_count;
 use crate::sweep::hand_out;
+use codec::put_record;
+use codec::records::found_record;
 
 // The waiting look-ups are gone through once in order of arrival, and each with an available entry is answered found.
 // `count` records stand in the answers area before; the number afterwards is returned.

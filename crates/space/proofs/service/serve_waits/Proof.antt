@@ -8,6 +8,7 @@ use borrow.Author.Needs.{needs}
 use lib.ListN.{length, take, drop, length-take, length-drop, length-set}
 use Rattle.rules.specs.Records.{recordBytes}
 use Rattle.rules.specs.Words.{waitCount}
+use Rattle.codec.proofs.FrontLaws.{put-fits}
 use Rattle.space.proofs.SearchLaws.{none-for-none, none-for-more, picked, none-picked}
 use Rattle.space.proofs.ServiceLaws.{Turns, turns-none, turns-at, turn-length, turn-room, turn-found, turn-waits, turns-done, Looking}
 use Rattle.space.proofs.service.serve_waits.Statement.{statement}
@@ -65,9 +66,6 @@ in-turn c = omega (arith, c .before .before .before .before .before .before .bef
 room : (c : tie.After-found-record Inv-loop μ-loop Inv-waiting μ-waiting) → 28 * (c .before .before .before .before .before .before .before .before .loop .done + 1) ≤ length (c .before .before .before .before .before .before .before .before .loop .answers)
 room c = turn-room _ _ _ _ _ _ _ _ (so-far c) (omega (arith, in-turn c)) (c .before .before .before .before .before .before .before .before .before .before .before .before .before .before .before .before .before .before .before .before .before .pre)
 
-put-record-requires : tie.Need-put-record-requires Inv-loop μ-loop Inv-waiting μ-waiting
-put-record-requires c κs = simp (length-take, length-drop) (omega (arith, room (c .before)))
-
 waiting-again : tie.Need-waiting-again Inv-loop μ-loop Inv-waiting μ-waiting
 waiting-again c =
     let f = c .before .before .before .before in
@@ -78,7 +76,7 @@ waiting-again c =
           (picked (l .space) _ (l .j) _ _ (k .none-yet) (c .before .before .before .before .before .before .before .before .before .entry-at .ensures) (k .slot) _ (c .before .before .before .before .before .before .before .before .is-available .ensures) (c .before .before .before .before .before .before .before .if1 .taken) (omega (arith, k .all, c .before .before .before .before .before .before .before .before .before .before .before .loop-test .taken)))
           (c .before .before .before .before .before .hand-out .ensures .0) (c .before .before .before .before .before .hand-out .ensures .1) (room f) refl (omega arith)
           (ap (λ x. take (28 * l .done) (l .answers) ++ (x ++ drop (length (l .answers) - 28 * l .done) (drop (28 * l .done) (l .answers))))
-          (c .before .before .put-record .ensures ∙ ap (λ r. recordBytes r ++ drop 28 (take (length (l .answers) - 28 * l .done) (drop (28 * l .done) (l .answers)))) (f .found-record .ensures))),
+          (c .before .before .put-record .ensures ∙ put-fits _ _ (simp (length-take, length-drop) (omega (arith, room f))) ∙ ap (λ r. recordBytes r ++ drop 28 (take (length (l .answers) - 28 * l .done) (drop (28 * l .done) (l .answers)))) (f .found-record .ensures))),
     )
 
 loop-again : tie.Need-loop-again Inv-loop μ-loop Inv-waiting μ-waiting
@@ -141,7 +139,7 @@ serve-waits-spec =
     (λ c. omega (arith, room c))
     (λ c. omega (arith, room c))
     (λ c. search needs)
-    put-record-requires
+    (λ c κs. tt)
     (λ c. omega (arith, room (c .before .before .before .before), turn-length _ _ _ _ _ _ _ _ (so-far (c .before .before .before .before)), c .before .before .before .before .before .before .before .before .before .before .before .before .before .before .before .before .before .before .before .before .before .before .before .before .before .good .1 .0))
     (λ c. omega (arith, in-turn (c .before .before .before .before)))
     (λ c. omega (arith, in-turn (c .before .before .before .before), c .before .before .before .before .before .before .before .before .before .before .before .before .before .before .before .before .before .before .before .before .before .before .wait-count .ensures .0, c .before .before .before .before .before .before .before .before .before .before .before .before .loop .inv .4))

@@ -1,18 +1,18 @@
-// The answer records.
+// Answer records, and their 28 bytes.
 ghost use mathlib.Core.Path.{_≡_};
-ghost use Prim.Native.Nat.{_+_, _/_, _%_, _≤_};
-ghost use lib.ListN.{length, drop};
-ghost use mathlib.Core.List.{_++_};
-ghost use Rattle.rules.specs.Records.{recordBytes, found};
-ghost use Rattle.space.specs.Rows.{set4};
+ghost use mathlib.Core.List.{[], _∷_};
+ghost use Prim.Native.Nat.{_+_, _≤_};
+ghost use lib.ListN.{length};
+ghost use Rattle.rules.specs.Records.{fourBytes, found};
+ghost use Rattle.codec.specs.Area.{over, recordPut};
 use rules::Entry;
 use rules::LookUp;
 use rules::Record;
 
 // Four bytes, from `at` on.
-pub(crate) fn put_four(out: &mut [u8], at: usize, a: u8, b: u8, c: u8, d: u8)
+fn put_four(out: &mut [u8], at: usize, a: u8, b: u8, c: u8, d: u8)
     requires { ⌜ at + 4 ≤ length (now out) ⌝ }
-    ensures { λ _. ⌜ now (out .exit) ≡ set4 (now (out .entry)) at a b c d ⌝ }
+    ensures { λ _. ⌜ now (out .exit) ≡ over (now (out .entry)) at (a ∷ b ∷ c ∷ d ∷ []) ⌝ }
 {
     out[at] = a;
     out[at + 1] = b;
@@ -21,9 +21,9 @@ pub(crate) fn put_four(out: &mut [u8], at: usize, a: u8, b: u8, c: u8, d: u8)
 }
 
 // The four bytes of a number, from `at` on.
-pub(crate) fn put_number(out: &mut [u8], at: usize, n: u32)
+fn put_number(out: &mut [u8], at: usize, n: u32)
     requires { ⌜ at + 4 ≤ length (now out) ⌝ }
-    ensures { λ _. ⌜ now (out .exit) ≡ set4 (now (out .entry)) at (n % 256) (n / 256 % 256) (n / 65536 % 256) (n / 16777216 % 256) ⌝ }
+    ensures { λ _. ⌜ now (out .exit) ≡ over (now (out .entry)) at (fourBytes n) ⌝ }
 {
     let a = (n % 256) as u8;
     let b = (n / 256 % 256) as u8;
@@ -32,11 +32,13 @@ pub(crate) fn put_number(out: &mut [u8], at: usize, n: u32)
     put_four(out, at, a, b, c, d);
 }
 
-// The 28 bytes of a record, in front.
-pub(crate) fn put_record(out: &mut [u8], r: Record)
-    requires { ⌜ 28 ≤ length (now out) ⌝ }
-    ensures { λ _. ⌜ now (out .exit) ≡ recordBytes r ++ drop 28 (now (out .entry)) ⌝ }
+// The 28 bytes of a record, in front; fewer bytes are left as they are.
+pub fn put_record(out: &mut [u8], r: Record)
+    ensures { λ _. ⌜ now (out .exit) ≡ recordPut r (now (out .entry)) ⌝ }
 {
+    if out.len() < 28 {
+        return;
+    }
     put_four(out, 0, r.kind, r.party, r.refusal, 0);
     put_number(out, 4, r.txn.0);
     put_number(out, 8, r.entry.0);
@@ -46,7 +48,8 @@ pub(crate) fn put_record(out: &mut [u8], r: Record)
     put_number(out, 24, r.fields.place);
 }
 
-pub(crate) fn found_record(w: LookUp, e: Entry) -> Record
+// An entry, handed out to a look-up.
+pub fn found_record(w: LookUp, e: Entry) -> Record
     ensures { λ r. ⌜ r ≡ found w e ⌝ }
 {
     let txn = w.txn;

@@ -1,0 +1,2 @@
+-- Laws that the proofs of several functions and crates cite.
+pub mod FrontLaws
