@@ -5,7 +5,7 @@ ghost use lib.ListN.{length};
 ghost use mathlib.Core.List.{[], _∷_};
 ghost use Rattle.rules.specs.Records.{plain};
 ghost use Rattle.space.specs.Does.{Adds};
-use crate::records::put_record;
+use codec::put_record;
 use rules::EntryId;
 use rules::Fields;
 use rules::Record;
