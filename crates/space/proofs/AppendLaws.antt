@@ -13,7 +13,7 @@ use lib.Seq.{getD-set-same, getD-set-other}
 use Rattle.rules.specs.declared.Entry.{Entry}
 use Rattle.rules.specs.declared.LookUp.{LookUp}
 use Rattle.rules.specs.Frame.{isTake, isIfExists}
-use Rattle.rules.specs.State.{Model, withEntries, withWaits, withClock}
+use Rattle.rules.specs.State.{Model, withEntries, withWaits, withClock, withNextTxn}
 use Rattle.rules.specs.Words.{before, from, row, untilOf, untilWord, entryCount, txnCount, waitCount, entryFrom, entryOf, waitFrom, waitOf, entries, txns, waits, view}
 use Rattle.space.specs.Rows.{putEntry, entryWords, putWait, waitWords, opWord, Holds}
 use Rattle.space.proofs.RowLaws.{over, over-length, over-before, over-from, over-row, set9-over, word-before}
@@ -117,19 +117,45 @@ append-wait-view ws n w s l h q =
     (waits-before n (614 + 9 * n) ws′ ws (omega arith) (over-before ws (614 + 9 * n) (waitWords w) fits (614 + 9 * n) (omega arith)) ∙ ap (λ k. waits k ws) (sym count))
     (sym (wait-row ws′ n) ∙ ap waitOf (over-row 614 9 n ws (waitWords w) refl fits) ∙ wait-back w s))
 
--- ---- the clock
+-- ---- the clock and the next numbers
+set-head : (ws : List ℕ) (k v : ℕ) → k < 3
+    → view (set ws k v)
+    ≡ record {
+      clock = getD (set ws k v) 0 0;
+      nextEntry = getD (set ws k v) 1 0;
+      nextTxn = getD (set ws k v) 2 0;
+      entries = view ws .entries;
+      txns = view ws .txns;
+      waits = view ws .waits;
+    }
+unfolding view
+set-head ws k v h =
+    let rest : from 6 (set ws k v) ≡ from 6 ws = set-from ws k v 6 (omega arith) in
+    rw (
+      getD-set-other ws k 3 v 0 (λ e. omega arith),
+      getD-set-other ws k 4 v 0 (λ e. omega arith),
+      getD-set-other ws k 5 v 0 (λ e. omega arith),
+      entries-from (entryCount ws) 6 (set ws k v) ws (lit≤ tt) rest,
+      txns-from (txnCount ws) 6 (set ws k v) ws (lit≤ tt) rest,
+      waits-from (waitCount ws) 6 (set ws k v) ws (lit≤ tt) rest,
+    )
+
 pub clock-view : (ws : List ℕ) (t : ℕ) → length ws ≡ 758 → view (set ws 0 t) ≡ withClock t (view ws)
 unfolding view
 clock-view ws t l =
-    let rest : from 6 (set ws 0 t) ≡ from 6 ws = set-from ws 0 t 6 (lit< tt) in
-    rw (
+    set-head ws 0 t (lit< tt)
+    ∙ rw (
       getD-set-same ws 0 t 0 (omega arith),
       getD-set-other ws 0 1 t 0 (eqb-false 1 0 refl),
       getD-set-other ws 0 2 t 0 (eqb-false 2 0 refl),
-      getD-set-other ws 0 3 t 0 (eqb-false 3 0 refl),
-      getD-set-other ws 0 4 t 0 (eqb-false 4 0 refl),
-      getD-set-other ws 0 5 t 0 (eqb-false 5 0 refl),
-      entries-from (entryCount ws) 6 (set ws 0 t) ws (lit≤ tt) rest,
-      txns-from (txnCount ws) 6 (set ws 0 t) ws (lit≤ tt) rest,
-      waits-from (waitCount ws) 6 (set ws 0 t) ws (lit≤ tt) rest,
+    )
+
+pub next-txn-view : (ws : List ℕ) (n : ℕ) → length ws ≡ 758 → view (set ws 2 n) ≡ withNextTxn n (view ws)
+unfolding view
+next-txn-view ws n l =
+    set-head ws 2 n (lit< tt)
+    ∙ rw (
+      getD-set-other ws 2 0 n 0 (eqb-false 0 2 refl),
+      getD-set-other ws 2 1 n 0 (eqb-false 1 2 refl),
+      getD-set-same ws 2 n 0 (omega arith),
     )

@@ -6,6 +6,7 @@ use mathlib.Core.List.{List, [], _∷_}
 use lib.ListN.{getD, set}
 use Rattle.rules.specs.declared.Entry.{Entry}
 use Rattle.rules.specs.declared.LookUp.{LookUp}
+use Rattle.rules.specs.declared.Txn.{Txn}
 use Rattle.rules.specs.declared.Until.{Until}
 use Rattle.rules.specs.Words.{untilOf, untilWord}
 
@@ -46,6 +47,12 @@ abbrev pub waitWords : LookUp → List ℕ
 waitWords w =
     w .party ∷ opWord (w .takes) (w .«if_exists») ∷ w .mask ∷ w .fields .kind ∷ w .fields .side ∷ w .fields .image ∷ w .fields .place
     ∷ w .txn .0 ∷ untilWord (w .deadline) ∷ []
+
+abbrev pub putTxn : List ℕ → ℕ → Txn → List ℕ
+putTxn ws o t = set4 ws o (t .id .0) (t .party) (untilWord (t .end)) (t .slot)
+
+abbrev pub txnWords : Txn → List ℕ
+txnWords t = t .id .0 ∷ t .party ∷ untilWord (t .end) ∷ t .slot ∷ []
 
 -- an end that a word can hold: no tick at 4294967295
 abbrev pub Holds : Until → Type 0

@@ -9,3 +9,4 @@ pub mod rows;
 mod service;
 mod sweep;
 mod time;
+mod txns;

@@ -3,9 +3,9 @@ ghost use mathlib.Core.Path.{_≡_};
 ghost use Prim.Native.Nat.{_+_, _*_, _<_};
 ghost use lib.ListN.{length, getD};
 ghost use mathlib.Core.List.{[], _∷_, _++_};
-ghost use Rattle.rules.specs.State.{withEntries, withWaits, withClock};
+ghost use Rattle.rules.specs.State.{withEntries, withTxns, withWaits, withClock, withNextTxn};
 ghost use Rattle.rules.specs.Words.{untilOf, untilWord, entryFrom, txnFrom, waitFrom, entryCount, txnCount, waitCount};
-ghost use Rattle.space.specs.Rows.{putEntry, moveRow, opWord, putWait, Holds, moveTxn};
+ghost use Rattle.space.specs.Rows.{putEntry, moveRow, opWord, putWait, putTxn, Holds, moveTxn};
 ghost use Rattle.rules.specs.Words.{view};
 ghost use Rattle.rules.specs.Frame.{isTake, isIfExists};
 use rules::Entry;
@@ -219,6 +219,29 @@ pub(crate) fn add_entry(space: &mut Words, e: Entry)
     space[3] = (n + 1) as u32;
 }
 
+pub(crate) fn put_txn(space: &mut Words, i: usize, t: Txn)
+    requires { ⌜ i < 8 ⌝ }
+    ensures { λ _. ⌜ now (space .exit) ≡ putTxn (now (space .entry)) (582 + 4 * i) t ⌝ }
+{
+    let o = 582 + 4 * i;
+    let end = t.end;
+    let end = until_word(end);
+    space[o] = t.id.0;
+    space[o + 1] = t.party as u32;
+    space[o + 2] = end;
+    space[o + 3] = t.slot as u32;
+}
+
+// The transaction stands behind the others.
+pub(crate) fn add_txn(space: &mut Words, t: Txn)
+    requires { ⌜ (getD (now space) 4 0 < 8) × (t .slot < 8) × Holds (t .end) ⌝ }
+    ensures { λ _. ⌜ view (now (space .exit)) ≡ withTxns (view (now (space .entry)) .txns ++ (t ∷ [])) (view (now (space .entry))) ⌝ }
+{
+    let n = txn_count(space);
+    put_txn(space, n, t);
+    space[4] = (n + 1) as u32;
+}
+
 // The look-up stands behind the others.
 pub(crate) fn add_wait(space: &mut Words, w: LookUp)
     requires { ⌜ (getD (now space) 5 0 < 16) × Holds (w .deadline) ⌝ }
@@ -235,6 +258,14 @@ pub(crate) fn set_clock(space: &mut Words, t: u32)
 {
     wait_count(space);
     space[0] = t;
+}
+
+// The next transaction's number is set.
+pub(crate) fn set_next_txn(space: &mut Words, n: u32)
+    ensures { λ _. ⌜ view (now (space .exit)) ≡ withNextTxn n (view (now (space .entry))) ⌝ }
+{
+    txn_count(space);
+    space[2] = n;
 }
 
 // Row `from` of the transactions also stands at row `to`.

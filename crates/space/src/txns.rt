@@ -1,0 +1,73 @@
+// Transactions made.
+ghost use mathlib.Core.Path.{_≡_};
+ghost use Prim.Native.Nat.{_<_};
+ghost use lib.Dec.{eqb};
+ghost use lib.ListN.{length};
+ghost use Rattle.rules.specs.declared.Request.the-variants.{Create};
+ghost use Rattle.rules.specs.Numbers.{forever, maxTxns};
+ghost use Rattle.rules.specs.Lists.{anyb};
+ghost use Rattle.rules.specs.Requests.{frameOf};
+ghost use Rattle.rules.specs.Transactions.{freeSlot, create};
+ghost use Rattle.rules.specs.Words.{view};
+ghost use Rattle.space.specs.Time.{InTime};
+use crate::rows::Words;
+use crate::rows::add_txn;
+use crate::rows::set_next_txn;
+use crate::rows::txn_at;
+use crate::rows::txn_count;
+use crate::time::end_of;
+use rules::Txn;
+use rules::TxnId;
+
+// Whether a live transaction has the slot.
+pub(crate) fn has_slot(space: &Words, p: u8) -> bool
+    ensures { λ r. ⌜ r ≡ anyb (λ t. eqb (t .slot) p) (view (now (space .entry)) .txns) ⌝ }
+{
+    let n = txn_count(space);
+    let mut i: usize = 0;
+    while i < n {
+        let t = txn_at(space, i);
+        if t.slot == p {
+            return true;
+        }
+        i += 1;
+    }
+    false
+}
+
+// The first of the eight slots that no live transaction has; 0 where there is none.
+pub(crate) fn free_slot(space: &Words) -> u8
+    ensures { λ r. ⌜ (r ≡ freeSlot (view (now (space .entry)) .txns)) × (r < 8) ⌝ }
+{
+    let mut p: u8 = 0;
+    while p < 8 {
+        if !has_slot(space, p) {
+            return p;
+        }
+        p += 1;
+    }
+    0
+}
+
+// A transaction of the party's is made, with the next number and a free slot.
+pub(crate) fn create_txn(space: &mut Words, party: u8, lease: u32) -> TxnId
+    requires { ⌜ (InTime (view (now space) .clock) lease) × (length (view (now space) .txns) < maxTxns) × (view (now space) .nextTxn < forever) ⌝ }
+    ensures { λ r. ⌜ (view (now (space .exit)) ≡ create (view (now (space .entry))) (frameOf (Create party lease)) .model) × (r .0 ≡ view (now (space .entry)) .nextTxn) ⌝ }
+{
+    let clock = space[0];
+    let n = space[2];
+    let end = end_of(clock, lease);
+    let slot = free_slot(space);
+    let id = TxnId(n);
+    add_txn(
+        space,
+        Txn {
+            id,
+            party,
+            end,
+            slot,
+        },
+    );
+    set_next_txn(space, n + 1);
+    id
+}
