@@ -13,7 +13,7 @@ use Rattle.rules.specs.Refusals.{noOperation, wrongLength, malformed, wr
 use Rattle.rules.specs.Requests.{formRefusal, spaceRefusal}
 use Rattle.rules.proofs.StepCases.{and-left, and-right}
 
-row : (b : Bool) (n rest : ℕ) → cond b (suc n) rest ≡ 0 → (b ≡ false) × (rest ≡ 0)
+pub row : (b : Bool) (n rest : ℕ) → cond b (suc n) rest ≡ 0 → (b ≡ false) × (rest ≡ 0)
 row true n rest e = absurd (omega arith)
 row false n rest e = (refl, e)
 

@@ -135,10 +135,6 @@ pub length-entries : (ws : List ℕ) → length (view ws .entries) ≡ entryCoun
 unfolding view entries
 length-entries ws = length-upTo (λ k. entryOf (row 6 9 ws k)) (entryCount ws)
 
-pub length-txns : (ws : List ℕ) → length (view ws .txns) ≡ txnCount ws
-unfolding view txns
-length-txns ws = length-upTo (λ k. txnOf (row 582 4 ws k)) (txnCount ws)
-
 -- the operation of a look-up is none of the others
 pub record LooksUp (op : ℕ) : Type 0 where
   pub write : isWrite op ≡ false

@@ -1,5 +1,6 @@
 // The space: one lent array of words, and what each frame does to it.
 mod answers;
+mod apply;
 mod endings;
 mod find;
 mod holds;

@@ -8,7 +8,8 @@ use Rattle.rules.specs.Refusals.{noLease, tooLate, entriesFull, txnsFull, noNum
 use Rattle.rules.specs.Requests.{frameOf, plainFrame}
 use Rattle.rules.specs.Words.{view}
 use Rattle.rules.specs.declared.Request.the-variants.{Create}
-use Rattle.space.proofs.JudgeLaws.{length-txns, party-admitted, party-refused, early-admission, early-rest}
+use Rattle.space.proofs.JudgeLaws.{party-admitted, party-refused, early-admission, early-rest}
+use Rattle.space.proofs.TxnLaws.{length-txns}
 use Rattle.space.proofs.judge.judge_create.Statement.{statement}
 use Rattle.space.proofs.judge.judge_create.Tie as tie
 

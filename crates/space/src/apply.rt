@@ -1,0 +1,136 @@
+// What each request does, once the refusals 6 to 13 let it pass.
+ghost use mathlib.Core.Path.{_≡_};
+ghost use mathlib.Core.Bool.{true, cond};
+ghost use Prim.Native.Nat.{_≤_};
+ghost use lib.ListN.{length};
+ghost use Rattle.rules.specs.Frame.{isLookUp};
+ghost use Rattle.rules.specs.Numbers.{stepArea, waitsRefused};
+ghost use Rattle.rules.specs.Records.{written};
+ghost use Rattle.rules.specs.Refusals.{waitsFull};
+ghost use Rattle.rules.specs.Requests.{frameOf};
+ghost use Rattle.rules.specs.Service.{service};
+ghost use Rattle.rules.specs.Step.{after, stored, write as writeFrame, commitFrame, abortFrame};
+ghost use Rattle.rules.specs.Transactions.{create as createFrame};
+ghost use Rattle.rules.specs.Words.{view};
+ghost use Rattle.space.specs.Does.{Does, first};
+ghost use Rattle.space.specs.Judge.{earlyRefusal};
+use crate::answers::add_record;
+use crate::answers::plain_record;
+use crate::endings::abort_txn;
+use crate::endings::commit_txn;
+use crate::rows::Words;
+use crate::rows::add_entry;
+use crate::rows::set_next_entry;
+use crate::service::serve_waits;
+use crate::time::end_of;
+use crate::txns::create_txn;
+use rules::Entry;
+use rules::EntryId;
+use rules::Fields;
+use rules::Record;
+use rules::Request;
+use rules::TxnId;
+use rules::WriteRequest;
+
+// What becomes of a request: it is carried out, with so many records, or refused with a number.
+pub(crate) enum Outcome {
+    Carried(usize),
+    Refused(u8),
+}
+
+// The frame's own record, and then service.
+pub(crate) fn answer_and_serve(space: &mut Words, answers: &mut [u8], r: Record) -> usize
+    requires { ⌜ stepArea ≤ length (now answers) ⌝ }
+    ensures { λ n. ⌜ Does (after r (service first (view (now (space .entry))))) (now (space .exit)) (now (answers .entry)) (now (answers .exit)) 0 n ⌝ }
+{
+    let own = add_record(answers, 0, r);
+    serve_waits(space, answers, own)
+}
+
+pub(crate) fn commit(space: &mut Words, answers: &mut [u8], party: u8, id: TxnId) -> usize
+    requires { ⌜ stepArea ≤ length (now answers) ⌝ }
+    ensures { λ n. ⌜ Does (commitFrame first (view (now (space .entry))) (frameOf (Request.Commit party id))) (now (space .exit)) (now (answers .entry)) (now (answers .exit)) 0 n ⌝ }
+{
+    commit_txn(space, id);
+    let r = plain_record(6, party, id);
+    answer_and_serve(space, answers, r)
+}
+
+pub(crate) fn abort(space: &mut Words, answers: &mut [u8], party: u8, id: TxnId) -> usize
+    requires { ⌜ stepArea ≤ length (now answers) ⌝ }
+    ensures { λ n. ⌜ Does (abortFrame first (view (now (space .entry))) (frameOf (Request.Abort party id))) (now (space .exit)) (now (answers .entry)) (now (answers .exit)) 0 n ⌝ }
+{
+    abort_txn(space, id);
+    let r = plain_record(7, party, id);
+    answer_and_serve(space, answers, r)
+}
+
+pub(crate) fn create(space: &mut Words, answers: &mut [u8], party: u8, lease: u32) -> usize
+    requires { ⌜ (earlyRefusal (view (now space)) (frameOf (Request.Create party lease)) ≡ 0) × (stepArea ≤ length (now answers)) ⌝ }
+    ensures { λ n. ⌜ Does (createFrame (view (now (space .entry))) (frameOf (Request.Create party lease))) (now (space .exit)) (now (answers .entry)) (now (answers .exit)) 0 n ⌝ }
+{
+    let id = create_txn(space, party, lease);
+    let r = plain_record(5, party, id);
+    add_record(answers, 0, r)
+}
+
+// The number is used up, and the entry stored unless the lease is 0.
+pub(crate) fn store(space: &mut Words, w: WriteRequest)
+    requires { ⌜ earlyRefusal (view (now space)) (frameOf (Request.Write w)) ≡ 0 ⌝ }
+    ensures { λ _. ⌜ view (now (space .exit)) ≡ stored (view (now (space .entry))) (frameOf (Request.Write w)) ⌝ }
+{
+    let n = space[1];
+    let lease = w.lease;
+    if lease == 0 {
+        set_next_entry(space, n + 1);
+        return;
+    }
+    let end = end_of(space[0], lease);
+    let fields = w.fields;
+    let private_to = w.txn;
+    add_entry(
+        space,
+        Entry {
+            id: EntryId(n),
+            fields,
+            end,
+            private_to,
+            taken_by: TxnId(0),
+            readers: 0,
+        },
+    );
+    set_next_entry(space, n + 1);
+}
+
+pub(crate) fn written_record(w: WriteRequest, n: EntryId) -> Record
+    ensures { λ r. ⌜ r ≡ written (frameOf (Request.Write w)) (n .0) ⌝ }
+{
+    let txn = w.txn;
+    Record {
+        kind: 1,
+        party: w.party,
+        refusal: 0,
+        txn,
+        entry: n,
+        fields: Fields {
+            kind: 0,
+            side: 0,
+            image: 0,
+            place: 0,
+        },
+    }
+}
+
+pub(crate) fn write(space: &mut Words, answers: &mut [u8], w: WriteRequest) -> usize
+    requires { ⌜ (earlyRefusal (view (now space)) (frameOf (Request.Write w)) ≡ 0) × (stepArea ≤ length (now answers)) ⌝ }
+    ensures { λ n. ⌜ Does (writeFrame first (view (now (space .entry))) (frameOf (Request.Write w))) (now (space .exit)) (now (answers .entry)) (now (answers .exit)) 0 n ⌝ }
+{
+    let id = EntryId(space[1]);
+    store(space, w);
+    let r = written_record(w, id);
+    if w.txn.0 == 0 {
+        answer_and_serve(space, answers, r)
+    } else {
+        add_record(answers, 0, r)
+    }
+}
