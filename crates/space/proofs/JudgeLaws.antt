@@ -19,13 +19,12 @@ use Rattle.rules.specs.Frame.{Frame, isWrite, isLookUp, isCreate, isCommit, isA
 use Rattle.rules.specs.Holds.{liveTxn}
 use Rattle.rules.specs.Refusals.{inTxn, isOf, partyWaits, notLive, notOwn, noLease, tooLate, entriesFull, txnsFull, noNumber, waitsFull}
 use Rattle.rules.specs.Requests.{spaceRefusal}
-use Rattle.rules.proofs.ListLaws.{find-some, find-none, mem-any, all-false}
 use Rattle.rules.proofs.StepCases.{and-left, and-right}
 use Rattle.rules.proofs.RefusalLaws.{first-append}
 use Rattle.rules.specs.Words.{entryOf, entryCount, txnOf, txnCount, waitOf, waitFrom, waitCount, row, entries, txns, waits, view}
 use Rattle.space.specs.Judge.{partyWaiting, inTxnRefusal, admissionRefusal, earlyRefusal}
 use Rattle.space.proofs.RowLaws.{length-upTo}
-use Rattle.space.proofs.FindLaws.{any-passed, any-at}
+use Rattle.space.proofs.FindLaws.{any-passed, any-at, some-any, none-any}
 use Rattle.space.proofs.ViewLaws.{wait-row}
 
 -- ---- 6: the search for a waiting look-up of the party
@@ -69,13 +68,11 @@ late-by last clock n h = go (decLt last (clock + n))
 module _ (party t : ℕ) (ts : List Txn) (n : eqb t 0 ≡ false) where
   pub live-none : liveTxn t ts ≡ none → inTxnRefusal true party t ts ≡ notLiveRefused
   unfolding inTxnRefusal liveTxn
-  live-none e = rw (n, all-false (λ (x : Txn). eqb (x .id .0) t) ts (λ x m. find-none (λ (x : Txn). eqb (x .id .0) t) e m))
+  live-none e = rw (n, none-any (λ (x : Txn). eqb (x .id .0) t) ts e)
 
   pub live-some : (x : Txn) → liveTxn t ts ≡ some x → inTxnRefusal true party t ts ≡ cond (not (eqb (x .party) party)) notOwnRefused 0
   unfolding inTxnRefusal liveTxn
-  live-some x e =
-      let f = find-some (λ (y : Txn). eqb (y .id .0) t) ts e in
-      rw (n, mem-any (λ (y : Txn). eqb (y .id .0) t) (f .0) (f .1), e)
+  live-some x e = rw (n, some-any (λ (y : Txn). eqb (y .id .0) t) ts e, e)
 
 -- ---- the table in parts
 -- 9 to 13

@@ -9,10 +9,11 @@ use Rattle.rules.specs.declared.Entry.{Entry}
 use Rattle.rules.specs.declared.LookUp.{LookUp}
 use Rattle.rules.specs.declared.Txn.{Txn}
 use Rattle.rules.specs.Lists.{anyb, firstRow}
-use Rattle.rules.specs.Numbers.{forever, lastClock, maxEntries, waitingRefused, notLiveRefused, notOwnRefused, leaseRefused, clockRefused, entriesRefused, txnsRefused, numberRefused}
+use Rattle.rules.specs.Numbers.{forever, lastClock, maxEntries, maxWaits, waitingRefused, notLiveRefused, notOwnRefused, leaseRefused, clockRefused, entriesRefused, txnsRefused, numberRefused}
 use Rattle.rules.specs.State.{Model}
 use Rattle.rules.specs.Holds.{liveTxn}
 use Rattle.rules.specs.Frame.{Frame}
+use Rattle.rules.specs.LookUp.{givesNothing}
 use Rattle.rules.specs.Refusals.{isOf, partyWaits, notLive, notOwn, noLease, tooLate, entriesFull, txnsFull, noNumber}
 
 -- 6, of a party
@@ -52,3 +53,7 @@ earlyRefusal m f =
     ∷ (txnsFull m f, txnsRefused)
     ∷ (noNumber m f, numberRefused)
     ∷ [])
+
+-- 14, of a look-up to which no entry is available
+abbrev pub noWaitLeft : Model → LookUp → ℕ → Bool
+noWaitLeft m w timeout = not (givesNothing m w timeout) && leb maxWaits (length (m .waits))

@@ -3,6 +3,9 @@ ghost use mathlib.Core.Path.{_≡_};
 ghost use mathlib.Core.Bool.{true, cond};
 ghost use Prim.Native.Nat.{_≤_};
 ghost use lib.ListN.{length};
+ghost use mathlib.Core.Option.{none};
+ghost use Rattle.rules.specs.Holds.{liveTxn};
+ghost use Rattle.rules.specs.LookUp.{lookUpOf, givesNothing, answer, lookUp};
 ghost use Rattle.rules.specs.Frame.{isLookUp};
 ghost use Rattle.rules.specs.Numbers.{stepArea, waitsRefused};
 ghost use Rattle.rules.specs.Records.{written};
@@ -13,20 +16,36 @@ ghost use Rattle.rules.specs.Step.{after, stored, write as writeFrame, commitFr
 ghost use Rattle.rules.specs.Transactions.{create as createFrame};
 ghost use Rattle.rules.specs.Words.{view};
 ghost use Rattle.space.specs.Does.{Does, first};
-ghost use Rattle.space.specs.Judge.{earlyRefusal};
+ghost use Rattle.space.specs.Judge.{earlyRefusal, noWaitLeft};
+ghost use Rattle.space.specs.Live.{slotOf};
+ghost use Rattle.space.specs.Outcome.{Ends};
+ghost use Rattle.space.specs.Rows.{Holds};
+ghost use Rattle.space.specs.Time.{InTime};
 use crate::answers::add_record;
 use crate::answers::plain_record;
 use crate::endings::abort_txn;
 use crate::endings::commit_txn;
+use crate::find::Match;
+use crate::find::any_conflict;
+use crate::find::find_available;
+use crate::live::slot_of;
 use crate::rows::Words;
 use crate::rows::add_entry;
+use crate::rows::add_wait;
+use crate::rows::is_if_exists;
+use crate::rows::is_take;
 use crate::rows::set_next_entry;
+use crate::rows::wait_count;
 use crate::service::serve_waits;
+use crate::sweep::hand_out;
 use crate::time::end_of;
 use crate::txns::create_txn;
+use codec::records::found_record;
 use rules::Entry;
 use rules::EntryId;
 use rules::Fields;
+use rules::FindRequest;
+use rules::LookUp;
 use rules::Record;
 use rules::Request;
 use rules::TxnId;
@@ -133,4 +152,82 @@ pub(crate) fn write(space: &mut Words, answers: &mut [u8], w: WriteRequest) -> u
     } else {
         add_record(answers, 0, r)
     }
+}
+
+// The look-up that a request asks for.
+pub(crate) fn look_up_of(space: &Words, l: FindRequest) -> LookUp
+    requires { ⌜ InTime (view (now space) .clock) (l .timeout) ⌝ }
+    ensures { λ r. ⌜ (r ≡ lookUpOf (view (now (space .entry))) (frameOf (Request.Find l))) × Holds (r .deadline) ⌝ }
+{
+    let op = l.op as u32;
+    let takes = is_take(op);
+    let if_exists = is_if_exists(op);
+    let deadline = end_of(space[0], l.timeout);
+    let fields = l.fields;
+    let txn = l.txn;
+    LookUp {
+        party: l.party,
+        takes,
+        if_exists,
+        mask: l.mask,
+        fields,
+        txn,
+        deadline,
+    }
+}
+
+// Whether a look-up to which no entry is available gets nothing: at timeout 0, and for the IfExists kinds where none conflicts.
+pub(crate) fn gives_nothing(space: &Words, w: LookUp, p: u8, timeout: u32) -> bool
+    requires { ⌜ (p ≤ 8) × (p ≡ slotOf (liveTxn (w .txn .0) (view (now space) .txns))) ⌝ }
+    ensures { λ r. ⌜ r ≡ givesNothing (view (now (space .entry))) w timeout ⌝ }
+{
+    if timeout == 0 {
+        return true;
+    }
+    if w.if_exists {
+        !any_conflict(space, w, p)
+    } else {
+        false
+    }
+}
+
+// A look-up to which no entry is available gets nothing, or waits, or is refused with 14 where 16 wait already.
+pub(crate) fn go_without(
+    space: &mut Words,
+    answers: &mut [u8],
+    w: LookUp,
+    p: u8,
+    timeout: u32,
+) -> Outcome
+    requires { ⌜ (p ≤ 8) × (p ≡ slotOf (liveTxn (w .txn .0) (view (now space) .txns))) × Holds (w .deadline) × (stepArea ≤ length (now answers)) ⌝ }
+    ensures { λ r. ⌜ Ends (cond (noWaitLeft (view (now (space .entry))) w timeout) waitsRefused 0) (answer (view (now (space .entry))) w timeout none) (now (space .entry)) (now (space .exit)) (now (answers .entry)) (now (answers .exit)) r ⌝ }
+{
+    let party = w.party;
+    let txn = w.txn;
+    if gives_nothing(space, w, p, timeout) {
+        let r = plain_record(3, party, txn);
+        return Outcome::Carried(add_record(answers, 0, r));
+    }
+    if 16 <= wait_count(space) {
+        return Outcome::Refused(14);
+    }
+    add_wait(space, w);
+    let r = plain_record(4, party, txn);
+    Outcome::Carried(add_record(answers, 0, r))
+}
+
+// A look-up: found, nothing or waiting. The entries are looked for once; 14 is judged where it is about to wait.
+pub(crate) fn find(space: &mut Words, answers: &mut [u8], l: FindRequest) -> Outcome
+    requires { ⌜ (isLookUp (l .op) ≡ true) × (earlyRefusal (view (now space)) (frameOf (Request.Find l)) ≡ 0) × (stepArea ≤ length (now answers)) ⌝ }
+    ensures { λ r. ⌜ Ends (cond (waitsFull (view (now (space .entry))) (frameOf (Request.Find l))) waitsRefused 0) (lookUp first (view (now (space .entry))) (frameOf (Request.Find l))) (now (space .entry)) (now (space .exit)) (now (answers .entry)) (now (answers .exit)) r ⌝ }
+{
+    let w = look_up_of(space, l);
+    let txn = w.txn;
+    let p = slot_of(space, txn);
+    let Match::At(e) = find_available(space, w, p) else {
+        return go_without(space, answers, w, p, l.timeout);
+    };
+    hand_out(space, e, w, p);
+    let r = found_record(w, e);
+    Outcome::Carried(add_record(answers, 0, r))
 }
