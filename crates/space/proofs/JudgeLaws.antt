@@ -1,25 +1,27 @@
 -- Laws of the refusals: what the code finds out row by row of the tables, and the table of refusals in parts.
 use Prim.Native.Nat.{ℕ, suc, _+_, _-_, _*_, _≤_, _<_}
-use mathlib.Core.Bool.{Bool, true, false, not, cond, _&&_, _||_}
+use mathlib.Core.Bool.{Bool, true, false, not, cond, _&&_, _||_, or-true}
 use mathlib.Core.Option.{none, some}
 use mathlib.Core.Path.{_≡_, refl, sym, ap, _∙_}
 use mathlib.Core.List.{List, [], _∷_}
 use native.Mathlib.Omega.{arith}
 use native.Mathlib.Decide.{decLt}
 use native.Mathlib.Numerals.{add-one}
-use borrow.Author.Tests.{leb-true, eq-eqb, ne-eqb, lt-ltb, le-ltb, le-leb}
+use borrow.Author.Tests.{leb-true, eqb-true, eq-eqb, ne-eqb, lt-ltb, le-ltb, le-leb}
 use lib.Dec.{eqb, leb, ltb}
 use lib.ListN.{length}
 use Rattle.rules.specs.declared.LookUp.{LookUp}
 use Rattle.rules.specs.declared.Txn.{Txn}
+use Rattle.rules.specs.declared.TxnId.{TxnId}
 use Rattle.rules.specs.Lists.{firstRow, findb, anyb}
 use Rattle.rules.specs.Numbers.{waitingRefused, notLiveRefused, notOwnRefused, leaseRefused, clockRefused, entriesRefused, txnsRefused, numberRefused, waitsRefused}
 use Rattle.rules.specs.State.{Model}
 use Rattle.rules.specs.Frame.{Frame, isWrite, isLookUp, isCreate, isCommit, isAbort, isTick, hasLeaseOrTimeout}
 use Rattle.rules.specs.Holds.{liveTxn}
 use Rattle.rules.specs.Refusals.{inTxn, isOf, partyWaits, notLive, notOwn, noLease, tooLate, entriesFull, txnsFull, noNumber, waitsFull}
-use Rattle.rules.specs.Requests.{spaceRefusal}
-use Rattle.rules.proofs.StepCases.{and-left, and-right}
+use Rattle.rules.specs.Requests.{frameOf, plainFrame, spaceRefusal}
+use Rattle.rules.specs.declared.Request.the-variants.{Commit, Abort}
+use Rattle.rules.proofs.StepCases.{cond-cases, and-left, and-right}
 use Rattle.rules.proofs.RefusalLaws.{first-append}
 use Rattle.rules.specs.Words.{entryOf, entryCount, txnOf, txnCount, waitOf, waitFrom, waitCount, row, entries, txns, waits, view}
 use Rattle.space.specs.Judge.{partyWaiting, inTxnRefusal, admissionRefusal, earlyRefusal}
@@ -110,6 +112,23 @@ module _ (m : Model) (f : Frame) where
     -- none does
     pub early-rest : (r : ℕ) → n ≡ 0 → r ≡ restRefusal m f → r ≡ earlyRefusal m f
     early-rest r z e = e ∙ sym (by ∙ ap (λ b. cond b (restRefusal m f) n) (eq-eqb n 0 z))
+
+    -- none of 9 to 13 can apply
+    pub early-all : restRefusal m f ≡ 0 → n ≡ earlyRefusal m f
+    early-all z = sym (by ∙ ap (λ r. cond (eqb n 0) r n) z ∙ go n)
+      where
+        go : (k : ℕ) → cond (eqb k 0) 0 k ≡ k
+        go k = cond-cases (λ x. x ≡ k) (eqb k 0) (λ e. sym (eqb-true k 0 e)) (λ e. refl)
+
+-- every commit and abort is in a transaction, and is judged by 6 to 8 alone
+module _ (m : Model) (party n : ℕ) (t : TxnId) (a : n ≡ admissionRefusal true party (t .0) m) where
+  pub early-commit : n ≡ earlyRefusal m (frameOf (Commit party t))
+  unfolding noLease tooLate entriesFull txnsFull noNumber
+  early-commit = early-all m (frameOf (Commit party t)) true (ap (λ b. b || false) (or-true (not (eqb (t .0) 0)))) n a refl
+
+  pub early-abort : n ≡ earlyRefusal m (frameOf (Abort party t))
+  unfolding noLease tooLate entriesFull txnsFull noNumber
+  early-abort = early-all m (frameOf (Abort party t)) true (or-true (not (eqb (t .0) 0) || false)) n a refl
 
 -- of a frame in no transaction 6 alone is judged
 pub party-admitted : (m : Model) (party t : ℕ) → partyWaiting party (m .waits) ≡ false → 0 ≡ admissionRefusal false party t m

@@ -7,11 +7,6 @@ use Rattle.space.specs.declared.apply.Outcome.{Outcome}
 use Rattle.space.specs.declared.apply.Outcome.the-variants.{Carried, Refused}
 use Rattle.space.specs.Does.{Does}
 
--- document 01's number for each case: 0 where it is carried out
-abbrev pub numberOf : Outcome → ℕ
-numberOf (Carried count) = 0
-numberOf (Refused number) = number
-
 -- where the number that applies is n: carried out, as the rules' `d` says, with so many records in the area; or the words and the area
 -- are left as they are
 abbrev pub Ends : ℕ → Done → List ℕ → List ℕ → List ℕ → List ℕ → Outcome → Type 0

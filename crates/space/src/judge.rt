@@ -4,7 +4,7 @@ ghost use mathlib.Core.Bool.{true};
 ghost use Rattle.rules.specs.Frame.{isLookUp};
 ghost use Rattle.rules.specs.Requests.{frameOf};
 ghost use Rattle.rules.specs.Words.{view};
-ghost use Rattle.rules.specs.declared.Request.the-variants.{Write, Find, Create, Tick};
+ghost use Rattle.codec.specs.Kinds.{ofItsKind};
 ghost use Rattle.space.specs.Judge.{partyWaiting, late, noRoom, inTxnRefusal, admissionRefusal, earlyRefusal};
 use crate::live::Live;
 use crate::live::find_txn;
@@ -14,6 +14,7 @@ use crate::rows::txn_count;
 use crate::rows::wait_at;
 use crate::rows::wait_count;
 use rules::FindRequest;
+use rules::Request;
 use rules::TxnId;
 use rules::WriteRequest;
 
@@ -83,7 +84,7 @@ pub(crate) fn lacks_room(space: &Words, lease: u32) -> bool
 }
 
 pub(crate) fn judge_write(space: &Words, w: WriteRequest) -> u8
-    ensures { λ r. ⌜ r ≡ earlyRefusal (view (now (space .entry))) (frameOf (Write w)) ⌝ }
+    ensures { λ r. ⌜ r ≡ earlyRefusal (view (now (space .entry))) (frameOf (Request.Write w)) ⌝ }
 {
     let n = admission(space, w.txn.0 != 0, w.party, w.txn);
     if n != 0 {
@@ -100,7 +101,7 @@ pub(crate) fn judge_write(space: &Words, w: WriteRequest) -> u8
 
 pub(crate) fn judge_find(space: &Words, l: FindRequest) -> u8
     requires { ⌜ isLookUp (l .op) ≡ true ⌝ }
-    ensures { λ r. ⌜ r ≡ earlyRefusal (view (now (space .entry))) (frameOf (Find l)) ⌝ }
+    ensures { λ r. ⌜ r ≡ earlyRefusal (view (now (space .entry))) (frameOf (Request.Find l)) ⌝ }
 {
     let n = admission(space, l.txn.0 != 0, l.party, l.txn);
     if n != 0 {
@@ -110,7 +111,7 @@ pub(crate) fn judge_find(space: &Words, l: FindRequest) -> u8
 }
 
 pub(crate) fn judge_create(space: &Words, party: u8, lease: u32) -> u8
-    ensures { λ r. ⌜ r ≡ earlyRefusal (view (now (space .entry))) (frameOf (Create party lease)) ⌝ }
+    ensures { λ r. ⌜ r ≡ earlyRefusal (view (now (space .entry))) (frameOf (Request.Create party lease)) ⌝ }
 {
     if waits_already(space, party) {
         return 6;
@@ -128,10 +129,25 @@ pub(crate) fn judge_create(space: &Words, party: u8, lease: u32) -> u8
 }
 
 pub(crate) fn judge_tick(space: &Words) -> u8
-    ensures { λ r. ⌜ r ≡ earlyRefusal (view (now (space .entry))) (frameOf Tick) ⌝ }
+    ensures { λ r. ⌜ r ≡ earlyRefusal (view (now (space .entry))) (frameOf Request.Tick) ⌝ }
 {
     if waits_already(space, 0) {
         return 6;
     }
     if 4294967294 <= space[0] { 10 } else { 0 }
+}
+
+// The first of the refusals 6 to 13 that applies, or 0.
+pub(crate) fn judge(space: &Words, q: Request) -> u8
+    requires { ⌜ ofItsKind q ≡ true ⌝ }
+    ensures { λ r. ⌜ r ≡ earlyRefusal (view (now (space .entry))) (frameOf q) ⌝ }
+{
+    match q {
+        Request::Write(w) => judge_write(space, w),
+        Request::Find(l) => judge_find(space, l),
+        Request::Create(party, lease) => judge_create(space, party, lease),
+        Request::Commit(party, id) => admission(space, true, party, id),
+        Request::Abort(party, id) => admission(space, true, party, id),
+        Request::Tick => judge_tick(space),
+    }
 }
