@@ -191,3 +191,12 @@ space-parts m f =
     ∷ (txnsFull m f, txnsRefused)
     ∷ (noNumber m f, numberRefused)
     ∷ []) ((waitsFull m f, waitsRefused) ∷ []) refl
+
+pub early-refused : (m : Model) (f : Frame) (n : ℕ) → n ≡ earlyRefusal m f → (n ≡ 0 → ⊥) → spaceRefusal m f ≡ n
+early-refused m f n e h =
+    space-parts m f
+    ∙ ap (λ k. cond (eqb k 0) (cond (waitsFull m f) waitsRefused 0) k) (sym e)
+    ∙ ap (λ b. cond b (cond (waitsFull m f) waitsRefused 0) n) (ne-eqb n 0 h)
+
+pub early-passed : (m : Model) (f : Frame) → earlyRefusal m f ≡ 0 → cond (waitsFull m f) waitsRefused 0 ≡ spaceRefusal m f
+early-passed m f e = sym (space-parts m f ∙ ap (λ k. cond (eqb k 0) (cond (waitsFull m f) waitsRefused 0) k) e)

@@ -9,8 +9,8 @@ use lib.Dec.{eqb, leb, ltb}
 use lib.ListN.{length}
 use Rattle.rules.specs.declared.FindRequest.{FindRequest}
 use Rattle.rules.specs.declared.WriteRequest.{WriteRequest}
-use Rattle.rules.specs.declared.Request.the-variants.{Write, Find, Create}
-use Rattle.rules.specs.Numbers.{forever, maxEntries, maxTxns}
+use Rattle.rules.specs.declared.Request.the-variants.{Write, Find, Create, Tick}
+use Rattle.rules.specs.Numbers.{forever, lastClock, maxEntries, maxTxns}
 use Rattle.rules.specs.State.{Model}
 use Rattle.rules.specs.Frame.{Frame, isLookUp}
 use Rattle.rules.specs.Refusals.{partyWaits, notLive, notOwn, noLease, tooLate, entriesFull, txnsFull, noNumber}
@@ -81,3 +81,7 @@ module _ (m : Model) (l : FindRequest) (o : isLookUp (l .op) ≡ true) (e : earl
       let k = looks-up (l .op) o in
       in-time (m .clock) (l .timeout)
       (or-left (late (m .clock) (l .timeout)) false (rw (k .timeout, k .tick) at (passed m (frameOf (Find l)) e .time)))
+
+pub tick-clock : (m : Model) → earlyRefusal m (frameOf Tick) ≡ 0 → m .clock < lastClock
+unfolding tooLate
+tick-clock m e = leb-false lastClock (m .clock) (passed m (frameOf Tick) e .time)

@@ -10,21 +10,25 @@ use lib.Dec.{eqb, ltb}
 use lib.ListN.{length, take, drop}
 use Rattle.rules.specs.declared.Record.{Record}
 use Rattle.rules.specs.declared.Request.{Request}
+use Rattle.rules.specs.declared.Request.the-variants.{Find}
+use Rattle.rules.specs.declared.FindRequest.{FindRequest}
 use Rattle.rules.specs.declared.Decoded.{Decoded}
 use Rattle.rules.specs.declared.Decoded.the-variants.{Asks, Refused}
 use Rattle.rules.specs.Numbers.{stepArea, areaRefused}
 use Rattle.rules.specs.State.{Model}
-use Rattle.rules.specs.Frame.{Frame, decode}
+use Rattle.rules.specs.Frame.{Frame, decode, isLookUp}
 use Rattle.rules.specs.Records.{refused, answerBytes, areaAfter}
-use Rattle.rules.specs.LookUp.{Done}
+use Rattle.rules.specs.LookUp.{Done, lookUp}
 use Rattle.rules.specs.Refusals.{refusal}
 use Rattle.rules.specs.Requests.{frameOf, formRefusal, spaceRefusal, Decodes}
 use Rattle.rules.specs.Step.{Outcome, step, carriedOut, refusedWith, accepted}
 use Rattle.rules.specs.Words.{view}
 use Rattle.rules.specs.Allowed.{Answered, Allowed, Stepped}
 use Rattle.rules.proofs.ListLaws.{none≢some}
+use Rattle.rules.proofs.StepCases.{cond-cases}
 use Rattle.rules.proofs.RefusalLaws.{refusal-parts, form-not-area, space-not-area}
 use Rattle.space.specs.Does.{first, Adds, Does}
+use Rattle.space.proofs.JudgeLaws.{looks-up}
 
 -- ---- which refusal applies
 module _ (m : Model) (bs : List ℕ) (area : ℕ) where
@@ -39,12 +43,16 @@ module _ (m : Model) (bs : List ℕ) (area : ℕ) where
   long-parts : stepArea ≤ area → refusal m bs area ≡ cond (eqb (formRefusal bs) 0) (spaceRefusal m (decode bs)) (formRefusal bs)
   long-parts h = parts-by false (le-ltb area stepArea h)
 
+  pub not-short : stepArea ≤ area → eqb (refusal m bs area) areaRefused ≡ false
+  not-short h =
+      ap (λ k. eqb k areaRefused) (long-parts h)
+      ∙ cond-cases (λ k. eqb k areaRefused ≡ false) (eqb (formRefusal bs) 0) (λ e. space-not-area m (decode bs)) (λ e. form-not-area bs)
+
   -- the decoder refuses
-  pub form-refusal : (n : ℕ) → stepArea ≤ area → Decodes bs (Refused n) → (refusal m bs area ≡ n) × (eqb n 0 ≡ false) × (eqb n areaRefused ≡ false)
+  pub form-refusal : (n : ℕ) → stepArea ≤ area → Decodes bs (Refused n) → (refusal m bs area ≡ n) × (refusal m bs area ≡ 0 → ⊥)
   form-refusal n h d = (
-    long-parts h ∙ ap (λ b. cond b (spaceRefusal m (decode bs)) (formRefusal bs)) not-zero ∙ sym (d .number),
-    ap (λ k. eqb k 0) (d .number) ∙ not-zero,
-    ap (λ k. eqb k areaRefused) (d .number) ∙ form-not-area bs,
+    is-form ∙ sym (d .number),
+    (λ z. eqb-false (formRefusal bs) 0 not-zero (sym is-form ∙ z)),
   )
     where
       go : (b : Bool) → none ≡ cond b (some (decode bs)) none → b ≡ false
@@ -53,6 +61,9 @@ module _ (m : Model) (bs : List ℕ) (area : ℕ) where
 
       not-zero : eqb (formRefusal bs) 0 ≡ false
       not-zero = go (eqb (formRefusal bs) 0) (d .frame)
+
+      is-form : refusal m bs area ≡ formRefusal bs
+      is-form = long-parts h ∙ ap (λ b. cond b (spaceRefusal m (decode bs)) (formRefusal bs)) not-zero
 
   -- it does not: the request is judged against the space
   pub asked-frame : (q : Request) → Decodes bs (Asks q) → frameOf q ≡ decode bs
@@ -66,6 +77,11 @@ module _ (m : Model) (bs : List ℕ) (area : ℕ) where
       long-parts h
       ∙ ap (λ n. cond (eqb n 0) (spaceRefusal m (decode bs)) n) (sym (d .number))
       ∙ ap (spaceRefusal m) (sym (asked-frame q d))
+
+-- ---- a look-up's frame is carried out as one
+pub carried-find : (m : Model) (l : FindRequest) → isLookUp (l .op) ≡ true → carriedOut first m (frameOf (Find l)) ≡ lookUp first m (frameOf (Find l))
+unfolding carriedOut
+carried-find m l e = rw (looks-up (l .op) e .write, e)
 
 -- ---- what is allowed
 module _ (before bs area : List ℕ) where
@@ -97,11 +113,12 @@ module _ (before bs area : List ℕ) where
       }
 
   -- one refused record
-  pub stepped-refused : (after area′ : List ℕ) (r n : ℕ) → refusal (view before) bs (length area) ≡ n → eqb n 0 ≡ false → eqb n areaRefused ≡ false
-      → after ≡ before → Adds (refused bs n ∷ []) area area′ 0 1 → r ≡ 1 + 65536 * n → Stepped before bs area after r area′
+  pub stepped-refused : (after area′ : List ℕ) (r n : ℕ) → stepArea ≤ length area → refusal (view before) bs (length area) ≡ n
+      → (refusal (view before) bs (length area) ≡ 0 → ⊥) → after ≡ before → Adds (refused bs n ∷ []) area area′ 0 1 → r ≡ 1 + 65536 * n → Stepped before bs area after r area′
   unfolding refusedWith
-  stepped-refused after area′ r n e z y w b q =
-      let o = refused-outcome n e z ∙ ap (λ c. record { model = view before; records = cond c [] (refused bs n ∷ []); number = n }) y in
+  stepped-refused after area′ r n h e z w b q =
+      let y = ap (λ k. eqb k areaRefused) (sym e) ∙ not-short (view before) bs (length area) h in
+      let o = refused-outcome n e (ne-eqb n 0 (λ k. z (e ∙ k))) ∙ ap (λ c. record { model = view before; records = cond c [] (refused bs n ∷ []); number = n }) y in
       record {
         answered = record { records = refused bs n ∷ []; count = 1; number = n; area = area′ };
         allowed =
