@@ -1,2 +1,4 @@
 -- Laws that the proofs of several functions and crates cite.
 pub mod FrontLaws
+pub mod FormLaws
+pub mod RequestLaws

@@ -1,4 +1,11 @@
 // Frames read from bytes, and answer records written as bytes.
+pub mod bytes;
+pub mod frames;
+pub mod numbers;
 pub mod records;
 
+pub use bytes::byte_at;
+pub use bytes::number_at;
+pub use frames::decode;
+pub use frames::party_of;
 pub use records::put_record;

@@ -13,9 +13,9 @@ use Rattle.rules.specs.Lists.{anyb}
 use Rattle.rules.specs.Time.{reached}
 use Rattle.rules.specs.State.{Model}
 use Rattle.rules.specs.Template.{bit}
-use Rattle.demands.specs.Serial.{Kept, Operation, adds, finds, isKept, sameFields}
-use Rattle.demands.specs.Demands.{keptOf}
-use Rattle.demands.specs.Claims.{takesNumber}
+use Rattle.demands.specs.SerialRun.{Kept, Operation, adds, finds, isKept, sameFields}
+use Rattle.demands.specs.SerialRun.{keptOf}
+use Rattle.demands.specs.Told.{takesNumber}
 use Rattle.rules.proofs.ListLaws.{any-mem, mem-any, none-mem, all-false}
 use Rattle.demands.proofs.SerialOps.{afterAll, Can, mentionsIt, mentions, takesIt, kept-number}
 use Rattle.rules.proofs.StepCases.{and-left, and-right}

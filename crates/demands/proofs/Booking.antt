@@ -9,6 +9,7 @@ use native.Mathlib.Nat.{le-trans}
 use borrow.Author.Tests.{eqb-true, eq-eqb, ne-eqb}
 use lib.Dec.{eqb}
 use lib.ListN.{length}
+use Rattle.rules.proofs.ListLaws.{filter-filter, filter-pass}
 use Rattle.rules.specs.declared.Record.{Record}
 use Rattle.rules.specs.declared.Txn.{Txn}
 use Rattle.rules.specs.declared.LookUp.{LookUp}
@@ -16,25 +17,30 @@ use Rattle.rules.specs.Lists.{filterb}
 use Rattle.rules.specs.Time.{until}
 use Rattle.rules.specs.State.{Model, empty, withWaits, withClock}
 use Rattle.rules.specs.Frame.{Frame, decode, isLookUp, isAbort}
-use Rattle.rules.specs.Records.{written, found, nothing, waiting, created, committed, aborted, exception, ticked, refused}
+use Rattle.rules.specs.Records.{written, found, nothing, waiting, created, committed, aborted, exception, ticked}
+use Rattle.rules.specs.Records.{refused}
 use Rattle.rules.specs.LookUp.{lookUpOf}
 use Rattle.rules.specs.Transactions.{create, withoutTxn, commit, abort}
 use Rattle.rules.specs.Tick.{dropEnded}
 use Rattle.rules.specs.Refusals.{partyWaits, inTxn}
 use Rattle.rules.specs.Step.{Outcome, stored, carriedOut, step, accepted, refusedWith}
-use Rattle.demands.specs.History.{Input, runs}
-use Rattle.demands.specs.Serial.{wasRefused}
-use Rattle.demands.specs.Claims.{ByNumber, ofParty, LiveTold, Book, newBook, isOf, enters, entersAll, withAsked, arrives, keepBook, bookOf, Booked, Book-demand, Out, here, there, asked, Event, writes, is-found, is-nothing, is-waiting, creates, commits, aborts, ticks, excepts, Moments, over, expires, says}
+use Rattle.demands.proofs.Runs.{Input, runs, made}
+use Rattle.demands.specs.SerialRun.{wasRefused}
+use Rattle.demands.specs.Bounds.{ByNumber}
+use Rattle.demands.specs.Answers.{ofParty, asked}
+use Rattle.demands.specs.Book.{LiveTold, Book, newBook, names, enters, entersAll, withAsked, arrives, keepBook}
+use Rattle.demands.specs.Book.{bookOf, Booked}
+use Rattle.demands.specs.Moments.{Out, here, there, Event, writes, is-found, is-nothing, is-waiting, creates}
+use Rattle.demands.specs.Moments.{commits, aborts, ticks, excepts, Moments, expires, says, over}
 use Rattle.rules.proofs.ListLaws.{count, count-cons, length-filter, filter-all, mem-filter, any-filter, all-false}
 use Rattle.rules.proofs.StepCases.{cond-cases, step-cases}
 use Rattle.rules.proofs.RefusalLaws.{Clear, clear}
-use Rattle.demands.proofs.SerialOps.{filter-filter}
-use Rattle.demands.proofs.SerialRun.{look-up-taken}
+use Rattle.demands.proofs.Serializing.{look-up-taken}
 use Rattle.demands.proofs.Sound.{Sound, sound-step, sound-empty}
 use Rattle.demands.proofs.Numbers.{step-ascends, empty-ascends}
 use Rattle.demands.proofs.Owners.{OwnedIn, owned-step, own-named, named-nonzero, not-inside}
-use Rattle.demands.proofs.ClaimsB.{Each, filtered, each-step, arrives as one-more}
-use Rattle.demands.proofs.ClaimsC.{carried-moments}
+use Rattle.demands.proofs.InTime.{Each, filtered, each-step, arrives as one-more}
+use Rattle.demands.proofs.Momentary.{carried-moments}
 
 -- none passes: the rest is all
 none-passes : {A : Type 0} (p : A → Bool) (xs : List A) → count p xs ≤ 0 → filterb (λ x. not (p x)) xs ≡ xs
@@ -68,10 +74,10 @@ filter-map {A} {B} p g (x ∷ xs) = go (p (g x)) (filter-map p g xs)
     go false e = e
 
 -- where each party has one look-up at most, a record names one look-up at most
-named : (a : Record) (w : LookUp) {xs ys : List LookUp} → isOf a w ≡ true → Each xs → Out w xs ys
-    → (filterb (λ v. not (isOf a v)) xs ≡ ys) × (count (isOf a) xs ≡ 1)
+named : (a : Record) (w : LookUp) {xs ys : List LookUp} → names a w ≡ true → Each xs → Out w xs ys
+    → (filterb (λ v. not (names a v)) xs ≡ ys) × (count (names a) xs ≡ 1)
 named a w {xs} t h o =
-    one-passes (isOf a) o t
+    one-passes (names a) o t
     (le-trans (subst (λ (l : List LookUp). length l ≤ count (ofParty (a .party)) xs) (filter-filter (λ (v : LookUp). eqb (v .txn .0) (a .txn .0)) (ofParty (a .party)) xs) (length-filter (λ (v : LookUp). eqb (v .txn .0) (a .txn .0)) (filterb (ofParty (a .party)) xs)))
     (h (a .party)))
 
@@ -88,9 +94,7 @@ unfolding told
 ended t m h = ap (filterb (λ (x : LiveTold). not (eqb (x .number) t))) (h .live) ∙ filter-map (λ (x : LiveTold). not (eqb (x .number) t)) told (m .txns)
 
 all-pass : (t : ℕ) (ws : List LookUp) → ((w : LookUp) → List·Memᴰ w ws → w .txn .0 ≡ t → ⊥) → filterb (λ (w : LookUp). not (eqb (w .txn .0) t)) ws ≡ ws
-all-pass t ws h =
-    let inside : LookUp → Bool = λ w. eqb (w .txn .0) t in
-    none-passes inside ws (omega (arith, ap length (any-filter inside ws (all-false inside ws (λ w i. ne-eqb (w .txn .0) t (h w i))))))
+all-pass t ws h = filter-pass (λ w. not (eqb (w .txn .0) t)) ws (λ w i. ap not (ne-eqb (w .txn .0) t (h w i)))
 
 itself : (w : LookUp) → (eqb (w .party) (w .party) && eqb (w .txn .0) (w .txn .0)) ≡ true
 itself w = ap₂ (λ p q. p && q) (eq-eqb (w .party) (w .party) refl) (eq-eqb (w .txn .0) (w .txn .0) refl)
@@ -100,7 +104,7 @@ module _ (f : Frame) (b : Book) where
   enters-waiting : (a : Record) → (p : LookUp → Bool) × (enters f a b .waiting ≡ filterb p (b .waiting))
   unfolding enters
   enters-waiting a =
-      cond-cases Q (eqb (a .kind) 2 || eqb (a .kind) 3) (λ _. ((λ w. not (isOf a w)), refl))
+      cond-cases Q (eqb (a .kind) 2 || eqb (a .kind) 3) (λ _. ((λ w. not (names a w)), refl))
       (λ _. cond-cases Q (eqb (a .kind) 8) (λ _. ((λ (w : LookUp). not (eqb (w .txn .0) (a .txn .0))), refl)) (λ _. ((λ w. true), sym (filter-all (b .waiting)))))
     where
       Q : List LookUp → Type 0
@@ -116,7 +120,14 @@ module _ (f : Frame) (b : Book) where
   book-event : {m n : Model} {a : Record} → Event f m a n → Each (b .waiting) → Calm f (b .waiting) → Booked b m → Booked (enters f a b) n
   unfolding enters told written stored found nothing waiting created create committed commit aborted abort exception ticked withoutTxn
   book-event (writes m t) e c h =
-      record { right = ap (λ x. x && true) (h .right); clock = h .clock; next-entry = refl; next-txn = h .next-txn; live = h .live; waiting = h .waiting }
+      record {
+        right = ap₂ (λ p q. p && q) (h .right) (eq-eqb (m .nextEntry) (b .nextEntry) (sym (h .next-entry)));
+        clock = h .clock;
+        next-entry = ap (λ n. n + 1) (h .next-entry);
+        next-txn = h .next-txn;
+        live = h .live;
+        waiting = h .waiting;
+      }
   book-event (is-found m w x ws o i t) e c h =
       let r = named (found w x) w (itself w) e (subst⁻¹ (λ (l : List LookUp). Out w l ws) (h .waiting) o) in
       record { right = ap₂ (λ p q. p && q) (h .right) (eq-eqb _ 1 (r .1)); clock = h .clock; next-entry = h .next-entry; next-txn = h .next-txn; live = h .live; waiting = r .0 }
@@ -127,10 +138,10 @@ module _ (f : Frame) (b : Book) where
       record { right = ap (λ x. x && true) (h .right); clock = h .clock; next-entry = h .next-entry; next-txn = h .next-txn; live = h .live; waiting = h .waiting }
   book-event (creates m t) e c h =
       record {
-        right = ap (λ x. x && true) (h .right);
+        right = ap₂ (λ p q. p && q) (h .right) (eq-eqb (m .nextTxn) (b .nextTxn) (sym (h .next-txn)));
         clock = h .clock;
         next-entry = h .next-entry;
-        next-txn = refl;
+        next-txn = ap (λ n. n + 1) (h .next-txn);
         live = ap₂ (λ (l : List LiveTold) (k : ℕ). l ++ (record { number = m .nextTxn; party = f .party; end = until k (f .leaseOrTimeout) } ∷ [])) (h .live) (h .clock) ∙ sym (map-append told (m .txns) _);
         waiting = h .waiting;
       }
@@ -246,8 +257,8 @@ unfolding runs keepBook
 runs-booked m b [] k = k
 runs-booked m b (i ∷ is) k = runs-booked _ _ is (book-step i m b k)
 
-pub book-demand : Book-demand
-unfolding Book-demand bookOf
+pub book-demand : (is : List Input) → Booked (bookOf (runs empty is .log)) (made is)
+unfolding bookOf
 book-demand is =
     runs-booked empty newBook is
     (record {

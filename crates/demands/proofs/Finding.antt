@@ -17,16 +17,18 @@ use Rattle.rules.specs.State.{Model, withEntries}
 use Rattle.rules.specs.Template.{bit}
 use Rattle.rules.specs.Holds.{liveTxn, addReaderOf, dropReaderOf, readByOther, available}
 use Rattle.rules.specs.LookUp.{removes, withHold, marked, handOut}
-use Rattle.demands.specs.Serial.{Kept, Operation, adds, finds, isKept, sameFields}
-use Rattle.demands.specs.Demands.{keptOf}
+use Rattle.demands.specs.SerialRun.{Kept, Operation, adds, finds, isKept, sameFields}
+use Rattle.demands.specs.SerialRun.{keptOf}
 use Rattle.rules.proofs.ListLaws.{mem-filter, filter-mem, mem-any, any-append, find-some, find-none}
 use Rattle.rules.proofs.StepCases.{bool-cases, cond-cases, or-cases, and-left, and-right}
 use Rattle.rules.proofs.ReaderLaws.{added, added-other, dropped-other, bit-of-zero}
-use Rattle.demands.proofs.SerialOps.{after, afterAll, afterFind, Can, CanOne, mentionsIt, mentions, survives, after-split, can-keep, can-snoc, after-snoc, kept-number}
+use Rattle.demands.proofs.SerialOps.{after, afterAll, afterFind, Can, CanOne, mentionsIt, mentions, survives}
+use Rattle.demands.proofs.SerialOps.{after-split, can-keep, can-snoc, after-snoc, kept-number}
 use Rattle.demands.proofs.Sound.{Sound, available-visible, available-unread, visible-free, visible-owner}
 use Rattle.demands.proofs.HandOut.{after-cases, others-stay, marked-stays}
-use Rattle.demands.specs.Claims.{takesNumber}
-use Rattle.demands.proofs.Agreement.{fits, Holds, Stored, OfTxn, Agree, takes-same, takes-mentions, moved, kept-is, fields-same}
+use Rattle.demands.specs.Told.{takesNumber}
+use Rattle.demands.proofs.Agreement.{fits, Holds, Stored, OfTxn, Agree, takes-same, takes-mentions, moved}
+use Rattle.demands.proofs.Agreement.{kept-is, fields-same}
 use Rattle.demands.proofs.Release.{unmentioned}
 use Rattle.demands.proofs.Growth.{put, put-same, put-other, put-mem}
 

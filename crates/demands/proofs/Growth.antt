@@ -3,7 +3,8 @@ use Prim.Native.Nat.{ℕ, _+_, _<_}
 use mathlib.Core.Bool.{Bool, true, false, cond, true≢false, or-false}
 use mathlib.Core.Logic.{_⊎_, inl, inr, ⊎-elim}
 use mathlib.Core.Path.{_≡_, refl, sym, ap, _∙_, subst, subst⁻¹}
-use mathlib.Core.List.{List, [], _∷_, _++_, List·Memᴰ, List·Memᴰ·head, List·Memᴰ·not-nil, List·Memᴰ·append-cases, List·Memᴰ·eq-of-singleton, Memᴰ·append-left, Memᴰ·append-right}
+use mathlib.Core.List.{List, [], _∷_, _++_, List·Memᴰ, List·Memᴰ·head, List·Memᴰ·not-nil, List·Memᴰ·append-cases}
+use mathlib.Core.List.{List·Memᴰ·eq-of-singleton, Memᴰ·append-left, Memᴰ·append-right}
 use native.Mathlib.Omega.{arith}
 use borrow.Author.Tests.{eqb-true, eqb-false, eq-eqb, ne-eqb, le-leb}
 use lib.Dec.{eqb}
@@ -15,13 +16,13 @@ use Rattle.rules.specs.State.{Model}
 use Rattle.rules.specs.Frame.{Frame}
 use Rattle.rules.specs.Transactions.{create}
 use Rattle.rules.specs.Step.{newEntry, stored}
-use Rattle.demands.specs.Serial.{Kept, Operation, adds, finds}
-use Rattle.demands.specs.Demands.{keptOf}
+use Rattle.demands.specs.SerialRun.{Kept, Operation, adds, finds}
+use Rattle.demands.specs.SerialRun.{keptOf}
 use Rattle.rules.proofs.ListLaws.{all-false, any-append}
 use Rattle.rules.proofs.StepCases.{bool-cases, cond-cases}
 use Rattle.demands.proofs.SerialOps.{afterAll, Can, mentionsIt, mentions, can-keep, can-snoc, after-snoc}
 use Rattle.demands.proofs.Sound.{Sound}
-use Rattle.demands.specs.Claims.{takesNumber}
+use Rattle.demands.specs.Told.{takesNumber}
 use Rattle.demands.proofs.Agreement.{fits, Stored, OfTxn, Agree, takes-mentions}
 
 -- a new transaction has an empty list and holds nothing

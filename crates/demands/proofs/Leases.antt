@@ -4,7 +4,8 @@ use mathlib.Core.Bool.{Bool, false, cond, not}
 use mathlib.Core.Logic.{⊎-elim}
 use mathlib.Core.Path.{_≡_, refl, sym, ap, _∙_}
 use mathlib.Core.Option.{Option, none, some}
-use mathlib.Core.List.{List, map, List·Memᴰ, List·Memᴰ·not-nil, List·Memᴰ·append-cases, List·Memᴰ·eq-of-singleton, Memᴰ·of-map}
+use mathlib.Core.List.{List, map, List·Memᴰ, List·Memᴰ·not-nil, List·Memᴰ·append-cases, List·Memᴰ·eq-of-singleton}
+use mathlib.Core.List.{Memᴰ·of-map}
 use borrow.Author.Tests.{eqb-false, not-true}
 use lib.Dec.{eqb}
 use Rattle.rules.specs.declared.Entry.{Entry}
@@ -15,22 +16,23 @@ use Rattle.rules.specs.Time.{reached}
 use Rattle.rules.specs.State.{Model, withClock}
 use Rattle.rules.specs.Holds.{availableTo}
 use Rattle.rules.specs.Frame.{Frame, decode}
-use Rattle.rules.specs.LookUp.{Done, lookUpOf, givesNothing, removes, withHold, marked, isEntry, handOut, answer, answerFound, answerNothing, answerWaiting, lookUp}
+use Rattle.rules.specs.LookUp.{Done, lookUpOf, givesNothing, removes, withHold, marked, isEntry, handOut, answer}
+use Rattle.rules.specs.LookUp.{answerFound, answerNothing, answerWaiting, lookUp}
 use Rattle.rules.specs.Transactions.{create, released, commit, abort}
 use Rattle.rules.specs.Service.{serve, service}
 use Rattle.rules.specs.Tick.{endedTxns, abortAll, dropEnded, closeWaits, tick}
 use Rattle.rules.specs.Step.{Outcome, newEntry, stored, write, commitFrame, abortFrame, step, accepted, refusedWith}
-use Rattle.demands.specs.History.{Input, made}
+use Rattle.demands.proofs.Runs.{Input, made}
 use Rattle.rules.proofs.ListLaws.{mem-filter}
 use Rattle.rules.proofs.StepCases.{cond-cases, step-cases, done-cases, serve-ind}
 use Rattle.demands.proofs.Deadlines.{until-later}
-use Rattle.demands.proofs.Reach.{made-keep}
+use Rattle.demands.proofs.Runs.{made-keep}
 
 -- each end is among the ends of other entries
-abbrev Within : List Entry → List Entry → Type 0
+abbrev pub Within : List Entry → List Entry → Type 0
 Within fs es = (f : Entry) → List·Memᴰ f fs → (e : Entry) × List·Memᴰ e es × (f .end ≡ e .end)
 
-within-filter : (p : Entry → Bool) (es : List Entry) → Within (filterb p es) es
+pub within-filter : (p : Entry → Bool) (es : List Entry) → Within (filterb p es) es
 within-filter p es f i = (f, mem-filter p es i .0, refl)
 
 within-map : (g : Entry → Entry) (es : List Entry) → ((e : Entry) → g e .end ≡ e .end) → Within (map g es) es
@@ -44,19 +46,19 @@ unfolding marked withHold
 marked-end ts w e x =
     cond-cases (λ (y : Entry). y .end ≡ x .end) (isEntry e x) (λ q. cond-cases (λ (y : Entry). y .end ≡ x .end) (eqb (x .«private_to» .0) (w .txn .0)) (λ r. refl) (λ r. refl)) (λ q. refl)
 
-within-handOut : (ts : List Txn) (w : LookUp) (e : Entry) (es : List Entry) → Within (handOut ts w e es) es
+pub within-handOut : (ts : List Txn) (w : LookUp) (e : Entry) (es : List Entry) → Within (handOut ts w e es) es
 unfolding handOut
 within-handOut ts w e es =
     cond-cases (λ l. Within l es) (removes w e) (λ q. within-filter _ es) (λ q. within-map _ es (marked-end ts w e))
 
-within-serve : (choice : ℕ → ℕ) (ts : List Txn) (es : List Entry) (ws : List LookUp) → Within (serve choice ts es ws .entries) es
+pub within-serve : (choice : ℕ → ℕ) (ts : List Txn) (es : List Entry) (ws : List LookUp) → Within (serve choice ts es ws .entries) es
 within-serve choice ts es ws =
     serve-ind choice ts (λ es ws r. Within (r .entries) es) (λ es f i. (f, i, refl)) (λ es w ws e below. below)
     (λ es w ws x e below. within-trans _ (handOut ts w x es) es below (within-handOut ts w x es))
     es
     ws
 
-within-released : (ts : List Txn) (t : ℕ) (p : Entry → Bool) (es : List Entry) → Within (map (released ts t) (filterb p es)) es
+pub within-released : (ts : List Txn) (t : ℕ) (p : Entry → Bool) (es : List Entry) → Within (map (released ts t) (filterb p es)) es
 unfolding released
 within-released ts t p es = within-trans _ (filterb p es) es (within-map _ (filterb p es) (λ e. refl)) (within-filter p es)
 

@@ -1,25 +1,32 @@
--- Theorems about the rules.
+-- The theorems: Theorems has the three demands, Wrong what they rule out, the rest leads there.
 
--- the course's examples
-pub mod Frames
-pub mod Starred
-pub mod Examples
--- laws that every proof uses
-pub mod Reach
+-- runs of the rules, and histories carried to them
+pub mod Runs
+pub mod Carried
 -- what holds of every space that frames make of the empty one
-pub mod Capacity
+pub mod Capacities
 pub mod Deadlines
 pub mod Leases
+pub mod Ends
 pub mod Trace
 pub mod Sound
 pub mod Numbers
 pub mod ReadersLive
+pub mod HoldSentences
 pub mod Owners
 pub mod Unavailable
 pub mod Settling
+-- demand 1
+pub mod Judging
 -- demand 2
 pub mod LookUpLaws
-pub mod Answering
+pub mod WaitingStep
+pub mod InTime
+pub mod NothingLeft
+pub mod Momentary
+pub mod Booking
+pub mod Tied
+pub mod Telling
 -- demand 3
 pub mod SerialOps
 pub mod HandOut
@@ -28,15 +35,13 @@ pub mod Release
 pub mod Growth
 pub mod Finding
 pub mod Simulation
-pub mod SerialRun
-pub mod ClaimsA
-pub mod ClaimsB
-pub mod ClaimsC
--- the book and the holds, told from frames and records alone
-pub mod Booking
-pub mod Tied
-pub mod Telling
--- trays, and a record's bytes
+pub mod Serializing
+-- the demands, trays, a record's bytes
 pub mod Trays
 pub mod RecordBytes
 pub mod Ranges
+-- the course's examples
+pub mod Computed
+pub mod Course
+pub mod Theorems
+pub mod RuledOut

@@ -16,7 +16,7 @@ use Rattle.rules.specs.Frame.{Frame, decode, isLookUp, isWrite}
 use Rattle.rules.specs.LookUp.{lookUpOf, givesNothing, answerFound, answerNothing, answerWaiting, answer, lookUp}
 use Rattle.rules.specs.Refusals.{refusal}
 use Rattle.rules.specs.Step.{step, accepted, carriedOut}
-use Rattle.demands.specs.Demands.{AnsweredNow}
+use Rattle.demands.specs.Answers.{AnsweredNow}
 use Rattle.rules.proofs.ListLaws.{any-filter, any-pick}
 use Rattle.rules.proofs.StepCases.{and-left, bool-cases}
 
@@ -38,7 +38,7 @@ pub step-lookUp : (choice : ℕ → ℕ) (m : Model) (bs : List ℕ) (area : ℕ
 step-lookUp choice m bs area n l = step-accepted choice m bs area n ∙ ap accepted (carriedOut-lookUp choice m (decode bs) l)
 
 pub look-up-answered : (choice : ℕ → ℕ) (m : Model) (f : Frame)
-    → AnsweredNow m (lookUpOf m f) (f .leaseOrTimeout) (accepted (lookUp choice m f))
+    → AnsweredNow m (lookUpOf m f) (f .leaseOrTimeout) (lookUp choice m f .records) (lookUp choice m f .model)
 unfolding lookUp answer answerFound answerNothing answerWaiting accepted
 look-up-answered choice m f =
     let w = lookUpOf m f in
@@ -50,7 +50,8 @@ look-up-answered choice m f =
     }
 
 pub answered-now : (choice : ℕ → ℕ) (m : Model) (bs : List ℕ) (area : ℕ) → refusal m bs area ≡ 0 → isLookUp (decode bs .op) ≡ true
-    → AnsweredNow m (lookUpOf m (decode bs)) (decode bs .leaseOrTimeout) (step choice m bs area)
+    → AnsweredNow m (lookUpOf m (decode bs)) (decode bs .leaseOrTimeout) (step choice m bs area .records) (step choice m bs area .model)
+unfolding accepted
 answered-now choice m bs area n l = rw (step-lookUp choice m bs area n l) (look-up-answered choice m (decode bs))
 
 -- the kind of its record, for all four together: 2 found, 3 nothing, 4 waiting
@@ -66,7 +67,7 @@ look-up-kind choice m bs area n l = go (bool-cases _) (bool-cases _)
     w : LookUp
     w = lookUpOf m (decode bs)
 
-    a : AnsweredNow m w (decode bs .leaseOrTimeout) (step choice m bs area)
+    a : AnsweredNow m w (decode bs .leaseOrTimeout) (step choice m bs area .records) (step choice m bs area .model)
     a = answered-now choice m bs area n l
 
     go : (someAvailable (m .txns) w (m .entries) ≡ true) ⊎ (someAvailable (m .txns) w (m .entries) ≡ false)

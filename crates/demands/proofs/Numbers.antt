@@ -3,7 +3,8 @@ use Prim.Native.Nat.{ℕ, _<_}
 use mathlib.Core.Bool.{Bool, true, not}
 use mathlib.Core.Logic.{⊎-elim}
 use mathlib.Core.Path.{_≡_, refl, sym, ap, _∙_, subst⁻¹}
-use mathlib.Core.List.{List, [], _∷_, _++_, map, List·Memᴰ, List·Memᴰ·head, List·Memᴰ·tail, List·Memᴰ·append-cases, List·Memᴰ·eq-of-singleton, List·Memᴰ·not-nil, Memᴰ·of-map, Memᴰ·map, Memᴰ·cast}
+use mathlib.Core.List.{List, [], _∷_, _++_, map, List·Memᴰ, List·Memᴰ·head, List·Memᴰ·tail, List·Memᴰ·append-cases}
+use mathlib.Core.List.{List·Memᴰ·eq-of-singleton, List·Memᴰ·not-nil, Memᴰ·of-map, Memᴰ·map, Memᴰ·cast}
 use native.Mathlib.Omega.{arith}
 use borrow.Author.Tests.{eqb-true, eqb-false, eq-eqb, ne-eqb}
 use lib.Dec.{eqb}
@@ -18,15 +19,15 @@ use Rattle.rules.specs.LookUp.{removes, withHold, marked, isEntry, handOut}
 use Rattle.rules.specs.Transactions.{create, released, withoutTxn, commit, abort, privateTo, takenBy}
 use Rattle.rules.specs.Tick.{dropEnded}
 use Rattle.rules.specs.Step.{Outcome, newEntry, stored, step, accepted, refusedWith}
-use Rattle.demands.specs.History.{Input}
-use Rattle.demands.specs.Demands.{keptOf, committedIn, distinct, numbersOf}
-use Rattle.demands.specs.Claims.{Ascending, ByNumber, NumbersAscend}
+use Rattle.demands.proofs.Runs.{Input, made}
+use Rattle.demands.specs.SerialRun.{keptOf, committedIn, distinct, numbersOf}
+use Rattle.demands.specs.Bounds.{Ascending, ByNumber}
 use Rattle.rules.proofs.ListLaws.{mem-filter, all-false}
 use Rattle.rules.proofs.StepCases.{cond-cases, bool-cases, step-cases}
 use Rattle.rules.proofs.RefusalLaws.{clear}
-use Rattle.demands.proofs.Reach.{made-keep}
-use Rattle.demands.proofs.Trace.{Silent, expires, leaves, Event, writes, finds, gives-nothing, waits, creates, commits, aborts, excepts, ticks, Trace, ends, silent, says, carried-out}
-use Rattle.demands.proofs.Sound.{Sound, sound-silent, sound-event, sound-step, sound-empty}
+use Rattle.demands.proofs.Trace.{Silent, expires, leaves, Event, writes, finds, gives-nothing, waits, creates}
+use Rattle.demands.proofs.Trace.{commits, aborts, excepts, ticks, Trace, ends, silent, says, carried-out}
+use Rattle.demands.proofs.Sound.{Sound, step-keeps, made-has}
 
 pub eqb-sym : (a b : ℕ) → eqb a b ≡ eqb b a
 eqb-sym a b = ⊎-elim (λ e. e ∙ sym (eq-eqb b a (sym (eqb-true a b e)))) (λ e. e ∙ sym (ne-eqb b a (λ q. eqb-false a b e (sym q)))) (bool-cases (eqb a b))
@@ -104,26 +105,15 @@ event-ascends {f} (aborts m l) s b = abort-ascends (f .txn) m b
 event-ascends (excepts m t z) s b = abort-ascends (t .id .0) m b
 event-ascends (ticks m) s b = record { entries = b .entries; txns = b .txns }
 
-trace-ascends : {f : Frame} {m n : Model} {rs : List Record} → Trace f m rs n → Sound m → ByNumber m → ByNumber n
-trace-ascends (ends m) s b = b
-trace-ascends (silent e t) s b = trace-ascends t (sound-silent e s) (silent-ascends e b)
-trace-ascends (says e t) s b = trace-ascends t (sound-event e s) (event-ascends e s b)
-
 pub step-ascends : (i : Input) (m : Model) → Sound m × ByNumber m → Sound (step (i .choice) m (i .frame) (i .area) .model) × ByNumber (step (i .choice) m (i .frame) (i .area) .model)
-unfolding refusedWith accepted
-step-ascends i m h = (
-  sound-step i m (h .0),
-  step-cases (λ (o : Outcome). ByNumber (o .model)) (i .choice) m (i .frame) (i .area) (λ n. h .1)
-      (λ e. trace-ascends (carried-out (i .choice) m (i .frame) (i .area) (clear m (i .frame) (i .area) e) (h .0 .txns-ok .above)) (h .0) (h .1)),
-)
+step-ascends = step-keeps ByNumber (λ m n e. silent-ascends e) (λ f m n a e. event-ascends e)
 
 pub empty-ascends : ByNumber empty
 unfolding Ascending
 empty-ascends = record { entries = tt; txns = tt }
 
-pub numbers-ascend : NumbersAscend
-unfolding NumbersAscend
-numbers-ascend is = made-keep (λ m. Sound m × ByNumber m) step-ascends (sound-empty, empty-ascends) is .1
+pub numbers-ascend : (is : List Input) → ByNumber (made is)
+numbers-ascend = made-has ByNumber (λ m n e. silent-ascends e) (λ f m n a e. event-ascends e) empty-ascends
 
 -- numbers that ascend stand once each
 pub ascending-distinct : (ns : List ℕ) → Ascending ns → distinct ns ≡ true

@@ -4,7 +4,8 @@ use mathlib.Core.Bool.{Bool, true, false, not, true≢false, _&&_}
 use mathlib.Core.Logic.{⊎-elim}
 use mathlib.Core.Path.{_≡_, refl, sym, subst, subst⁻¹}
 use mathlib.Core.Option.{Option, none, some}
-use mathlib.Core.List.{List, [], _∷_, _++_, map, List·Memᴰ, List·Memᴰ·head, List·Memᴰ·tail, List·Memᴰ·not-nil, List·Memᴰ·cases-cons, List·Memᴰ·append-cases, List·Memᴰ·eq-of-singleton, Memᴰ·of-map}
+use mathlib.Core.List.{List, [], _∷_, _++_, map, List·Memᴰ, List·Memᴰ·head, List·Memᴰ·tail, List·Memᴰ·not-nil}
+use mathlib.Core.List.{List·Memᴰ·cases-cons, List·Memᴰ·append-cases, List·Memᴰ·eq-of-singleton, Memᴰ·of-map}
 use native.Mathlib.Omega.{arith}
 use borrow.Author.Tests.{eqb-true, leb-false}
 use lib.Dec.{eqb, leb}
@@ -18,23 +19,29 @@ use Rattle.rules.specs.Numbers.{forever}
 use Rattle.rules.specs.State.{Model, empty}
 use Rattle.rules.specs.Holds.{availableTo}
 use Rattle.rules.specs.Frame.{Frame, byteAt, numberAt, decode, isWrite, isCreate}
-use Rattle.rules.specs.Records.{noFields, plain, written, found, nothing, waiting, created, committed, aborted, exception, ticked, refused}
-use Rattle.rules.specs.LookUp.{Done, lookUpOf, givesNothing, answer, answerFound, answerNothing, answerWaiting, lookUp, removes, withHold, marked, isEntry, handOut}
+use Rattle.rules.specs.Records.{noFields, plain, written, found, nothing, waiting, created, committed, aborted}
+use Rattle.rules.specs.Records.{exception, ticked, refused}
+use Rattle.rules.specs.LookUp.{Done, lookUpOf, givesNothing, answer, answerFound, answerNothing, answerWaiting, lookUp}
+use Rattle.rules.specs.LookUp.{removes, withHold, marked, isEntry, handOut}
 use Rattle.rules.specs.Transactions.{create, released, withoutTxn, commit, abort, privateTo, takenBy}
 use Rattle.rules.specs.Service.{service}
 use Rattle.rules.specs.Tick.{dropEnded}
 use Rattle.rules.specs.Refusals.{noNumber, refusal}
 use Rattle.rules.specs.Step.{Outcome, newEntry, stored, write, commitFrame, abortFrame, step, accepted, refusedWith}
-use Rattle.demands.specs.History.{Input, runs}
-use Rattle.demands.specs.Claims.{ByNumber, answersTo, InRange, AllInRange, AreBytes, Range-demand, Out, here, there, Event, writes, is-found, is-nothing, is-waiting, creates, commits, aborts, ticks, excepts, Moments, over, expires, says}
+use Rattle.demands.proofs.Runs.{Input, runs}
+use Rattle.demands.specs.Bounds.{ByNumber, InRange, AllInRange, AreBytes}
+use Rattle.demands.specs.History.{recordsOf}
+use Rattle.demands.proofs.Runs.{answersTo}
+use Rattle.demands.specs.Moments.{Out, here, there, Event, writes, is-found, is-nothing, is-waiting, creates}
+use Rattle.demands.specs.Moments.{commits, aborts, ticks, excepts, Moments, expires, says, over}
 use Rattle.rules.proofs.ListLaws.{mem-filter}
 use Rattle.rules.proofs.StepCases.{cond-cases, done-cases, or-left, or-right, and-false-right}
 use Rattle.rules.proofs.RefusalLaws.{clear}
 use Rattle.demands.proofs.Trace.{picked}
 use Rattle.demands.proofs.Sound.{Sound, sound-empty}
 use Rattle.demands.proofs.Numbers.{step-ascends, empty-ascends}
-use Rattle.demands.proofs.ClaimsA.{refusal-fits}
-use Rattle.demands.proofs.ClaimsC.{service-moments, tick-moments}
+use Rattle.demands.proofs.Judging.{refusal-fits}
+use Rattle.demands.proofs.Momentary.{service-moments, tick-moments}
 
 record FieldsIn (x : Fields) : Type 0 where
   kind : x .kind < 4294967296
@@ -260,15 +267,14 @@ step-in i m bytes b r =
     (λ _. (cond-cases AllInRange (eqb (refusal m (i .frame) (i .area)) 1) (λ _. none-in) (λ _. cons-in (refused-in (i .frame) (refusal m (i .frame) (i .area)) bytes (refusal-fits m (i .frame) (i .area))) none-in), r))
 
 runs-in : (m : Model) (is : List Input) → ((i : Input) → List·Memᴰ i is → AreBytes (i .frame)) → Sound m × ByNumber m → Ranged m → AllInRange (answersTo m is)
-unfolding answersTo runs
+unfolding answersTo recordsOf runs
 runs-in m [] h s r = none-in
 runs-in m (i ∷ is) h s r =
     let k = step-in i m (h i (List·Memᴰ·head refl)) (s .1) r in
     let rest = runs-in _ is (λ j l. h j (List·Memᴰ·tail l)) (step-ascends i m s) (k .1) in
     λ a j. ⊎-elim (k .0 a) (rest a) (List·Memᴰ·append-cases (step (i .choice) m (i .frame) (i .area) .records) j)
 
-pub range-demand : Range-demand
-unfolding Range-demand
+pub range-demand : (is : List Input) → ((i : Input) → List·Memᴰ i is → AreBytes (i .frame)) → AllInRange (answersTo empty is)
 range-demand is h =
     runs-in empty is h (sound-empty, empty-ascends)
     (record {

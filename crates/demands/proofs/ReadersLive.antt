@@ -1,10 +1,11 @@
--- On every space that frames make of the empty one, each bit of an entry's readers is the place of a live transaction.
+-- On every space that frames make of the empty one, each bit of an entry's readers is the slot of a live transaction.
 use Prim.Native.Nat.{ℕ}
 use mathlib.Core.Bool.{Bool, true, false, not, true≢false}
 use mathlib.Core.Logic.{_⊎_, inl, inr, ⊎-elim}
 use mathlib.Core.Path.{_≡_, refl, sym, ap, _∙_}
 use mathlib.Core.Option.{Option, none, some}
-use mathlib.Core.List.{List, map, List·Memᴰ, List·Memᴰ·not-nil, List·Memᴰ·append-cases, List·Memᴰ·eq-of-singleton, Memᴰ·append-left, Memᴰ·of-map}
+use mathlib.Core.List.{List, map, List·Memᴰ, List·Memᴰ·not-nil, List·Memᴰ·append-cases, List·Memᴰ·eq-of-singleton}
+use mathlib.Core.List.{Memᴰ·append-left, Memᴰ·of-map}
 use borrow.Author.Tests.{eqb-true, eqb-false, ne-eqb}
 use lib.Dec.{eqb}
 use Rattle.rules.specs.declared.Entry.{Entry}
@@ -19,19 +20,18 @@ use Rattle.rules.specs.Frame.{Frame}
 use Rattle.rules.specs.LookUp.{marked}
 use Rattle.rules.specs.Transactions.{create, released, withoutTxn, commit, abort}
 use Rattle.rules.specs.Tick.{dropEnded}
-use Rattle.rules.specs.Step.{Outcome, newEntry, stored, accepted, refusedWith, step}
-use Rattle.demands.specs.History.{Input, made}
+use Rattle.rules.specs.Step.{newEntry, stored, step}
+use Rattle.demands.proofs.Runs.{Input, made}
 use Rattle.rules.proofs.ListLaws.{mem-filter, filter-mem, find-some, find-none}
-use Rattle.rules.proofs.StepCases.{bool-cases, cond-cases, step-cases}
-use Rattle.rules.proofs.RefusalLaws.{clear}
+use Rattle.rules.proofs.StepCases.{bool-cases, cond-cases}
 use Rattle.rules.proofs.ReaderLaws.{added-other, dropped, dropped-other, bit-of-zero}
-use Rattle.demands.proofs.Reach.{made-keep}
-use Rattle.demands.proofs.Trace.{Silent, expires, leaves, Event, writes, finds, gives-nothing, waits, creates, commits, aborts, excepts, ticks, Trace, ends, silent, says, carried-out}
-use Rattle.demands.proofs.Sound.{Sound, sound-silent, sound-event, sound-step, sound-empty}
+use Rattle.demands.proofs.Trace.{Silent, expires, leaves, Event, writes, finds, gives-nothing, waits, creates}
+use Rattle.demands.proofs.Trace.{commits, aborts, excepts, ticks}
+use Rattle.demands.proofs.Sound.{Sound, step-keeps, made-has}
 use Rattle.demands.proofs.HandOut.{after-cases}
 use Rattle.demands.proofs.Finding.{mk-plain, mk-read-readers, mk-take-readers}
 
--- a live transaction at a place
+-- a live transaction at a slot
 abbrev pub At : ℕ → List Txn → Type 0
 At p ts = (x : Txn) × List·Memᴰ x ts × (x .slot ≡ p)
 
@@ -112,18 +112,8 @@ live-event {f} (aborts m l) s h = released-live m s (f .txn) _ h
 live-event {f} (excepts m t z) s h = released-live m s (t .id .0) _ h
 live-event {f} (ticks m) s h = h
 
-live-trace : {f : Frame} {m n : Model} {rs : List Record} → Trace f m rs n → Sound m → LiveIn m → LiveIn n
-live-trace (ends m) s h = h
-live-trace (silent e t) s h = live-trace t (sound-silent e s) (live-silent e h)
-live-trace (says e t) s h = live-trace t (sound-event e s) (live-event e s h)
-
 pub live-step : (i : Input) (m : Model) → Sound m × LiveIn m → Sound (step (i .choice) m (i .frame) (i .area) .model) × LiveIn (step (i .choice) m (i .frame) (i .area) .model)
-unfolding refusedWith accepted
-live-step i m k = (
-  sound-step i m (k .0),
-  step-cases (λ (o : Outcome). LiveIn (o .model)) (i .choice) m (i .frame) (i .area) (λ n. k .1)
-      (λ e. live-trace (carried-out (i .choice) m (i .frame) (i .area) (clear m (i .frame) (i .area) e) (k .0 .txns-ok .above)) (k .0) (k .1)),
-)
+live-step = step-keeps LiveIn (λ m n e. live-silent e) (λ f m n a e. live-event e)
 
 pub readers-live : (is : List Input) → ReadersLive (made is .entries) (made is .txns)
-readers-live is = made-keep (λ m. Sound m × LiveIn m) live-step (sound-empty, λ e i. absurd (List·Memᴰ·not-nil i)) is .1
+readers-live = made-has LiveIn (λ m n e. live-silent e) (λ f m n a e. live-event e) (λ e i. absurd (List·Memᴰ·not-nil i))

@@ -5,9 +5,10 @@ use mathlib.Core.List.{List, [], _∷_, List·Memᴰ·head, List·Memᴰ·tail}
 use native.Mathlib.Nat.{div-add-mod, div-div-eq-div-mul, mod-eq-of-lt}
 use native.Mathlib.Omega.{arith}
 use lib.ListN.{length, take, drop, getD}
+use Rattle.demands.specs.Trays.{BytesTellRecords}
 use Rattle.rules.specs.declared.Record.{Record}
 use Rattle.rules.specs.Records.{recordBytes, answerBytes}
-use Rattle.demands.specs.Claims.{InRange, Bytes-demand}
+use Rattle.demands.specs.Bounds.{InRange}
 
 -- a number below 2^32 is told by its four bytes
 word-is : (n : ℕ) → n < 4294967296 → n ≡ n % 256 + 256 * (n / 256 % 256) + 65536 * (n / 65536 % 256) + 16777216 * (n / 16777216 % 256)
@@ -56,11 +57,11 @@ record-told r s h k e =
     at : (i : ℕ) → getD (recordBytes r) i 0 ≡ getD (recordBytes s) i 0
     at i = ap (λ (l : List ℕ). getD l i 0) e
 
-pub bytes-demand : Bytes-demand
-unfolding Bytes-demand answerBytes recordBytes
-bytes-demand [] [] h k e = refl
-bytes-demand [] (q ∷ qs) h k e = absurd (let z = ap length e in omega arith)
-bytes-demand (r ∷ rs) [] h k e = absurd (let z = ap length e in omega arith)
-bytes-demand (r ∷ rs) (q ∷ qs) h k e =
+pub bytes-tell-records : BytesTellRecords
+unfolding BytesTellRecords answerBytes recordBytes
+bytes-tell-records [] [] h k e = refl
+bytes-tell-records [] (q ∷ qs) h k e = absurd (let z = ap length e in omega arith)
+bytes-tell-records (r ∷ rs) [] h k e = absurd (let z = ap length e in omega arith)
+bytes-tell-records (r ∷ rs) (q ∷ qs) h k e =
     ap₂ {C = List Record} (λ x l. x ∷ l) (record-told r q (h r (List·Memᴰ·head refl)) (k q (List·Memᴰ·head refl)) (ap (take 28) e))
-    (bytes-demand rs qs (λ x i. h x (List·Memᴰ·tail i)) (λ x i. k x (List·Memᴰ·tail i)) (ap (drop 28) e))
+    (bytes-tell-records rs qs (λ x i. h x (List·Memᴰ·tail i)) (λ x i. k x (List·Memᴰ·tail i)) (ap (drop 28) e))

@@ -4,7 +4,8 @@ use mathlib.Core.Bool.{Bool, true, false, cond, not, _||_, true≢false}
 use mathlib.Core.Logic.{_⊎_, inl, inr, ⊎-elim}
 use mathlib.Core.Path.{_≡_, refl, sym, ap, _∙_, subst, subst⁻¹}
 use mathlib.Core.Option.{Option, none, some}
-use mathlib.Core.List.{List, [], map, List·Memᴰ, List·Memᴰ·not-nil, List·Memᴰ·append-cases, Memᴰ·append-left, Memᴰ·append-right, Memᴰ·of-map, Memᴰ·map, Memᴰ·cast}
+use mathlib.Core.List.{List, [], map, List·Memᴰ, List·Memᴰ·not-nil, List·Memᴰ·append-cases, Memᴰ·append-left}
+use mathlib.Core.List.{Memᴰ·append-right, Memᴰ·of-map, Memᴰ·map, Memᴰ·cast}
 use native.Mathlib.Omega.{arith}
 use borrow.Author.Tests.{eqb-true, eqb-false, ne-eqb, not-true, leb-true, le-leb}
 use lib.Dec.{eqb}
@@ -21,15 +22,16 @@ use Rattle.rules.specs.Template.{bit}
 use Rattle.rules.specs.Holds.{liveTxn, dropReaderOf}
 use Rattle.rules.specs.Transactions.{released, withoutTxn, commit, abort, privateTo, takenBy}
 use Rattle.rules.specs.Tick.{dropEnded}
-use Rattle.demands.specs.Serial.{Kept, Operation, adds, finds, sameFields}
-use Rattle.demands.specs.Demands.{keptOf}
+use Rattle.demands.specs.SerialRun.{Kept, Operation, adds, finds, sameFields}
+use Rattle.demands.specs.SerialRun.{keptOf}
 use Rattle.rules.proofs.ListLaws.{mem-filter, filter-mem, find-some}
 use Rattle.rules.proofs.StepCases.{bool-cases, cond-cases}
 use Rattle.rules.proofs.ReaderLaws.{dropped-other, bit-of-zero}
 use Rattle.demands.proofs.SerialOps.{afterAll, Can, mentions, takesIt, survives, after-split, can-keep}
 use Rattle.demands.proofs.Sound.{TxnsOk, Sound}
-use Rattle.demands.specs.Claims.{takesNumber}
-use Rattle.demands.proofs.Agreement.{fits, Holds, Stored, OfTxn, Agree, takes-same, takes-mentions, takes-number, moved}
+use Rattle.demands.specs.Told.{takesNumber}
+use Rattle.demands.proofs.Agreement.{fits, Holds, Stored, OfTxn, Agree, takes-same, takes-mentions, takes-number}
+use Rattle.demands.proofs.Agreement.{moved}
 
 -- what ended stays so
 reached-later : (c : ℕ) (u : Until) → reached c u ≡ true → reached (c + 1) u ≡ true

@@ -3,14 +3,17 @@ use Prim.Native.Nat.{ℕ, _+_, _≤_}
 use mathlib.Core.Bool.{Bool, true, false, cond, not, _&&_, _||_, or-true}
 use mathlib.Core.Logic.{⊎-elim}
 use mathlib.Core.Path.{_≡_, refl, sym, ap, _∙_, subst⁻¹}
-use mathlib.Core.List.{List, [], _∷_, _++_, append-assoc, append-nil, List·Memᴰ, List·Memᴰ·append-cases, Memᴰ·append-left, Memᴰ·append-right}
+use mathlib.Core.List.{List, [], _∷_, _++_, append-assoc, append-nil, List·Memᴰ, List·Memᴰ·append-cases}
+use mathlib.Core.List.{Memᴰ·append-left, Memᴰ·append-right}
 use borrow.Author.Tests.{eqb-true, eq-eqb}
 use lib.Dec.{eqb}
 use native.Mathlib.Omega.{arith}
 use Rattle.rules.specs.declared.Fields.{Fields}
 use Rattle.rules.specs.Lists.{filterb, anyb}
-use Rattle.demands.specs.Serial.{Kept, Operation, adds, finds, Run, isKept, taking, carryOut, carryOutAll}
-use Rattle.rules.proofs.ListLaws.{filter-append, mem-filter, filter-mem, any-mem, mem-any, count, count-append, count-cons, count-filter, count-mem, filter-all}
+use Rattle.demands.specs.SerialRun.{Kept, Operation, adds, finds, Run, isKept, taking, carryOut, carryOutAll}
+use Rattle.rules.proofs.ListLaws.{filter-filter, filter-same}
+use Rattle.rules.proofs.ListLaws.{filter-append, mem-filter, filter-mem, any-mem, mem-any, count, count-append}
+use Rattle.rules.proofs.ListLaws.{count-cons, count-filter, count-mem, filter-all}
 use Rattle.rules.proofs.StepCases.{and-left}
 
 -- the set after an operation, and after a list of them
@@ -63,19 +66,6 @@ survives os k = not (anyb (takesIt k) os)
 not-or : (a b : Bool) → not (a || b) ≡ (not a && not b)
 not-or true b = refl
 not-or false b = refl
-
-pub filter-filter : {A : Type 0} (p q : A → Bool) (xs : List A) → filterb p (filterb q xs) ≡ filterb (λ x. q x && p x) xs
-filter-filter p q [] = refl
-filter-filter p q (x ∷ xs) = go (q x) (filter-filter p q xs)
-  where
-    go : (b : Bool) → filterb p (filterb q xs) ≡ filterb (λ y. q y && p y) xs
-        → filterb p (cond b (x ∷ filterb q xs) (filterb q xs)) ≡ cond (b && p x) (x ∷ filterb (λ y. q y && p y) xs) (filterb (λ y. q y && p y) xs)
-    go true e = rw e
-    go false e = e
-
-pub filter-same : {A : Type 0} (p q : A → Bool) → ((x : A) → p x ≡ q x) → (xs : List A) → filterb p xs ≡ filterb q xs
-filter-same p q h [] = refl
-filter-same p q h (x ∷ xs) = rw (h x, filter-same p q h xs)
 
 -- the set after a list of operations: what survives of it, and what the list adds by itself
 pub after-split : (os : List Operation) (ks : List Kept) → afterAll os ks ≡ filterb (survives os) ks ++ afterAll os []

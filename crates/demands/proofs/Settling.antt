@@ -4,7 +4,8 @@ use mathlib.Core.Bool.{false, cond, not, _&&_}
 use mathlib.Core.Logic.{⊎-elim}
 use mathlib.Core.Path.{_≡_, refl, sym, ap, _∙_, subst⁻¹}
 use mathlib.Core.Option.{Option, none, some}
-use mathlib.Core.List.{List, [], _∷_, _++_, List·Memᴰ, List·Memᴰ·not-nil, List·Memᴰ·append-cases, List·Memᴰ·eq-of-singleton}
+use mathlib.Core.List.{List, [], _∷_, _++_, List·Memᴰ, List·Memᴰ·not-nil, List·Memᴰ·append-cases}
+use mathlib.Core.List.{List·Memᴰ·eq-of-singleton}
 use native.Mathlib.Omega.{arith}
 use borrow.Author.Tests.{eqb-false, ne-eqb}
 use lib.Dec.{eqb}
@@ -21,11 +22,11 @@ use Rattle.rules.specs.Transactions.{create, commit, abort}
 use Rattle.rules.specs.Service.{service}
 use Rattle.rules.specs.Tick.{endedTxns, abortAll, dropEnded, closeWaits, tick}
 use Rattle.rules.specs.Step.{Outcome, newEntry, stored, write, commitFrame, abortFrame, step, accepted, refusedWith}
-use Rattle.demands.specs.History.{Input, made}
+use Rattle.demands.proofs.Runs.{Input, made}
 use Rattle.rules.proofs.ListLaws.{mem-filter, none-mem, all-false}
 use Rattle.rules.proofs.StepCases.{bool-cases, cond-cases, step-cases, done-cases}
 use Rattle.rules.proofs.RefusalLaws.{clear}
-use Rattle.demands.proofs.Reach.{made-keep}
+use Rattle.demands.proofs.Runs.{made-keep}
 use Rattle.demands.proofs.Sound.{Sound, sound-step, sound-empty, available-visible, visible-owner}
 use Rattle.demands.proofs.Trace.{picked}
 use Rattle.demands.proofs.Owners.{OwnedIn, owned-step, not-inside}
@@ -34,7 +35,7 @@ use Rattle.demands.proofs.Unavailable.{handOut-unavailable, pick-nothin
 abbrev pub NoneFor : Model → Type 0
 NoneFor m = (w : LookUp) → List·Memᴰ w (m .waits) → someAvailable (m .txns) w (m .entries) ≡ false
 
-service-none : (choice : ℕ → ℕ) (m : Model) → NoneFor (service choice m .model)
+pub service-none : (choice : ℕ → ℕ) (m : Model) → NoneFor (service choice m .model)
 unfolding service
 service-none choice m w i = serve-settled choice (m .txns) (m .entries) (m .waits) w i
 

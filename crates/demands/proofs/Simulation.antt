@@ -21,11 +21,16 @@ use Rattle.rules.specs.LookUp.{handOut}
 use Rattle.rules.specs.Transactions.{create, commit, abort}
 use Rattle.rules.specs.Tick.{dropEnded}
 use Rattle.rules.specs.Step.{stored}
-use Rattle.demands.specs.Serial.{Kept, Operation, adds, finds, Pending, Run, isKept, withPending, failed, taking, carryOut, carryOutAll, perform, listOf, thrownAway, lastTakes, advanced, follow}
+use Rattle.demands.specs.SerialRun.{Kept, Operation, adds, finds, Pending, Run, isKept, withPending, failed}
+use Rattle.demands.specs.SerialRun.{taking, carryOut, carryOutAll, perform, listOf, thrownAway, lastTakes}
+use Rattle.demands.specs.SerialRun.{advanced, follow}
 use Rattle.rules.proofs.ListLaws.{filter-append, count, count-append, count-cons, count-filter, count-map}
 use Rattle.rules.proofs.StepCases.{bool-cases, cond-cases}
-use Rattle.demands.proofs.SerialOps.{after, afterAll, CanOne, carryOut-can, carryOutAll-can, filter-filter, filter-same, total, addsIt, total-carryOut, total-carryOutAll}
-use Rattle.demands.proofs.Trace.{Live, Asks, Silent, expires, leaves, Event, writes, finds as finds-event, gives-nothing, waits, creates, commits, aborts, excepts, ticks}
+use Rattle.rules.proofs.ListLaws.{filter-filter, filter-same}
+use Rattle.demands.proofs.SerialOps.{after, afterAll, CanOne, carryOut-can, carryOutAll-can}
+use Rattle.demands.proofs.SerialOps.{total, addsIt, total-carryOut, total-carryOutAll}
+use Rattle.demands.proofs.Trace.{Live, Asks, Silent, expires, leaves, Event, writes, finds as finds-event}
+use Rattle.demands.proofs.Trace.{gives-nothing, waits, creates, commits, aborts, excepts, ticks}
 use Rattle.demands.proofs.Sound.{Sound, asks-below}
 use Rattle.demands.proofs.Agreement.{Agree}
 use Rattle.demands.proofs.Release.{agree-tick, agree-expire, agree-abort, agree-commit, without}

@@ -5,7 +5,8 @@ use mathlib.Core.Bool.{Bool, true, false, cond, not, _&&_, _||_, true≢false}
 use mathlib.Core.Logic.{_⊎_, inl, inr, ⊎-elim}
 use mathlib.Core.Path.{_≡_, refl, sym, ap, _∙_, subst, subst⁻¹}
 use mathlib.Core.Option.{Option, none, some}
-use mathlib.Core.List.{List, [], _∷_, _++_, map, List·Memᴰ, List·Memᴰ·head, List·Memᴰ·tail, List·Memᴰ·not-nil, List·Memᴰ·append-cases, List·Memᴰ·eq-of-singleton, Memᴰ·of-map}
+use mathlib.Core.List.{List, [], _∷_, _++_, map, List·Memᴰ, List·Memᴰ·head, List·Memᴰ·tail, List·Memᴰ·not-nil}
+use mathlib.Core.List.{List·Memᴰ·append-cases, List·Memᴰ·eq-of-singleton, Memᴰ·of-map}
 use native.Mathlib.Omega.{arith}
 use borrow.Author.Tests.{eqb-true, eqb-false, ne-eqb, not-true, not-false}
 use lib.Dec.{eqb}
@@ -24,14 +25,17 @@ use Rattle.rules.specs.LookUp.{removes, withHold, marked, isEntry, handOut}
 use Rattle.rules.specs.Transactions.{orZero, freeSlot, create, released, withoutTxn, commit, abort, privateTo, takenBy}
 use Rattle.rules.specs.Tick.{dropEnded}
 use Rattle.rules.specs.Step.{Outcome, newEntry, stored, step, accepted, refusedWith}
-use Rattle.demands.specs.Demands.{distinct}
-use Rattle.rules.proofs.ListLaws.{count-mem, length-split, mem-filter, filter-mem, any-mem, mem-any, none-mem, find-some, find-none}
+use Rattle.demands.specs.SerialRun.{distinct}
+use Rattle.rules.proofs.ListLaws.{count-mem, length-split, mem-filter, filter-mem, any-mem, mem-any, none-mem}
+use Rattle.rules.proofs.ListLaws.{find-some, find-none}
 use Rattle.rules.proofs.StepCases.{step-cases, and-left, and-right, or-cases, cond-cases, option-cases}
 use Rattle.rules.proofs.ReaderLaws.{bit-of-zero}
-use Rattle.demands.proofs.Trace.{Live, Asks, Silent, expires, leaves, Event, writes, finds, gives-nothing, waits, creates, commits, aborts, excepts, ticks, Trace, ends, silent, says, carried-out}
+use Rattle.demands.proofs.Trace.{Live, Asks, Silent, expires, leaves, Event, writes, finds, gives-nothing, waits}
+use Rattle.demands.proofs.Trace.{creates, commits, aborts, excepts, ticks, Trace, ends, silent, says}
+use Rattle.demands.proofs.Trace.{carried-out}
 use Rattle.rules.proofs.RefusalLaws.{clear}
-use Rattle.demands.proofs.Reach.{made-keep}
-use Rattle.demands.specs.History.{Input, made}
+use Rattle.demands.proofs.Runs.{made-keep}
+use Rattle.demands.proofs.Runs.{Input, made}
 
 -- an entry is committed, or nobody holds it
 abbrev pub Own : Entry → Type 0
@@ -353,3 +357,21 @@ sound-step i m s =
 
 pub sound : (is : List Input) → Sound (made is)
 sound = made-keep Sound sound-step sound-empty
+
+-- What sound spaces keep by each event they keep by each step, and every space that frames make has it.
+module _ (P : Model → Type 0) (silent-keeps : (m n : Model) → Silent m n → P m → P n) (event-keeps : (f : Frame) (m n : Model) (a : Record) → Event f m a n → Sound m → P m → P n) where
+  trace-keeps : {f : Frame} {m n : Model} {rs : List Record} → Trace f m rs n → Sound m → P m → P n
+  trace-keeps (ends m) s h = h
+  trace-keeps (silent {m} {n} e t) s h = trace-keeps t (sound-silent e s) (silent-keeps m n e h)
+  trace-keeps {f} (says {m} {n} {o} {a} e t) s h = trace-keeps t (sound-event e s) (event-keeps f m n a e s h)
+
+  pub step-keeps : (i : Input) (m : Model) → Sound m × P m → Sound (step (i .choice) m (i .frame) (i .area) .model) × P (step (i .choice) m (i .frame) (i .area) .model)
+  unfolding refusedWith accepted
+  step-keeps i m k = (
+    sound-step i m (k .0),
+    step-cases (λ (o : Outcome). P (o .model)) (i .choice) m (i .frame) (i .area) (λ n. k .1)
+        (λ e. trace-keeps (carried-out (i .choice) m (i .frame) (i .area) (clear m (i .frame) (i .area) e) (k .0 .txns-ok .above)) (k .0) (k .1)),
+  )
+
+  pub made-has : P empty → (is : List Input) → P (made is)
+  made-has h is = made-keep (λ m. Sound m × P m) step-keeps (sound-empty, h) is .1

@@ -3,7 +3,9 @@ use Prim.Native.Nat.{ℕ, _+_, _≤_, _<_}
 use mathlib.Core.Bool.{Bool, true, false, cond, not, _||_, true≢false}
 use mathlib.Core.Logic.{_⊎_, inl, inr, ⊎-elim}
 use mathlib.Core.Path.{_≡_, refl, sym, ap, _∙_, subst, subst⁻¹}
-use mathlib.Core.List.{List, [], _∷_, _++_, map, List·Memᴰ, List·Memᴰ·head, List·Memᴰ·tail, List·Memᴰ·not-nil, List·Memᴰ·cases-cons, List·Memᴰ·append-cases, List·Memᴰ·eq-of-singleton, Memᴰ·append-left, Memᴰ·append-right, Memᴰ·of-map, Memᴰ·map, Memᴰ·cast}
+use mathlib.Core.List.{List, [], _∷_, _++_, map, List·Memᴰ, List·Memᴰ·head, List·Memᴰ·tail, List·Memᴰ·not-nil}
+use mathlib.Core.List.{List·Memᴰ·cases-cons, List·Memᴰ·append-cases, List·Memᴰ·eq-of-singleton, Memᴰ·append-left}
+use mathlib.Core.List.{Memᴰ·append-right, Memᴰ·of-map, Memᴰ·map, Memᴰ·cast}
 use native.Mathlib.Omega.{arith}
 use borrow.Author.Tests.{eqb-true, eqb-false, eq-eqb, ne-eqb, not-true}
 use lib.Dec.{eqb}
@@ -13,16 +15,21 @@ use Rattle.rules.specs.Lists.{filterb, anyb, joined}
 use Rattle.rules.specs.Time.{reached}
 use Rattle.rules.specs.State.{Model, empty}
 use Rattle.rules.specs.Template.{bit}
-use Rattle.demands.specs.History.{runs}
-use Rattle.demands.specs.Serial.{Kept, Operation, adds, finds, Pending, Run, isKept, taking, carryOut, carryOutAll, followLog, serialRun, start}
-use Rattle.demands.specs.Demands.{keptOf}
-use Rattle.demands.specs.Claims.{Told, takesNumber, readsNumber, whoTakes, whoReads, committedTold, privateTold, told, AsTold, Told-demand}
-use Rattle.rules.proofs.ListLaws.{mem-filter, filter-mem, any-mem, mem-any, none-mem, all-false, count, count-cons, count-mem, count-map, count-filter}
+use Rattle.demands.proofs.Runs.{runs, Input, made}
+use Rattle.demands.specs.SerialRun.{Kept, Operation, adds, finds, Pending, Run, isKept, taking, carryOut}
+use Rattle.demands.specs.SerialRun.{carryOutAll, followLog, serialRun, start}
+use Rattle.demands.specs.SerialRun.{keptOf}
+use Rattle.demands.specs.Told.{Told, takesNumber, readsNumber, whoTakes, whoReads, committedTold, privateTold}
+use Rattle.demands.specs.Told.{told, AsTold, Explained}
+use Rattle.rules.proofs.ListLaws.{mem-filter, filter-mem, any-mem, mem-any, none-mem, all-false, count, count-cons}
+use Rattle.rules.proofs.ListLaws.{count-mem, count-map, count-filter}
 use Rattle.rules.proofs.StepCases.{bool-cases, cond-cases, and-right}
 use Rattle.rules.proofs.ReaderLaws.{bit-of-zero}
 use Rattle.demands.proofs.Sound.{Sound}
 use Rattle.demands.proofs.Leases.{lasting}
-use Rattle.demands.proofs.SerialOps.{after, afterFind, afterAll, CanOne, Can, carryOut-can, carryOutAll-can, takesIt, after-split, survives, mentionsIt, isNumber, addsIt, total-carryOutAll}
+use Rattle.demands.proofs.SerialOps.{after, afterFind, afterAll, CanOne, Can, carryOut-can, carryOutAll-can}
+use Rattle.demands.proofs.SerialOps.{takesIt, after-split, survives, mentionsIt, isNumber, addsIt}
+use Rattle.demands.proofs.SerialOps.{total-carryOutAll}
 use Rattle.demands.proofs.Agreement.{Holds, takes-number}
 use Rattle.demands.proofs.Simulation.{listed, pendingAdds}
 use Rattle.demands.proofs.Tied.{Ok, Whole, whole}
@@ -288,8 +295,8 @@ module _ (m : Model) (r : Run) (h : Whole m r) where
             (λ e. (e .0, e .1, subst⁻¹ (AsTold (m .txns) (e .0)) (k .3) (subst (λ (l : Kept). AsTold (m .txns) (e .0) (asPrivate (p .0 .txn) l)) (e .3) (as-private (e .0) (e .1) (p .0 .txn) (omega arith) (e .2 ∙ y .2)))))
             (h .linked .sim .agree .of-txn (y .0) (y .1) .own-stored (k .0) (added-after os [] (k .0) added (λ o l. none-mem (takesIt (k .0)) none l)))
 
-pub told-demand : Told-demand
-unfolding Told-demand serialRun
+pub told-demand : (is : List Input) → Explained (serialRun (runs empty is .log)) (made is)
+unfolding serialRun
 told-demand is =
     let m = runs empty is .model in
     let r = followLog (runs empty is .log) start in

@@ -5,7 +5,8 @@ use mathlib.Core.Bool.{Bool, true, false, cond, not, _&&_, true≢false}
 use mathlib.Core.Logic.{_⊎_, inl, inr, ⊎-elim}
 use mathlib.Core.Path.{_≡_, refl, sym, ap, _∙_, subst, subst⁻¹}
 use mathlib.Core.Option.{Option, none, some}
-use mathlib.Core.List.{List, [], _∷_, _++_, map, List·Memᴰ, List·Memᴰ·head, List·Memᴰ·not-nil, List·Memᴰ·append-cases, List·Memᴰ·eq-of-singleton, Memᴰ·append-left, Memᴰ·append-right, Memᴰ·of-map}
+use mathlib.Core.List.{List, [], _∷_, _++_, map, List·Memᴰ, List·Memᴰ·head, List·Memᴰ·not-nil, List·Memᴰ·append-cases}
+use mathlib.Core.List.{List·Memᴰ·eq-of-singleton, Memᴰ·append-left, Memᴰ·append-right, Memᴰ·of-map}
 use native.Mathlib.Omega.{arith}
 use borrow.Author.Tests.{eqb-true, eqb-false, eq-eqb, ne-eqb, not-true}
 use lib.Dec.{eqb}
@@ -21,25 +22,31 @@ use Rattle.rules.specs.Template.{bit}
 use Rattle.rules.specs.Holds.{liveTxn, addReaderOf, dropReaderOf, available, availableTo}
 use Rattle.rules.specs.Frame.{Frame, decode, isLookUp}
 use Rattle.rules.specs.Records.{written, found, nothing, waiting, created, committed, aborted, exception, ticked}
-use Rattle.rules.specs.LookUp.{Done, lookUpOf, givesNothing, answer, answerFound, answerNothing, answerWaiting, lookUp, removes, marked, handOut}
+use Rattle.rules.specs.LookUp.{Done, lookUpOf, givesNothing, answer, answerFound, answerNothing, answerWaiting, lookUp}
+use Rattle.rules.specs.LookUp.{removes, marked, handOut}
 use Rattle.rules.specs.Transactions.{create, released, withoutTxn, commit, abort, privateTo, takenBy}
 use Rattle.rules.specs.Tick.{dropEnded}
 use Rattle.rules.specs.Step.{Outcome, newEntry, stored, carriedOut, step, accepted, refusedWith}
 use Rattle.rules.specs.Refusals.{partyWaits}
-use Rattle.demands.specs.History.{Input, runs}
-use Rattle.demands.specs.Serial.{Operation, finds, Pending, Run, perform, listOf, thrownAway, lastTakes, advanced, follow, followAll, wasRefused, noteLookUp, followLog, start}
-use Rattle.demands.specs.Claims.{readsNumber}
+use Rattle.demands.proofs.Runs.{Input, runs}
+use Rattle.demands.specs.SerialRun.{Operation, finds, Pending, Run, perform, listOf, thrownAway, lastTakes}
+use Rattle.demands.specs.SerialRun.{advanced, follow, followAll, wasRefused, noteLookUp, followLog, start}
+use Rattle.demands.specs.Told.{readsNumber}
 use Rattle.rules.proofs.ListLaws.{mem-filter, filter-mem}
 use Rattle.rules.proofs.StepCases.{bool-cases, cond-cases, step-cases}
 use Rattle.rules.proofs.RefusalLaws.{Clear, clear}
 use Rattle.demands.proofs.LookUpLaws.{carriedOut-lookUp}
 use Rattle.demands.proofs.Owners.{OwnedIn, owned-step, not-inside}
-use Rattle.demands.proofs.SerialRun.{Linked, knows-silent, knows-event, note-linked, step-linked, empty-linked, follow-refused, follow-none}
+use Rattle.demands.proofs.Serializing.{Linked, knows-silent, knows-event, note-linked, step-linked, empty-linked}
+use Rattle.demands.proofs.Serializing.{follow-refused, follow-none}
 use Rattle.rules.proofs.ReaderLaws.{added-other, dropped, bit-of-zero}
-use Rattle.demands.proofs.Trace.{Live, Asks, Silent, expires, leaves, Event, writes, finds as finds-event, gives-nothing, waits, creates, commits, aborts, excepts, ticks, Trace, ends, silent, says, carried-out, picked, none-or-live}
+use Rattle.demands.proofs.Trace.{Live, Asks, Silent, expires, leaves, Event, writes, finds as finds-event}
+use Rattle.demands.proofs.Trace.{gives-nothing, waits, creates, commits, aborts, excepts, ticks, Trace, ends}
+use Rattle.demands.proofs.Trace.{silent, says, carried-out, picked, none-or-live}
 use Rattle.demands.proofs.Sound.{Sound, sound-silent, sound-event, available-visible, visible-free, slot-free}
 use Rattle.demands.proofs.HandOut.{after-cases}
-use Rattle.demands.proofs.Finding.{mk-owner, mk-kept, mk-plain, mk-read-taker, mk-take-taker, mk-read-readers, mk-take-readers}
+use Rattle.demands.proofs.Finding.{mk-owner, mk-kept, mk-plain, mk-read-taker, mk-take-taker, mk-read-readers}
+use Rattle.demands.proofs.Finding.{mk-take-readers}
 use Rattle.demands.proofs.ReadersLive.{LiveIn, live-silent, live-event, live-step, live-is, drop-live, missing}
 use Rattle.demands.proofs.Simulation.{Knows, knows-asks, carryOut-same, carryOutAll-same}
 

@@ -1,64 +1,140 @@
 -- A run of a tray's frames is a history; its records fit the area; and the host's number is read back.
 use Prim.Native.Nat.{ℕ, zero, suc, _-_, _*_, _≤_, _<_}
-use mathlib.Core.Bool.{cond, _||_}
+use mathlib.Core.Bool.{false, cond, _||_}
 use mathlib.Core.Logic.{_⊎_, inl, inr, ⊎-elim}
-use mathlib.Core.Path.{_≡_, refl, ap, _∙_}
+use mathlib.Core.Path.{_≡_, refl, ap, _∙_, subst}
 use mathlib.Core.List.{List, [], _∷_, _++_, map}
 use native.Mathlib.Omega.{arith}
 use borrow.Author.Tests.{ltb-false}
 use lib.Dec.{leb, ltb}
-use lib.ListN.{length, take, drop, length-append, length-map, length-take}
+use lib.ListN.{length, take, drop, length-append, length-drop, length-map}
+use Rattle.rules.specs.declared.Record.{Record}
 use Rattle.rules.specs.State.{Model, empty}
-use Rattle.rules.specs.Step.{step}
-use Rattle.rules.specs.Tray.{pairsOf, frameCount, pairsEnd, pairs, badTray, badPairs, trayRefusal, frameAt, TrayOutcome, stopped, runFrames, runPairs, runTray, hostNumber}
-use Rattle.demands.specs.History.{Input, runs}
-use Rattle.demands.specs.Demands.{Bounded}
-use Rattle.demands.specs.Claims.{answersTo, Trays-demand, ReadBack, Host-demand}
+use Rattle.rules.specs.Records.{areaAfter}
+use Rattle.rules.specs.Step.{Outcome, step}
+use Rattle.rules.specs.Tray.{pairsOf, frameCount, pairsEnd, pairs, badTray, badPairs, trayRefusal, frameAt, TrayOutcome}
+use Rattle.rules.specs.Tray.{stopped, runFrames, runPairs, runTray, hostNumber}
+use Rattle.rules.specs.Allowed.{Answered}
 use Rattle.rules.proofs.StepCases.{cond-cases, or-left, or-right}
-use Rattle.demands.proofs.Capacity.{step-fits, bounds}
+use Rattle.demands.specs.Machine.{Handed, Stepped, answeredBy, theRules}
+use Rattle.demands.specs.History.{Logged, recordsOf, History, begun, handed}
+use Rattle.rules.specs.State.{Bounded}
+use Rattle.demands.specs.Trays.{HandedIn, none-left, one-more, TrayHistory, TraysAreHistories, ReadBack}
+use Rattle.demands.specs.Trays.{NumbersAreReadBack}
+use Rattle.rules.proofs.Capacity.{step-fits}
+use Rattle.rules.proofs.AreaLaws.{area-length}
+
+empty-bounded : Bounded empty
+empty-bounded = record { entries-fit = omega arith; txns-fit = omega arith; waits-fit = omega arith }
 
 -- a run from any space
-record Follows (m : Model) (area : ℕ) (fs : List (List ℕ)) (o : TrayOutcome) : Type 0 where
-  inputs : List Input
-  handed : map (λ (i : Input). i .frame) inputs ≡ take (length inputs) fs
-  records : o .records ≡ answersTo m inputs
-  count : o .frames ≡ length inputs
-  fit : 28 * length (o .records) ≤ area
+record From (choices : ℕ → ℕ → ℕ) (m : Model) (area : List ℕ) (fs : List (List ℕ)) (o : TrayOutcome) : Type 0 where
+  log : List Logged
+  last : Model
+  history : History theRules m log last
+  handed-in : HandedIn choices m area (take (o .frames) fs) log last
+  count : o .frames ≡ length log
+  records : o .records ≡ recordsOf log
+  fit : 28 * length (o .records) ≤ length area
   few : length (o .records) ≤ 25 * length fs
-  all-done : (o .number ≡ 1) ⊎ ((o .number ≡ 0) × (length inputs ≡ length fs))
+  done-few : o .frames ≤ length fs
+  all-done : (o .number ≡ 1) ⊎ ((o .number ≡ 0) × (o .frames ≡ length fs))
 
-follows : (choices : ℕ → ℕ → ℕ) (m : Model) (area : ℕ) (fs : List (List ℕ)) → Bounded m → Follows m area fs (runFrames choices m area fs)
-unfolding runFrames answersTo runs
-follows choices m area [] b =
-    record { inputs = []; handed = refl; records = refl; count = refl; fit = omega arith; few = omega arith; all-done = inr (refl, refl) }
-follows choices m area (f ∷ fs) b =
-    cond-cases (Follows m area (f ∷ fs)) (ltb area 700)
-    (λ _. record { inputs = []; handed = refl; records = refl; count = refl; fit = omega arith; few = omega arith; all-done = inl refl })
-    (λ t. let i : Input = record { frame = f; area = area; choice = choices 0 } in
-    let o = step (choices 0) m f area in
-    let s = step-fits i m b in
-    let rest = follows (λ n. choices (suc n)) (o .model) (area - 28 * length (o .records)) fs (s .0) in
-    let l = ltb-false area 700 t in
-    let r = runFrames (λ n. choices (suc n)) (o .model) (area - 28 * length (o .records)) fs in
+-- what is left of the area behind a step's records
+left-length : (rs : List Record) (area : List ℕ) → 28 * length rs ≤ length area → length (drop (28 * length rs) (areaAfter rs area)) ≡ length area - 28 * length rs
+left-length rs area h = length-drop (28 * length rs) (areaAfter rs area) ∙ ap (λ n. n - 28 * length rs) (area-length rs area h)
+
+from : (choices : ℕ → ℕ → ℕ) (m : Model) (area : List ℕ) (fs : List (List ℕ)) → Bounded m → From choices m area fs (runFrames choices m (length area) fs)
+unfolding runFrames recordsOf answeredBy
+from choices m area [] b =
     record {
-      inputs = i ∷ rest .inputs;
-      handed = ap {B = List (List ℕ)} (λ l. f ∷ l) (rest .handed);
-      records = ap (λ l. o .records ++ l) (rest .records);
-      count = ap suc (rest .count);
-      fit = omega (arith, s .1, rest .fit, length-append (o .records) (r .records));
-      few = omega (arith, s .1, rest .few, length-append (o .records) (r .records));
-      all-done = ⊎-elim inl (λ d. inr (d .0, ap suc (d .1))) (rest .all-done);
+      log = [];
+      last = m;
+      history = begun m;
+      handed-in = none-left choices m area;
+      count = refl;
+      records = refl;
+      fit = omega arith;
+      few = omega arith;
+      done-few = omega arith;
+      all-done = inr (refl, refl);
+    }
+from choices m area (f ∷ fs) b =
+    cond-cases (From choices m area (f ∷ fs)) (ltb (length area) 700)
+    (λ _. record {
+      log = [];
+      last = m;
+      history = begun m;
+      handed-in = none-left choices m area;
+      count = refl;
+      records = refl;
+      fit = omega arith;
+      few = omega arith;
+      done-few = omega arith;
+      all-done = inl refl;
     })
+    (λ t. more t (from (λ n. choices (suc n)) (o .model) rest fs (s .0)))
+  where
+    o : Outcome
+    o = step (choices 0) m f (length area)
 
-from-empty : (choices : ℕ → ℕ → ℕ) (area : ℕ) (fs : List (List ℕ)) → Follows empty area fs (runFrames choices empty area fs)
-unfolding runs
-from-empty choices area fs = follows choices empty area fs (bounds .bounded [])
+    a : Answered
+    a = answeredBy o area
 
-pub trays-demand : Trays-demand
-unfolding Trays-demand
-trays-demand choices fs area =
-    let r = from-empty choices area fs in
-    record { inputs = r .inputs; handed = r .handed; records = r .records; count = r .count; fit = r .fit; few = λ l. omega (arith, r .few); all-done = r .all-done }
+    rest : List ℕ
+    rest = drop (28 * length (o .records)) (areaAfter (o .records) area)
+
+    s : Bounded (o .model) × (length (o .records) ≤ 25)
+    s = step-fits (choices 0) m f (length area) b
+
+    does : Stepped step m (record { frame = f; area = area }) (o .model) a
+    does = record { choice = choices 0; space = refl; answered = refl }
+
+    more : ltb (length area) 700 ≡ false
+        → From (λ n. choices (suc n)) (o .model) rest fs (runFrames (λ n. choices (suc n)) (o .model) (length rest) fs)
+        → From choices m area (f ∷ fs)
+        (let r = runFrames (λ n. choices (suc n)) (o .model) (length area - 28 * length (o .records)) fs in
+        record { frames = suc (r .frames); records = o .records ++ r .records; number = r .number })
+    more t h =
+        let l = ltb-false (length area) 700 t in
+        let n = left-length (o .records) area (omega (arith, s .1)) in
+        after n (subst (λ k. From (λ i. choices (suc i)) (o .model) rest fs (runFrames (λ i. choices (suc i)) (o .model) k fs)) n h)
+      where
+        after : length rest ≡ length area - 28 * length (o .records)
+            → From (λ i. choices (suc i)) (o .model) rest fs (runFrames (λ i. choices (suc i)) (o .model) (length area - 28 * length (o .records)) fs)
+            → From choices m area (f ∷ fs)
+            (let r = runFrames (λ i. choices (suc i)) (o .model) (length area - 28 * length (o .records)) fs in
+            record { frames = suc (r .frames); records = o .records ++ r .records; number = r .number })
+        after n k =
+            let l = ltb-false (length area) 700 t in
+            let r = runFrames (λ i. choices (suc i)) (o .model) (length area - 28 * length (o .records)) fs in
+            record {
+              log = record { frame = f; records = o .records } ∷ k .log;
+              last = k .last;
+              history = handed (record { frame = f; area = area }) a does (k .history);
+              handed-in = one-more choices a does refl (k .handed-in);
+              count = ap suc (k .count);
+              records = ap (λ l. o .records ++ l) (k .records);
+              fit = omega (arith, s .1, k .fit, n, length-append (o .records) (r .records));
+              few = omega (arith, s .1, k .few, length-append (o .records) (r .records));
+              done-few = omega (arith, k .done-few);
+              all-done = ⊎-elim inl (λ d. inr (d .0, ap suc (d .1))) (k .all-done);
+            }
+
+pub trays-are-histories : TraysAreHistories
+unfolding TraysAreHistories
+trays-are-histories choices fs area =
+    let r = from choices empty area fs empty-bounded in
+    record {
+      log = r .log;
+      last = r .last;
+      history = r .history;
+      handed-in = r .handed-in;
+      count = r .count;
+      records = r .records;
+      fit = r .fit;
+      all-done = r .all-done;
+    }
 
 -- three numbers in one
 read-back : (o : TrayOutcome) → o .frames < 65536 → length (o .records) < 65536 → o .number < 4294967296 → ReadBack o
@@ -70,11 +146,6 @@ unfolding pairsOf
 pairs-length zero bs = refl
 pairs-length (suc n) bs = ap suc (pairs-length n (drop 8 bs))
 
--- no more frames are done than there are
-done-few : {m : Model} {area : ℕ} (fs : List (List ℕ)) (o : TrayOutcome) → Follows m area fs o → o .frames ≤ length fs
-done-few fs o r =
-    omega (arith, r .count, length-map (r .inputs) (λ (i : Input). i .frame), ap length (r .handed), length-take (length (r .inputs)) fs)
-
 -- a tray that is not refused has at most 2,000 frames; the refusals are 15 and 16
 tray-cases : (Q : ℕ → Type 0) (tray : List ℕ) → Q 15 → Q 16 → (frameCount tray ≤ 2000 → Q 0) → Q (trayRefusal tray)
 unfolding trayRefusal badTray
@@ -83,16 +154,16 @@ tray-cases Q tray a b c =
     (λ e. cond-cases Q (badPairs (pairsEnd tray) (length tray) (pairs tray)) (λ _. b)
     (λ _. c (ltb-false 2000 (frameCount tray) (or-right (ltb (length tray) 4 || ltb 65536 (length tray)) _ (or-left _ (ltb (length tray) (pairsEnd tray)) e)))))
 
-pub host-demand : Host-demand
-unfolding Host-demand runTray runPairs pairs
-host-demand choices tray area =
+pub numbers-are-read-back : NumbersAreReadBack
+unfolding NumbersAreReadBack runTray runPairs pairs
+numbers-are-read-back choices tray area =
     tray-cases (λ n. ReadBack (cond (leb n 0) run (stopped n))) tray (read-back (stopped 15) (omega arith) (omega arith) (omega arith)) (read-back (stopped 16) (omega arith) (omega arith) (omega arith))
-    (λ l. let r = from-empty choices area fs in
+    (λ l. let r = from choices empty area fs empty-bounded in
     let k : length fs ≡ frameCount tray = length-map (pairs tray) (frameAt tray) ∙ pairs-length (frameCount tray) (drop 4 tray) in
-    read-back run (omega (arith, done-few fs run r)) (omega (arith, r .few)) (⊎-elim (λ e. omega arith) (λ e. let z = e .0 in omega arith) (r .all-done)))
+    read-back run (omega (arith, r .done-few)) (omega (arith, r .few)) (⊎-elim (λ e. omega arith) (λ e. let z = e .0 in omega arith) (r .all-done)))
   where
     fs : List (List ℕ)
     fs = map (frameAt tray) (pairs tray)
 
     run : TrayOutcome
-    run = runFrames choices empty area fs
+    run = runFrames choices empty (length area) fs

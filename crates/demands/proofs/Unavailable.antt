@@ -12,16 +12,18 @@ use Rattle.rules.specs.declared.Txn.{Txn}
 use Rattle.rules.specs.declared.LookUp.{LookUp}
 use Rattle.rules.specs.Lists.{filterb, pick}
 use Rattle.rules.specs.Template.{bit, matches}
-use Rattle.rules.specs.Holds.{liveTxn, addReader, dropReader, addReaderOf, dropReaderOf, readByOther, visible, available, availableTo, someAvailable}
+use Rattle.rules.specs.Holds.{liveTxn, addReader, dropReader, addReaderOf, dropReaderOf, readByOther, visible}
+use Rattle.rules.specs.Holds.{available, availableTo, someAvailable}
 use Rattle.rules.specs.LookUp.{removes, marked, isEntry, handOut}
 use Rattle.rules.specs.Service.{serve}
-use Rattle.rules.proofs.ListLaws.{none≢some, any-pick, mem-filter, none-mem, all-false}
+use Rattle.rules.proofs.ListLaws.{mem-filter, none-mem, all-false, pick-none}
 use Rattle.rules.proofs.StepCases.{bool-cases, cond-cases, serve-ind, and-left}
 use Rattle.rules.proofs.ReaderLaws.{added, added-other, dropped, dropped-other, bit-of-zero, no-bits}
 use Rattle.demands.proofs.Sound.{available-unread, available-visible, visible-free, visible-owner}
 use Rattle.demands.proofs.Trace.{picked}
-use Rattle.demands.proofs.Finding.{mk-kept, mk-owner, mk-plain, mk-read-taker, mk-take-taker, mk-read-readers, kept-gone}
-use Rattle.demands.specs.Serial.{Kept}
+use Rattle.demands.proofs.Finding.{mk-kept, mk-owner, mk-plain, mk-read-taker, mk-take-taker, mk-read-readers}
+use Rattle.demands.proofs.Finding.{kept-gone}
+use Rattle.demands.specs.SerialRun.{Kept}
 
 -- with one reader more an entry is read by another as before
 still-read : (p q n : ℕ) → dropReader p (addReader q n) ≡ 0 → dropReader p n ≡ 0
@@ -105,8 +107,7 @@ module _ (ts : List Txn) (v w : LookUp) (e : Entry) (av : available ts w e ≡ t
       hidden y r i = ⊎-elim (λ u. absurd (true≢false (sym (unmarked y r u) ∙ none-mem (available ts v) n i))) (λ u. u) (bool-cases (available ts v (marked ts w y)))
 
 pub pick-nothing : (k : ℕ) (ts : List Txn) (w : LookUp) (es : List Entry) → pick k (availableTo ts w es) ≡ none → someAvailable ts w es ≡ false
-pick-nothing k ts w es q =
-    ⊎-elim (λ t. absurd (none≢some (sym q ∙ any-pick (available ts w) k es t .2))) (λ t. t) (bool-cases (someAvailable ts w es))
+pick-nothing k ts w es q = pick-none (available ts w) k es q
 
 serve-unavailable : (choice : ℕ → ℕ) (ts : List Txn) (v : LookUp) (es : List Entry) (ws : List LookUp)
     → someAvailable ts v es ≡ false → someAvailable ts v (serve choice ts es ws .entries) ≡ false

@@ -1,111 +1,80 @@
--- What the rules promise: demands 2 and 3, as types.
+-- The three demands, over any space; `proofs/Theorems.antt` proves them of the space that is built (`theSpace`), for
+-- every history.
+--
+-- A history is a list of frames, any bytes with answers areas of any length, from the empty space. `Made S log t`:
+-- frames made the state t, and the log has each frame with the records that its step wrote.
 use Prim.Native.Nat.{ℕ, _≤_}
-use mathlib.Core.Bool.{Bool, true, false, not, _&&_}
+use mathlib.Core.Bool.{true, false}
 use mathlib.Core.Path.{_≡_}
-use mathlib.Core.Logic.{_↔_}
-use mathlib.Core.List.{List, [], _∷_, _++_, map, List·Memᴰ}
-use lib.Dec.{eqb}
+use mathlib.Core.List.{List, _++_}
 use lib.ListN.{length}
-use Rattle.rules.specs.declared.Entry.{Entry}
-use Rattle.rules.specs.declared.Txn.{Txn}
-use Rattle.rules.specs.declared.LookUp.{LookUp}
+use Rattle.rules.specs.Numbers.{forever, stepRecords}
 use Rattle.rules.specs.Lists.{filterb, anyb}
-use Rattle.rules.specs.Time.{reached}
-use Rattle.rules.specs.State.{Model, empty}
-use Rattle.rules.specs.Holds.{availableTo, someAvailable}
-use Rattle.rules.specs.Frame.{decode, isLookUp}
-use Rattle.rules.specs.Records.{found, nothing, waiting, exception}
-use Rattle.rules.specs.LookUp.{lookUpOf, givesNothing}
-use Rattle.rules.specs.Transactions.{privateTo}
-use Rattle.rules.specs.Service.{serve}
+use Rattle.rules.specs.Frame.{Frame, decode, isLookUp}
+use Rattle.rules.specs.LookUp.{lookUpOf}
 use Rattle.rules.specs.Refusals.{refusal}
-use Rattle.rules.specs.Step.{Outcome, step}
-use Rattle.demands.specs.History.{Input, runs, made}
-use Rattle.demands.specs.Serial.{Kept, Run, serialRun, left}
+use Rattle.rules.specs.Allowed.{Answered}
+use Rattle.demands.specs.Machine.{Handed, Machine}
+use Rattle.demands.specs.History.{Logged, recordsOf, History, Made}
+use Rattle.demands.specs.Judged.{Judged}
+use Rattle.demands.specs.Answers.{AnsweredNow, asked, NothingLeft, Settled, OneEach, isTicked, closes}
+use Rattle.demands.specs.Moments.{Moments}
+use Rattle.demands.specs.Book.{bookOf, Booked}
+use Rattle.demands.specs.Told.{Explained}
+use Rattle.demands.specs.SerialRun.{serialRun, Serial}
 
--- The bounds
+-- what holds of every state, with its log, and of every step, after every history
+abbrev pub EveryState : (S : Machine) → (List Logged → S .State → Type 0) → Type 0
+EveryState S P = (log : List Logged) (t : S .State) → Made S log t → P log t
 
--- at most 64 entries are stored, 8 transactions live and 16 look-ups wait
-pub record Bounded (m : Model) : Type 0 where
-  pub entries-fit : length (m .entries) ≤ 64
-  pub txns-fit : length (m .txns) ≤ 8
-  pub waits-fit : length (m .waits) ≤ 16
+abbrev pub EveryStep : (S : Machine) → (S .State → Handed → S .State → Answered → Type 0) → Type 0
+EveryStep S P = (log : List Logged) (t u : S .State) (h : Handed) (a : Answered)
+    → Made S log t → S .Steps t h u a → P t h u a
 
--- on every space that frames make of the empty one; and a step writes at most 25 records
-pub record Bounds : Type 0 where
-  pub bounded : (is : List Input) → Bounded (made is)
-  pub records-fit : (is : List Input) (i : Input) → length (step (i .choice) (made is) (i .frame) (i .area) .records) ≤ 25
+-- the frame is not refused in this state
+abbrev pub CarriedOut : (S : Machine) → S .State → Handed → Type 0
+CarriedOut S t h = refusal (S .view t) (h .frame) (length (h .area)) ≡ 0
 
--- Demand 2
+abbrev pub frameIn : Handed → Frame
+frameIn h = decode (h .frame)
 
--- the one record of a look-up that is not refused: found exactly when an entry is available, nothing exactly when none is and the
--- rule gives nothing, else waiting. (The cases exclude each other, and so do the kinds of their records.)
-pub record AnsweredNow (m : Model) (w : LookUp) (timeout : ℕ) (o : Outcome) : Type 0 where
-  pub found-case : someAvailable (m .txns) w (m .entries) ≡ true
-      → (e : Entry) × List·Memᴰ e (availableTo (m .txns) w (m .entries)) × (o .records ≡ found w e ∷ [])
-  pub nothing-case : someAvailable (m .txns) w (m .entries) ≡ false
-      → givesNothing m w timeout ≡ true
-      → o .records ≡ nothing w ∷ []
-  pub waiting-case : someAvailable (m .txns) w (m .entries) ≡ false
-      → givesNothing m w timeout ≡ false
-      → (o .records ≡ waiting w ∷ []) × (o .model .waits ≡ m .waits ++ (w ∷ []))
+-- Demand 1. "A request frame, whole, short or garbled, is carried out or refused with a number; a refused frame changes
+-- nothing but the refusal record."
+unfoldable pub Demand1 : Machine → Type 0
+Demand1 S = EveryStep S (Judged S)
 
--- what a step does to a look-up that waits: it waits on, or it has its closing answer
-pub data Later (m : Model) (w : LookUp) (o : Outcome) : Type 0 where
-  waits-on : List·Memᴰ w (o .model .waits) → Later m w o
-  gets-found : (e : Entry) → List·Memᴰ (found w e) (o .records) → Later m w o
-  gets-nothing : reached (o .model .clock) (w .deadline) ≡ true → List·Memᴰ (nothing w) (o .records) → Later m w o
-  gets-exception : (t : Txn) → List·Memᴰ t (m .txns) → t .id ≡ w .txn → List·Memᴰ (exception t) (o .records) → Later m w o
+-- Demand 2. "Every answer is one that the rules allow: found exactly when an entry is available, nothing only under the
+-- stated conditions, a closing answer by the deadline."
+pub record Demand2 (S : Machine) : Type 0 where
+  -- a look-up that is not refused is answered rightly at once: one statement for the four kinds
+  pub now : EveryStep S (λ t h u a. CarriedOut S t h → isLookUp (frameIn h .op) ≡ true
+      → AnsweredNow (S .view t) (lookUpOf (S .view t) (frameIn h)) (frameIn h .leaseOrTimeout) (a .records) (S .view u))
+  -- every record of a step that is carried out is written at a moment that allows it
+  pub moments : EveryStep S (λ t h u a. CarriedOut S t h
+      → Moments (frameIn h) (asked (S .view t) (frameIn h)) (a .records) (S .view u))
+  -- and what is given nothing has no available entry when the step is over
+  pub nothing-left : EveryStep S (λ t h u a. CarriedOut S t h
+      → NothingLeft (asked (S .view t) (frameIn h)) (a .records) (S .view u))
+  -- the count that is returned is that of the records written, at most 25
+  pub counted : EveryStep S (λ t h u a. (a .count ≡ length (a .records)) × (a .count ≤ stepRecords))
+  -- after each step no waiting look-up has an available entry, and every deadline lies ahead; a party has at most one
+  pub settled : EveryState S (λ log t. Settled (S .view t))
+  pub one-each : EveryState S (λ log t. OneEach (S .view t))
+  -- after as many carried-out ticks as its timeout a look-up has had its closing answer, FOREVER excepted
+  pub in-time : EveryStep S (λ t h u a. (later : List Logged) (v : S .State) → History S u later v
+      → CarriedOut S t h
+      → isLookUp (frameIn h .op) ≡ true
+      → (frameIn h .leaseOrTimeout ≡ forever → ⊥)
+      → frameIn h .leaseOrTimeout ≤ length (filterb isTicked (a .records ++ recordsOf later))
+      → anyb (closes (frameIn h .party) (frameIn h .txn)) (a .records ++ recordsOf later) ≡ true)
+  -- the space's clock, next numbers, live transactions and waiting look-ups are what the frames and records alone tell;
+  -- each found and nothing closes exactly one open look-up, and numbers are counted, each from 1
+  pub booked : EveryState S (λ log t. Booked (bookOf log) (S .view t))
+  -- its stored entries, to whom they are private, by whom taken and read, are what the serial run's set and the live
+  -- transactions' lists tell
+  pub told : EveryState S (λ log t. Explained (serialRun log) (S .view t))
 
--- between steps no waiting look-up has an available entry, and each deadline is above the clock
-pub record Settled (m : Model) : Type 0 where
-  pub none-available : (w : LookUp) → List·Memᴰ w (m .waits) → someAvailable (m .txns) w (m .entries) ≡ false
-  pub not-reached : (w : LookUp) → List·Memᴰ w (m .waits) → reached (m .clock) (w .deadline) ≡ false
-
--- in service a look-up is answered found exactly when an entry is available as its turn comes, and then with one of those
-pub record InTurn (choice : ℕ → ℕ) (ts : List Txn) (es : List Entry) (before : List LookUp) (w : LookUp) (rest : List LookUp) : Type 0 where
-  pub found-case : someAvailable ts w (serve choice ts es before .entries) ≡ true
-      → (e : Entry) × List·Memᴰ e (availableTo ts w (serve choice ts es before .entries)) × List·Memᴰ (found w e) (serve choice ts es (before ++ w ∷ rest) .records)
-  pub waits-on-case : someAvailable ts w (serve choice ts es before .entries) ≡ false
-      → List·Memᴰ w (serve choice ts es (before ++ w ∷ rest) .waits)
-
-pub record Demand2 : Type 0 where
-  pub now : (is : List Input) (i : Input)
-      → refusal (made is) (i .frame) (i .area) ≡ 0
-      → isLookUp (decode (i .frame) .op) ≡ true
-      → AnsweredNow (made is) (lookUpOf (made is) (decode (i .frame))) (decode (i .frame) .leaseOrTimeout) (step (i .choice) (made is) (i .frame) (i .area))
-  pub later : (is : List Input) (i : Input) (w : LookUp)
-      → List·Memᴰ w (made is .waits)
-      → Later (made is) w (step (i .choice) (made is) (i .frame) (i .area))
-  pub settled : (is : List Input) → Settled (made is)
-  pub in-turn : (choice : ℕ → ℕ) (ts : List Txn) (es : List Entry) (before : List LookUp) (w : LookUp) (rest : List LookUp)
-      → InTurn choice ts es before w rest
-
--- Demand 3
-
--- an entry as the plain set keeps it
-abbrev pub keptOf : Entry → Kept
-keptOf e = record { number = e .id .0; fields = e .fields; end = e .end }
-
--- the space's committed entries, held or not
-unfoldable pub committedIn : Model → List Kept
-committedIn m = map keptOf (filterb (privateTo 0) (m .entries))
-
--- no number stands twice in a list
-unfoldable pub distinct : List ℕ → Bool
-distinct [] = true
-distinct (n ∷ ns) = not (anyb (eqb n) ns) && distinct ns
-
-abbrev pub numbersOf : List Kept → List ℕ
-numbersOf ks = map (λ (k : Kept). k .number) ks
-
--- no operation fails, none takes what is taken, and what is left is the committed entries: the same ones, each once on both sides
-pub record Serial (r : Run) (m : Model) : Type 0 where
-  pub succeeds : r .succeeds ≡ true
-  pub taken-once : distinct (r .taken) ≡ true
-  pub left-once : distinct (numbersOf (left r)) ≡ true
-  pub committed-once : distinct (numbersOf (committedIn m)) ≡ true
-  pub same : (k : Kept) → List·Memᴰ k (left r) ↔ List·Memᴰ k (committedIn m)
-
-unfoldable pub Demand3 : Type 0
-Demand3 = (is : List Input) → Serial (serialRun (runs empty is .log)) (runs empty is .model)
+-- Demand 3. "For every list of frames from the empty space, the committed entries are exactly those of the serial run:
+-- one theorem over whole histories."
+unfoldable pub Demand3 : Machine → Type 0
+Demand3 S = EveryState S (λ log t. Serial (serialRun log) (S .view t))

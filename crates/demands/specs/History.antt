@@ -1,33 +1,30 @@
--- A list of frames handed in order to a space that begins empty.
+-- Histories: lists of frames handed in order, each to the space that the one before it left. Refused ones stand in
+-- them.
+use mathlib.Core.List.{List, [], _∷_, map}
 use Prim.Native.Nat.{ℕ}
-use mathlib.Core.List.{List, [], _∷_}
 use Rattle.rules.specs.declared.Record.{Record}
-use Rattle.rules.specs.State.{Model, empty}
-use Rattle.rules.specs.Step.{step}
-
--- any bytes, an answers area of any length, and the free choice in this step
-pub record Input : Type 0 where
-  pub frame : List ℕ
-  pub area : ℕ
-  pub choice : ℕ → ℕ
+use Rattle.rules.specs.Lists.{joined}
+use Rattle.rules.specs.Allowed.{Answered}
+use Rattle.demands.specs.Machine.{Handed, Machine}
 
 -- a frame with the records that its step wrote
 pub record Logged : Type 0 where
   pub frame : List ℕ
   pub records : List Record
 
--- the last model, and what the serial run is fed
-pub record History : Type 0 where
-  pub model : Model
-  pub log : List Logged
+abbrev pub logged : Handed → Answered → Logged
+logged h a = record { frame = h .frame; records = a .records }
 
-unfoldable pub runs : Model → List Input → History
-runs m [] = record { model = m; log = [] }
-runs m (i ∷ is) =
-    let o = step (i .choice) m (i .frame) (i .area) in
-    let rest = runs (o .model) is in
-    record { model = rest .model; log = record { frame = i .frame; records = o .records } ∷ rest .log }
+-- the records of a history, in order
+unfoldable pub recordsOf : List Logged → List Record
+recordsOf log = joined (map (λ (l : Logged). l .records) log)
 
--- the model that a list of frames makes of the empty one
-abbrev pub made : List Input → Model
-made is = runs empty is .model
+-- from a state to a state
+pub data History (S : Machine) : S .State → List Logged → S .State → Type 0 where
+  begun : (s : S .State) → History S s [] s
+  handed : {s t u : S .State} {log : List Logged} (h : Handed) (a : Answered) → S .Steps s h t a → History S t log u
+      → History S s (logged h a ∷ log) u
+
+-- a state that frames make of an empty space, with the log of them
+abbrev pub Made : (S : Machine) → List Logged → S .State → Type 0
+Made S log t = (s : S .State) × S .Empty s × History S s log t

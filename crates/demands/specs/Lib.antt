@@ -1,5 +1,15 @@
--- The demands on the space.
+-- The demands on the space: open Demands first, which cites the rest by name.
+pub mod Machine
 pub mod History
-pub mod Serial
+pub mod Judged
+pub mod Answers
+pub mod Moments
+pub mod Book
+pub mod SerialRun
+pub mod Told
 pub mod Demands
-pub mod Claims
+pub mod Bounds
+pub mod Trays
+pub mod Frames
+pub mod Course
+pub mod Wrong

@@ -10,16 +10,16 @@ use Rattle.rules.specs.Records.{areaAfter}
 use Rattle.rules.specs.Step.{step}
 use Rattle.rules.specs.Tray.{runTray, hostNumber}
 
--- what is answered to a frame: the records that its step wrote, their count and the refusal's number (0: carried out) as they are
--- returned, and the answers area afterwards
+-- what is answered to a frame: the records that its step wrote, their count and the refusal's number (0: carried out)
+-- as they are returned, and the answers area afterwards
 pub record Answered : Type 0 where
   pub records : List Record
   pub count : ℕ
   pub number : ℕ
   pub area : List ℕ
 
--- The words of a space, a frame and an answers area are allowed to become the words `after` and what is answered: there is a choice with
--- which the rules give exactly this. A refused frame gives the very same words back.
+-- The words of a space, a frame and an answers area are allowed to become the words `after` and what is answered:
+-- there is a choice with which the rules give exactly this. A refused frame gives the very same words back.
 pub record Allowed (before frame area after : List ℕ) (a : Answered) : Type 0 where
   pub choice : ℕ → ℕ
   pub space : view after ≡ step choice (view before) frame (length area) .model
@@ -36,8 +36,8 @@ pub record Stepped (before frame area after : List ℕ) (returned : ℕ) (area�
   pub returns : returned ≡ answered .count + 65536 * answered .number
   pub leaves : area′ ≡ answered .area
 
--- `space_run_tray` returns the three numbers of a tray's run in one, and leaves the answers area as `area′`: there are choices, one for
--- each frame, with which the rules give exactly this
+-- `space_run_tray` returns the three numbers of a tray's run in one, and leaves the answers area as `area′`: there
+-- are choices, one for each frame, with which the rules give exactly this
 pub record TrayRan (tray area : List ℕ) (returned : ℕ) (area′ : List ℕ) : Type 0 where
   pub choices : ℕ → ℕ → ℕ
   pub returns : returned ≡ hostNumber (runTray choices tray (length area))

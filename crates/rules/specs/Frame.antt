@@ -5,7 +5,8 @@ use mathlib.Core.List.{List, [], _∷_}
 use lib.Dec.{eqb, leb}
 use lib.ListN.{getD}
 use Rattle.rules.specs.declared.Fields.{Fields}
-use Rattle.rules.specs.Numbers.{opWrite, opRead, opTake, opReadIfExists, opTakeIfExists, opCreate, opCommit, opAbort, opTick}
+use Rattle.rules.specs.Numbers.{opWrite, opRead, opTake, opReadIfExists, opTakeIfExists, opCreate, opCommit}
+use Rattle.rules.specs.Numbers.{opAbort, opTick}
 
 -- the byte at a place, and the little-endian number of four bytes there; 0 past the end
 abbrev pub byteAt : List ℕ → ℕ → ℕ

@@ -43,20 +43,23 @@ isOther t n = not (eqb n 0) && not (eqb n t)
 unfoldable pub visible : ℕ → Entry → Bool
 visible t e = eqb (e .«taken_by» .0) 0 && (eqb (e .«private_to» .0) 0 || eqb (e .«private_to» .0) t)
 
--- "available to a read if it matches and is visible", "to a take if, besides, no live transaction other than its own holds a read on it"
+-- "available to a read if it matches and is visible", "to a take if, besides, no live transaction other than its own
+-- holds a read on it"
 unfoldable pub available : List Txn → LookUp → Entry → Bool
 available ts w e =
     matches (w .mask) (w .fields) (e .fields)
     && visible (w .txn .0) e
     && not (w .takes && readByOther ts (w .txn .0) e)
 
--- "conflicts if it matches, is not available, and is private to another transaction, take-held by another, or (for a take) read-held by
--- another". (T's own take hold makes an entry neither: demands, `OwnTakeHold`.)
+-- "conflicts if it matches, is not available, and is private to another transaction, take-held by another, or (for a
+-- take) read-held by another". (T's own take hold makes an entry neither: demands, `OwnTakeHold`.)
 unfoldable pub conflicts : List Txn → LookUp → Entry → Bool
 conflicts ts w e =
     matches (w .mask) (w .fields) (e .fields)
     && not (available ts w e)
-    && (isOther (w .txn .0) (e .«private_to» .0) || isOther (w .txn .0) (e .«taken_by» .0) || w .takes && readByOther ts (w .txn .0) e)
+    && (isOther (w .txn .0) (e .«private_to» .0)
+    || isOther (w .txn .0) (e .«taken_by» .0)
+    || w .takes && readByOther ts (w .txn .0) e)
 
 -- the entries that are available to a look-up
 abbrev pub availableTo : List Txn → LookUp → List Entry → List Entry

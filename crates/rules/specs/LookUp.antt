@@ -63,7 +63,8 @@ unfoldable pub handOut : List Txn → LookUp → Entry → List Entry → List E
 handOut ts w e es =
     cond (removes w e) (filterb (λ x. not (isEntry e x)) es) (map (λ x. cond (isEntry e x) (marked ts w x) x) es)
 
--- with no entry available: nothing at timeout 0, and for the IfExists kinds where none conflicts; otherwise the look-up waits
+-- with no entry available: nothing at timeout 0, and for the IfExists kinds where none conflicts; otherwise the
+-- look-up waits
 unfoldable pub givesNothing : Model → LookUp → ℕ → Bool
 givesNothing m w timeout = eqb timeout 0 || w .«if_exists» && not (someConflicts (m .txns) w (m .entries))
 

@@ -1,5 +1,5 @@
--- What the program prints: "per record: kind, party, refusal, transaction, entry number, kind, side, image, place; then `done`, frames,
--- records, number". Characters are their ASCII numbers.
+-- What the program prints: "per record: kind, party, refusal, transaction, entry number, kind, side, image, place;
+-- then `done`, frames, records, number". Characters are their ASCII numbers.
 use Prim.Native.Nat.{ℕ, zero, suc, _+_, _/_, _%_}
 use mathlib.Core.Bool.{cond}
 use mathlib.Core.List.{List, [], _∷_, _++_, map}

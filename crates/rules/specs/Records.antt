@@ -8,7 +8,8 @@ use Rattle.rules.specs.declared.Record.{Record}
 use Rattle.rules.specs.declared.Txn.{Txn}
 use Rattle.rules.specs.declared.LookUp.{LookUp}
 use Rattle.rules.specs.Lists.{joined}
-use Rattle.rules.specs.Numbers.{recordSize, kindWritten, kindFound, kindNothing, kindWaiting, kindCreated, kindCommitted, kindAborted, kindException, kindTicked, kindRefused}
+use Rattle.rules.specs.Numbers.{recordSize, kindWritten, kindFound, kindNothing, kindWaiting, kindCreated}
+use Rattle.rules.specs.Numbers.{kindCommitted, kindAborted, kindException, kindTicked, kindRefused}
 use Rattle.rules.specs.Frame.{Frame, byteAt}
 
 abbrev pub noFields : Fields

@@ -1,4 +1,5 @@
--- "Refused frames": the table, row by row. "Checked in this order; the first that applies is given, and none otherwise."
+-- "Refused frames": the table, row by row. "Checked in this order; the first that applies is given, and none
+-- otherwise."
 use Prim.Native.Nat.{ℕ, _+_}
 use mathlib.Core.Bool.{Bool, false, not, cond, _&&_, _||_}
 use mathlib.Core.List.{List, [], _∷_}
@@ -8,11 +9,15 @@ use lib.ListN.{length}
 use Rattle.rules.specs.declared.Txn.{Txn}
 use Rattle.rules.specs.declared.LookUp.{LookUp}
 use Rattle.rules.specs.Lists.{anyb, firstRow}
-use Rattle.rules.specs.Numbers.{forever, lastClock, maxParty, maxEntries, maxTxns, maxWaits, stepArea, opTick, areaRefused, operationRefused, lengthRefused, formRefused, partyRefused, waitingRefused, notLiveRefused, notOwnRefused, leaseRefused, clockRefused, entriesRefused, txnsRefused, numberRefused, waitsRefused}
+use Rattle.rules.specs.Numbers.{forever, lastClock, maxParty, maxEntries, maxTxns, maxWaits, stepArea, opTick}
+use Rattle.rules.specs.Numbers.{areaRefused, operationRefused, lengthRefused, formRefused, partyRefused}
+use Rattle.rules.specs.Numbers.{waitingRefused, notLiveRefused, notOwnRefused, leaseRefused, clockRefused}
+use Rattle.rules.specs.Numbers.{entriesRefused, txnsRefused, numberRefused, waitsRefused}
 use Rattle.rules.specs.State.{Model}
 use Rattle.rules.specs.Template.{bit}
 use Rattle.rules.specs.Holds.{liveTxn}
-use Rattle.rules.specs.Frame.{Frame, decode, frameLength, isWrite, isLookUp, isCreate, isCommit, isAbort, isTick, hasLeaseOrTimeout}
+use Rattle.rules.specs.Frame.{Frame, decode, frameLength, isWrite, isLookUp, isCreate, isCommit, isAbort, isTick}
+use Rattle.rules.specs.Frame.{hasLeaseOrTimeout}
 use Rattle.rules.specs.LookUp.{lookUpOf, mustWait}
 
 -- 2: empty frame, or operation not 1-9

@@ -10,12 +10,16 @@ use Rattle.rules.specs.declared.Request.{Request}
 use Rattle.rules.specs.declared.Request.the-variants.{Write, Find, Create, Commit, Abort, Tick}
 use Rattle.rules.specs.declared.Decoded.{Decoded}
 use Rattle.rules.specs.declared.Decoded.the-variants.{Asks, Refused}
-use Rattle.rules.specs.Numbers.{opWrite, opCreate, opCommit, opAbort, opTick, operationRefused, lengthRefused, formRefused, partyRefused, waitingRefused, notLiveRefused, notOwnRefused, leaseRefused, clockRefused, entriesRefused, txnsRefused, numberRefused, waitsRefused}
+use Rattle.rules.specs.Numbers.{opWrite, opCreate, opCommit, opAbort, opTick, operationRefused, lengthRefused}
+use Rattle.rules.specs.Numbers.{formRefused, partyRefused, waitingRefused, notLiveRefused, notOwnRefused}
+use Rattle.rules.specs.Numbers.{leaseRefused, clockRefused, entriesRefused, txnsRefused, numberRefused}
+use Rattle.rules.specs.Numbers.{waitsRefused}
 use Rattle.rules.specs.Lists.{firstRow}
 use Rattle.rules.specs.State.{Model}
 use Rattle.rules.specs.Frame.{Frame, decode}
 use Rattle.rules.specs.Records.{noFields}
-use Rattle.rules.specs.Refusals.{noOperation, wrongLength, malformed, wrongParty, partyWaits, notLive, notOwn, noLease, tooLate, entriesFull, txnsFull, noNumber, waitsFull}
+use Rattle.rules.specs.Refusals.{noOperation, wrongLength, malformed, wrongParty, partyWaits, notLive, notOwn}
+use Rattle.rules.specs.Refusals.{noLease, tooLate, entriesFull, txnsFull, noNumber, waitsFull}
 
 -- a frame without mask and fields
 abbrev pub plainFrame : ℕ → ℕ → ℕ → ℕ → Frame

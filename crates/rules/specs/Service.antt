@@ -1,4 +1,5 @@
--- Service: the waiting look-ups are gone through once in order of arrival, and each with an available entry is answered found.
+-- Service: the waiting look-ups are gone through once in order of arrival, and each with an available entry is
+-- answered found.
 use Prim.Native.Nat.{ℕ}
 use mathlib.Core.List.{List, [], _∷_}
 use mathlib.Core.Option.{none, some}

@@ -1,9 +1,11 @@
 -- What a space holds, as lists: the tables that the rules speak of.
-use Prim.Native.Nat.{ℕ}
+use Prim.Native.Nat.{ℕ, _≤_}
 use mathlib.Core.List.{List, []}
+use lib.ListN.{length}
 use Rattle.rules.specs.declared.Entry.{Entry}
 use Rattle.rules.specs.declared.Txn.{Txn}
 use Rattle.rules.specs.declared.LookUp.{LookUp}
+use Rattle.rules.specs.Numbers.{maxEntries, maxTxns, maxWaits}
 
 pub record Model : Type 0 where
   pub clock : ℕ
@@ -20,6 +22,12 @@ pub record Model : Type 0 where
 -- "An empty space has clock 0, nothing stored, live or waiting, and 1 as both next numbers."
 abbrev pub empty : Model
 empty = record { clock = 0; nextEntry = 1; nextTxn = 1; entries = []; txns = []; waits = [] }
+
+-- "At most 64 entries are stored", "At most 8 transactions live and 16 look-ups wait."
+pub record Bounded (m : Model) : Type 0 where
+  pub entries-fit : length (m .entries) ≤ maxEntries
+  pub txns-fit : length (m .txns) ≤ maxTxns
+  pub waits-fit : length (m .waits) ≤ maxWaits
 
 -- the model with one table or number replaced
 abbrev pub withEntries : List Entry → Model → Model

@@ -15,7 +15,8 @@ use Rattle.rules.specs.Frame.{Frame}
 use Rattle.rules.specs.Records.{created}
 use Rattle.rules.specs.LookUp.{Done}
 
--- the first of the eight slots that no live transaction has ("Freed places are used again"); create is refused where there is none
+-- the first of the eight slots that no live transaction has ("Freed places are used again"); create is refused where
+-- there is none
 abbrev pub orZero : Option ℕ → ℕ
 orZero none = 0
 orZero (some p) = p
@@ -68,8 +69,8 @@ commit t m =
     withEntries (map (released (m .txns) t) (filterb (λ e. not (takenBy t e)) (m .entries)))
     (withTxns (withoutTxn t (m .txns)) m)
 
--- "Private entries are removed, both kinds of hold go." A look-up that waits inside is closed with it: only the exception of a tick
--- meets one, because its owner's own frames are refused with 6
+-- "Private entries are removed, both kinds of hold go." A look-up that waits inside is closed with it: only the
+-- exception of a tick meets one, because its owner's own frames are refused with 6
 unfoldable pub abort : ℕ → Model → Model
 abort t m =
     withEntries (map (released (m .txns) t) (filterb (λ e. not (privateTo t e)) (m .entries)))

@@ -32,7 +32,10 @@ pairs tray = pairsOf (frameCount tray) (drop 4 tray)
 -- 15: under 4 or over 65,536 bytes, over 2,000 frames, or too short for its pairs
 unfoldable pub badTray : List ℕ → Bool
 badTray tray =
-    ltb (length tray) 4 || ltb maxTray (length tray) || ltb maxFrames (frameCount tray) || ltb (length tray) (pairsEnd tray)
+    ltb (length tray) 4
+    || ltb maxTray (length tray)
+    || ltb maxFrames (frameCount tray)
+    || ltb (length tray) (pairsEnd tray)
 
 -- 16: a pair begins before the pairs' end or before the previous pair's end, or runs past the tray
 unfoldable pub badPairs : ℕ → ℕ → List Pair → Bool
@@ -41,7 +44,8 @@ badPairs before size (p ∷ ps) =
     ltb (p .offset) before || ltb size (p .offset + p .size) || badPairs (p .offset + p .size) size ps
 
 unfoldable pub trayRefusal : List ℕ → ℕ
-trayRefusal tray = cond (badTray tray) trayRefused (cond (badPairs (pairsEnd tray) (length tray) (pairs tray)) pairsRefused 0)
+trayRefusal tray =
+    cond (badTray tray) trayRefused (cond (badPairs (pairsEnd tray) (length tray) (pairs tray)) pairsRefused 0)
 
 -- "A frame is read as a part of the tray, starting at its offset."
 unfoldable pub frameAt : List ℕ → Pair → List ℕ
@@ -56,13 +60,15 @@ pub record TrayOutcome : Type 0 where
 abbrev pub stopped : ℕ → TrayOutcome
 stopped n = record { frames = 0; records = []; number = n }
 
--- "it stops with 1 before a frame for which under 700 bytes are left, else ends with 0". `choices` has a choice for each frame
+-- "it stops with 1 before a frame for which under 700 bytes are left, else ends with 0". `choices` has a choice for
+-- each frame
 unfoldable pub runFrames : (ℕ → ℕ → ℕ) → Model → ℕ → List (List ℕ) → TrayOutcome
 runFrames choices m area [] = stopped 0
 runFrames choices m area (f ∷ fs) =
     let o = step (choices 0) m f area in
     let rest = runFrames (λ i. choices (suc i)) (o .model) (area - recordSize * length (o .records)) fs in
-    let done : TrayOutcome = record { frames = suc (rest .frames); records = o .records ++ rest .records; number = rest .number } in
+    let done : TrayOutcome =
+    record { frames = suc (rest .frames); records = o .records ++ rest .records; number = rest .number } in
     cond (ltb area stepArea) (stopped areaRefused) done
 
 unfoldable pub runPairs : (ℕ → ℕ → ℕ) → List ℕ → ℕ → TrayOutcome

@@ -1,10 +1,10 @@
--- The model once the look-ups that wait inside a transaction are closed; abort.
-use Prim.Native.Nat.{ℕ, _+_, _*_, _≤_, _<_, min}
+-- The model once some of the waiting look-ups are closed; abort.
+use Prim.Native.Nat.{ℕ, _+_, _*_, _<_, min}
 use mathlib.Core.Bool.{Bool, true, false, not}
 use mathlib.Core.Path.{_≡_, refl, sym, ap, _∙_}
 use mathlib.Core.List.{List, [], _∷_, map-id}
 use native.Mathlib.Omega.{arith}
-use borrow.Author.Tests.{eqb-false, eq-eqb, ne-eqb}
+use borrow.Author.Tests.{eqb-false}
 use lib.Dec.{eqb, lit<, lit≤}
 use lib.ListN.{length, getD, set}
 use lib.Seq.{getD-set-same, getD-set-other}
@@ -15,58 +15,55 @@ use Rattle.rules.specs.State.{Model, withTxns, withWaits}
 use Rattle.rules.specs.Holds.{liveTxn}
 use Rattle.rules.specs.Transactions.{withoutTxn, abort}
 use Rattle.space.specs.declared.sweep.Sweep.the-variants.{Abort}
-use Rattle.rules.specs.Words.{waitCount, waitFrom, waitOf, row, waits, view}
+use Rattle.rules.specs.Words.{waitCount, waitFrom, waitOf, waits, view}
 use Rattle.space.specs.Rows.{moveRow}
 use Rattle.space.specs.Live.{slotOf}
 use Rattle.space.specs.Sweep.{sweepModel}
-use Rattle.space.proofs.RowLaws.{over, set9-over, word-before}
+use Rattle.space.proofs.RowLaws.{set9-over, word-before}
 use Rattle.space.proofs.CompactLaws.{Compacting, compact-start, compact-passed, compact-kept}
 use Rattle.space.proofs.ViewLaws.{wait-row}
 use Rattle.space.proofs.StateLaws.{kept-then, kept-count, kept-waits, entries-before, entries-from, waits-from, set-from}
 use Rattle.space.proofs.MoveLaws.{view-waits}
 use Rattle.space.proofs.HandLaws.{live-low, abort-of}
 
-abbrev outside : ℕ → LookUp → Bool
-outside t w = not (eqb (w .txn .0) t)
-
 abbrev same : LookUp → LookUp
 same w = w
 
--- the first i look-ups are gone through
-abbrev pub Leaving : ℕ → List ℕ → List ℕ → ℕ → ℕ → Type 0
-Leaving t ws₀ ws i n = Compacting waitOf 614 9 (outside t) same ws₀ ws i n
+module _ (stays : LookUp → Bool) where
+  -- the first i look-ups are gone through, and those that stay are kept
+  abbrev pub Leaving : List ℕ → List ℕ → ℕ → ℕ → Type 0
+  Leaving ws₀ ws i n = Compacting waitOf 614 9 stays same ws₀ ws i n
 
-pub leaving-none : (t : ℕ) (ws : List ℕ) → Leaving t ws ws 0 0
-leaving-none t ws = compact-start waitOf 614 9 (outside t) same ws
+  pub leaving-none : (ws : List ℕ) → Leaving ws ws 0 0
+  leaving-none ws = compact-start waitOf 614 9 stays same ws
 
-module _ (t : ℕ) (ws₀ ws : List ℕ) (i n : ℕ) (c : Leaving t ws₀ ws i n) (l : length ws₀ ≡ 758) (h : i < 16) (w : LookUp) (r : w ≡ waitFrom ws (614 + 9 * i)) where
-  pub leaving-passed : w .txn .0 ≡ t → Leaving t ws₀ ws (i + 1) n
-  leaving-passed e =
-      compact-passed waitOf 614 9 (outside t) same ws₀ ws i n c (ap (outside t) (wait-row ws i ∙ sym r) ∙ ap not (eq-eqb (w .txn .0) t e))
+  module _ (ws₀ ws : List ℕ) (i n : ℕ) (c : Leaving ws₀ ws i n) (l : length ws₀ ≡ 758) (h : i < 16) (w : LookUp) (r : w ≡ waitFrom ws (614 + 9 * i)) where
+    pub leaving-passed : stays w ≡ false → Leaving ws₀ ws (i + 1) n
+    leaving-passed e = compact-passed waitOf 614 9 stays same ws₀ ws i n c (ap stays (wait-row ws i ∙ sym r) ∙ e)
 
-  pub leaving-kept : (w .txn .0 ≡ t → ⊥) → Leaving t ws₀ (moveRow ws (614 + 9 * i) (614 + 9 * n)) (i + 1) (n + 1)
-  unfolding waitOf
-  leaving-kept e =
-      let o = 614 + 9 * i in
-      rw (set9-over ws (614 + 9 * n) (getD ws o 0) (getD ws (o + 1) 0) (getD ws (o + 2) 0) (getD ws (o + 3) 0) (getD ws (o + 4) 0)
-      (getD ws (o + 5) 0) (getD ws (o + 6) 0) (getD ws (o + 7) 0) (getD ws (o + 8) 0) (omega (arith, c .long, c .behind)))
-      (compact-kept waitOf 614 9 (outside t) same ws₀ ws i n c
-      (getD ws o 0 ∷ getD ws (o + 1) 0 ∷ getD ws (o + 2) 0 ∷ getD ws (o + 3) 0 ∷ getD ws (o + 4) 0
-      ∷ getD ws (o + 5) 0 ∷ getD ws (o + 6) 0 ∷ getD ws (o + 7) 0 ∷ getD ws (o + 8) 0 ∷ [])
-      refl (omega arith) (sym (wait-row ws i)) (ap (outside t) (wait-row ws i ∙ sym r) ∙ ap not (ne-eqb (w .txn .0) t e)))
+    pub leaving-kept : stays w ≡ true → Leaving ws₀ (moveRow ws (614 + 9 * i) (614 + 9 * n)) (i + 1) (n + 1)
+    unfolding waitOf
+    leaving-kept e =
+        let o = 614 + 9 * i in
+        rw (set9-over ws (614 + 9 * n) (getD ws o 0) (getD ws (o + 1) 0) (getD ws (o + 2) 0) (getD ws (o + 3) 0) (getD ws (o + 4) 0)
+        (getD ws (o + 5) 0) (getD ws (o + 6) 0) (getD ws (o + 7) 0) (getD ws (o + 8) 0) (omega (arith, c .long, c .behind)))
+        (compact-kept waitOf 614 9 stays same ws₀ ws i n c
+        (getD ws o 0 ∷ getD ws (o + 1) 0 ∷ getD ws (o + 2) 0 ∷ getD ws (o + 3) 0 ∷ getD ws (o + 4) 0
+        ∷ getD ws (o + 5) 0 ∷ getD ws (o + 6) 0 ∷ getD ws (o + 7) 0 ∷ getD ws (o + 8) 0 ∷ [])
+        refl (omega arith) (sym (wait-row ws i)) (ap stays (wait-row ws i ∙ sym r) ∙ e))
 
-pub leaving-done : (t : ℕ) (ws₀ ws : List ℕ) (i n : ℕ) → length ws₀ ≡ 758 → i ≡ waitCount ws₀ → Leaving t ws₀ ws i n
-    → view (set ws 5 n) ≡ withWaits (filterb (λ w. not (eqb (w .txn .0) t)) (view ws₀ .waits)) (view ws₀)
-unfolding view waits
-leaving-done t ws₀ ws i n l e c =
-    let few : min n 16 ≡ n = omega (arith, c .behind) in
-    view-waits (set ws 5 n) ws₀ n
-    (kept-then (set ws 5 n) ws ws₀ (kept-count ws 5 n (eqb-false 5 4 refl) (lit≤ tt) (lit< tt)) (kept-waits ws ws₀ (c .head)))
-    (getD-set-other ws 5 3 n 0 (eqb-false 3 5 refl) ∙ word-before ws ws₀ 3 614 (lit< tt) (c .head))
-    (λ k m. entries-from k 6 (set ws 5 n) ws (lit≤ tt) (set-from ws 5 n 6 (lit< tt)) ∙ entries-before k 614 ws ws₀ (omega arith) (c .head))
-    (ap (λ x. min x 16) (getD-set-same ws 5 n 0 (omega (arith, c .long))) ∙ few)
-    ∙ ap (λ x. withWaits x (view ws₀))
-    (waits-from n 614 (set ws 5 n) ws (lit≤ tt) (set-from ws 5 n 614 (lit< tt)) ∙ c .done ∙ map-id _ ∙ ap (λ k. filterb (outside t) (waits k ws₀)) e)
+  pub leaving-done : (ws₀ ws : List ℕ) (i n : ℕ) → length ws₀ ≡ 758 → i ≡ waitCount ws₀ → Leaving ws₀ ws i n
+      → view (set ws 5 n) ≡ withWaits (filterb stays (view ws₀ .waits)) (view ws₀)
+  unfolding view waits
+  leaving-done ws₀ ws i n l e c =
+      let few : min n 16 ≡ n = omega (arith, c .behind) in
+      view-waits (set ws 5 n) ws₀ n
+      (kept-then (set ws 5 n) ws ws₀ (kept-count ws 5 n (eqb-false 5 4 refl) (lit≤ tt) (lit< tt)) (kept-waits ws ws₀ (c .head)))
+      (getD-set-other ws 5 3 n 0 (eqb-false 3 5 refl) ∙ word-before ws ws₀ 3 614 (lit< tt) (c .head))
+      (λ k m. entries-from k 6 (set ws 5 n) ws (lit≤ tt) (set-from ws 5 n 6 (lit< tt)) ∙ entries-before k 614 ws ws₀ (omega arith) (c .head))
+      (ap (λ x. min x 16) (getD-set-same ws 5 n 0 (omega (arith, c .long))) ∙ few)
+      ∙ ap (λ x. withWaits x (view ws₀))
+      (waits-from n 614 (set ws 5 n) ws (lit≤ tt) (set-from ws 5 n 614 (lit< tt)) ∙ c .done ∙ map-id _ ∙ ap (λ k. filterb stays (waits k ws₀)) e)
 
 -- the pass, the look-ups inside, and then the transaction is live no longer
 pub aborted-model : (ws : List ℕ) (t : TxnId) (p : ℕ) (m₁ m₂ m₃ : Model) → p ≡ slotOf (liveTxn (t .0) (view ws .txns))

@@ -15,7 +15,7 @@ returns c =
     let a = c .before .before .before .before .before .args in
     let o = a .answers .now in
     adds-one o _ (a .count) (28 * a .count) (length o - 28 * a .count) (a .r) (c .before .before .before .before .before .pre) refl (omega arith)
-    (ap (λ x. take (28 * a .count) o ++ (x ++ drop (length o - 28 * a .count) (drop (28 * a .count) o))) (c .before .before .put-record .ensures ∙ put-fits _ _ (simp (length-take, length-drop) (omega arith))))
+    (ap (λ x. take (28 * a .count) o ++ (x ++ drop (length o - 28 * a .count) (drop (28 * a .count) o))) (c .before .before .put-record .ensures ∙ put-fits _ _ (simp (length-take, length-drop) (omega (arith, c .before .before .before .before .before .pre)))))
 
 pub add-record-spec : {M : Type 1} → statement M
 add-record-spec =

@@ -1,15 +1,22 @@
 -- `space::drop_waits` meets its contract. The loop's invariant: the first i look-ups are gone through. Assumes nothing.
-use Prim.Native.Nat.{_≤_, _-_, _+_, _*_}
+use Prim.Native.Nat.{ℕ, _≤_, _-_, _+_}
 use mathlib.Core.Logic.{⊎-elim}
-use mathlib.Core.Path.{_≡_, sym, _∙_, subst₂}
+use mathlib.Core.Bool.{Bool, not}
+use mathlib.Core.Path.{sym, ap, _∙_, subst₂}
 use native.Mathlib.Omega.{arith}
 use borrow.Author.Needs.{needs}
+use borrow.Author.Tests.{eq-eqb, ne-eqb}
+use lib.Dec.{eqb}
+use Rattle.rules.specs.declared.LookUp.{LookUp}
 use Rattle.space.proofs.LeaveLaws.{Leaving, leaving-none, leaving-passed, leaving-kept, leaving-done}
 use Rattle.space.proofs.endings.drop_waits.Statement.{statement}
 use Rattle.space.proofs.endings.drop_waits.Tie as tie
 
+abbrev outside : ℕ → LookUp → Bool
+outside t w = not (eqb (w .txn .0) t)
+
 abbrev Inv-loop : tie.InvT-loop
-Inv-loop space₀ id count i₀ n₀ space i n = (i ≤ count) × Leaving (id .0) space₀ space i n
+Inv-loop space₀ id count i₀ n₀ space i n = (i ≤ count) × Leaving (outside (id .0)) space₀ space i n
 
 abbrev μ-loop : tie.MeasureT-loop
 μ-loop space₀ id count i₀ n₀ space i n = count - i
@@ -25,10 +32,10 @@ loop-again c =
     let r = c .before .before .before .wait-at .ensures in (
       omega arith,
       ⊎-elim
-          (λ w. subst₂ (λ x m. Leaving (a .id .0) (a .space .now) x (l .i + 1) m) (sym (w .3 ∙ w .2 .ensures)) (sym (w .4))
-          (leaving-kept (a .id .0) (a .space .now) (l .space) (l .i) (l .n) (l .inv .1) long (omega arith) _ r (w .0 .taken)))
-          (λ w. subst₂ (λ x m. Leaving (a .id .0) (a .space .now) x (l .i + 1) m) (sym (w .1)) (sym (w .2))
-          (leaving-passed (a .id .0) (a .space .now) (l .space) (l .i) (l .n) (l .inv .1) long (omega arith) _ r (w .0 .left)))
+          (λ w. subst₂ (λ x m. Leaving (outside (a .id .0)) (a .space .now) x (l .i + 1) m) (sym (w .3 ∙ w .2 .ensures)) (sym (w .4))
+          (leaving-kept (outside (a .id .0)) (a .space .now) (l .space) (l .i) (l .n) (l .inv .1) long (omega arith) _ r (ap not (ne-eqb _ (a .id .0) (w .0 .taken)))))
+          (λ w. subst₂ (λ x m. Leaving (outside (a .id .0)) (a .space .now) x (l .i + 1) m) (sym (w .1)) (sym (w .2))
+          (leaving-passed (outside (a .id .0)) (a .space .now) (l .space) (l .i) (l .n) (l .inv .1) long (omega arith) _ r (ap not (eq-eqb _ (a .id .0) (w .0 .left)))))
           (c .if1 .came),
     )
 

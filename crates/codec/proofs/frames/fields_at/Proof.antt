@@ -1,0 +1,20 @@
+-- `codec::frames::fields_at` meets its contract. Assumes nothing.
+use mathlib.Core.Path.{refl}
+use Rattle.rules.specs.Frame.{decode}
+use borrow.Author.Needs.{needs}
+use Rattle.codec.proofs.frames.fields_at.Statement.{statement}
+use Rattle.codec.proofs.frames.fields_at.Tie as tie
+
+returns : tie.Need-returns
+unfolding decode
+returns c = rw (c .before .before .before .number-at .ensures, c .before .before .number-at2 .ensures, c .before .number-at3 .ensures, c .number-at4 .ensures)
+
+pub fields-at-spec : {M : Type 1} → statement M
+fields-at-spec =
+    tie.close
+    (tie.spec
+    (λ c κs. search needs)
+    (λ c κs. search needs)
+    (λ c κs. search needs)
+    (λ c κs. search needs)
+    returns)

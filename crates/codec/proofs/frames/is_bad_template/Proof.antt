@@ -1,0 +1,22 @@
+-- `codec::frames::is_bad_template` meets its contract. Assumes nothing.
+use Rattle.rules.specs.Frame.{decode}
+use Rattle.rules.specs.Template.{bit}
+use borrow.Author.Needs.{needs}
+use Rattle.codec.proofs.frames.is_bad_template.Statement.{statement}
+use Rattle.codec.proofs.frames.is_bad_template.Tie as tie
+
+returns : tie.Need-returns
+unfolding decode bit
+returns c = rw (c .before .before .before .is-unasked .ensures, c .before .before .is-unasked2 .ensures, c .before .is-unasked3 .ensures, c .is-unasked4 .ensures, c .before .before .before .before .fields-at .ensures, c .before .before .before .before .before .byte-at .ensures)
+
+pub is-bad-template-spec : {M : Type 1} → statement M
+is-bad-template-spec =
+    tie.close
+    (tie.spec
+    (λ c κs. search needs)
+    (λ c κs. search needs)
+    (λ c κs. search needs)
+    (λ c κs. search needs)
+    (λ c κs. search needs)
+    (λ c κs. search needs)
+    returns)

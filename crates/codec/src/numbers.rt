@@ -1,0 +1,70 @@
+// The numbers that document 01 gives a meaning to.
+
+// Operations: byte 0 of a frame.
+pub const OP_WRITE: u8 = 1;
+
+pub const OP_READ: u8 = 2;
+
+pub const OP_TAKE_IF_EXISTS: u8 = 5;
+
+pub const OP_CREATE: u8 = 6;
+
+pub const OP_COMMIT: u8 = 7;
+
+pub const OP_ABORT: u8 = 8;
+
+pub const OP_TICK: u8 = 9;
+
+// Kinds: byte 0 of an answer record.
+pub const KIND_WRITTEN: u8 = 1;
+
+pub const KIND_FOUND: u8 = 2;
+
+pub const KIND_NOTHING: u8 = 3;
+
+pub const KIND_WAITING: u8 = 4;
+
+pub const KIND_CREATED: u8 = 5;
+
+pub const KIND_COMMITTED: u8 = 6;
+
+pub const KIND_ABORTED: u8 = 7;
+
+pub const KIND_EXCEPTION: u8 = 8;
+
+pub const KIND_TICKED: u8 = 9;
+
+pub const KIND_REFUSED: u8 = 15;
+
+// Refusals: 1 to 14 judge a frame, 15 and 16 a tray.
+pub const AREA_REFUSED: u8 = 1;
+
+pub const OPERATION_REFUSED: u8 = 2;
+
+pub const LENGTH_REFUSED: u8 = 3;
+
+pub const FORM_REFUSED: u8 = 4;
+
+pub const PARTY_REFUSED: u8 = 5;
+
+pub const WAITING_REFUSED: u8 = 6;
+
+pub const NOT_LIVE_REFUSED: u8 = 7;
+
+pub const NOT_OWN_REFUSED: u8 = 8;
+
+pub const LEASE_REFUSED: u8 = 9;
+
+pub const CLOCK_REFUSED: u8 = 10;
+
+pub const ENTRIES_REFUSED: u8 = 11;
+
+pub const TXNS_REFUSED: u8 = 12;
+
+pub const NUMBER_REFUSED: u8 = 13;
+
+pub const WAITS_REFUSED: u8 = 14;
+
+pub const TRAY_REFUSED: u8 = 15;
+
+pub const PAIRS_REFUSED: u8 = 16;

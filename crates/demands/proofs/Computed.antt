@@ -1,0 +1,26 @@
+-- All rules at once: whoever unfolds `all-rules` has the rules computed.
+use Rattle.rules.specs.Time.{until, reached}
+use Rattle.rules.specs.Template.{bit, matches}
+use Rattle.rules.specs.Holds.{liveTxn, addReader, dropReader, readByOther, visible, available, conflicts}
+use Rattle.rules.specs.Frame.{numberAt, decode, frameLength}
+use Rattle.rules.specs.Records.{written, found, nothing, waiting, created, committed, aborted, exception, ticked}
+use Rattle.rules.specs.Records.{refused}
+use Rattle.rules.specs.LookUp.{lookUpOf, removes, withHold, marked, handOut, givesNothing, mustWait, answerFound}
+use Rattle.rules.specs.LookUp.{answerNothing, answerWaiting, answer, lookUp}
+use Rattle.rules.specs.Transactions.{freeSlot, create, released, withoutTxn, commit, abort}
+use Rattle.rules.specs.Service.{serve, service}
+use Rattle.rules.specs.Tick.{endedTxns, abortAll, dropEnded, closeWaits, tick}
+use Rattle.rules.specs.Refusals.{noOperation, wrongLength, malformed, wrongParty, partyWaits, notLive, notOwn, noLease}
+use Rattle.rules.specs.Refusals.{tooLate, entriesFull, txnsFull, noNumber, waitsFull, refusal}
+use Rattle.rules.specs.Step.{newEntry, stored, write, commitFrame, abortFrame, carriedOut, refusedWith, accepted, step}
+use Rattle.rules.specs.Tray.{pairsOf, pairs, badTray, badPairs, trayRefusal, frameAt, runFrames, runPairs, runTray}
+use Rattle.rules.specs.Tray.{hostNumber}
+
+unfoldable pub all-rules : Unit {0}
+unfolding until reached bit matches liveTxn addReader dropReader readByOther visible available conflicts numberAt decode frameLength written found nothing waiting created committed aborted exception ticked refused lookUpOf removes withHold marked handOut givesNothing mustWait answerFound answerNothing answerWaiting answer lookUp freeSlot create released withoutTxn commit abort serve service endedTxns abortAll dropEnded closeWaits tick noOperation wrongLength malformed wrongParty partyWaits notLive notOwn noLease tooLate entriesFull txnsFull noNumber waitsFull refusal newEntry stored write commitFrame abortFrame carriedOut refusedWith accepted step
+all-rules = tt
+
+-- and the trays'
+unfoldable pub all-trays : Unit {0}
+unfolding all-rules pairsOf pairs badTray badPairs trayRefusal frameAt runFrames runPairs runTray hostNumber
+all-trays = tt

@@ -1,0 +1,80 @@
+-- What else holds of every space that frames make: capacities, numbers in order, two sentences on holds, and that
+-- records fit their bytes.
+use Prim.Native.Nat.{ℕ, _≤_, _<_}
+use mathlib.Core.Bool.{true, false}
+use mathlib.Core.Path.{_≡_}
+use mathlib.Core.Logic.{_↔_}
+use mathlib.Core.List.{List, [], _∷_, map, List·Memᴰ}
+use lib.ListN.{length}
+use Rattle.rules.specs.declared.Entry.{Entry}
+use Rattle.rules.specs.declared.LookUp.{LookUp}
+use Rattle.rules.specs.declared.Record.{Record}
+use Rattle.rules.specs.declared.Txn.{Txn}
+use Rattle.rules.specs.declared.Until.{Until}
+use Rattle.rules.specs.declared.Until.the-variants.{Tick, Forever}
+use Rattle.rules.specs.Numbers.{lastClock}
+use Rattle.rules.specs.Template.{bit}
+use Rattle.rules.specs.State.{Model, Bounded}
+use Rattle.rules.specs.Holds.{readByOther, available, conflicts}
+use Rattle.demands.specs.Machine.{Machine}
+use Rattle.demands.specs.History.{Logged, recordsOf, Made}
+
+-- each number is below all that stand after it
+unfoldable pub Ascending : List ℕ → Type 0
+Ascending [] = Unit {0}
+Ascending (n ∷ ns) = ((k : ℕ) → List·Memᴰ k ns → n < k) × Ascending ns
+
+-- the entries and the live transactions stand by number, none twice
+pub record ByNumber (m : Model) : Type 0 where
+  pub entries : Ascending (map (λ (e : Entry). e .id .0) (m .entries))
+  pub txns : Ascending (map (λ (t : Txn). t .id .0) (m .txns))
+
+-- "no live transaction other than its own holds a read on it": what the rules tell by bits
+abbrev pub ReadByLive : Model → Type 0
+ReadByLive m = (e : Entry) (t : ℕ) → List·Memᴰ e (m .entries)
+    → (readByOther (m .txns) t e ≡ true)
+    ↔ ((x : Txn) × List·Memᴰ x (m .txns) × (x .id .0 ≡ t → ⊥) × (bit (x .slot) (e .readers) ≡ true))
+
+-- "T's own take hold makes an entry neither available nor conflicting."
+abbrev pub OwnTakeHold : Model → Type 0
+OwnTakeHold m = (w : LookUp) (e : Entry) → List·Memᴰ e (m .entries) → 0 < w .txn .0 → e .«taken_by» .0 ≡ w .txn .0
+    → (available (m .txns) w e ≡ false) × (conflicts (m .txns) w e ≡ false)
+
+-- the clock, and each end and deadline that is not FOREVER, are at most the last clock
+abbrev pub EndFits : Until → Type 0
+EndFits (Tick n) = n ≤ lastClock
+EndFits Forever = Unit {0}
+
+pub record Timely (m : Model) : Type 0 where
+  pub clock : m .clock ≤ lastClock
+  pub entries : (e : Entry) → List·Memᴰ e (m .entries) → EndFits (e .end)
+  pub txns : (t : Txn) → List·Memᴰ t (m .txns) → EndFits (t .end)
+  pub waits : (w : LookUp) → List·Memᴰ w (m .waits) → EndFits (w .deadline)
+
+-- a record's numbers fit their bytes
+pub record InRange (r : Record) : Type 0 where
+  pub kind : r .kind < 256
+  pub party : r .party < 256
+  pub refusal : r .refusal < 256
+  pub txn : r .txn .0 < 4294967296
+  pub entry : r .entry .0 < 4294967296
+  pub field-kind : r .fields .kind < 4294967296
+  pub field-side : r .fields .side < 4294967296
+  pub field-image : r .fields .image < 4294967296
+  pub field-place : r .fields .place < 4294967296
+
+abbrev pub AllInRange : List Record → Type 0
+AllInRange rs = (r : Record) → List·Memᴰ r rs → InRange r
+
+abbrev pub AreBytes : List ℕ → Type 0
+AreBytes bs = (b : ℕ) → List·Memᴰ b bs → b < 256
+
+pub record Bounds (S : Machine) : Type 0 where
+  pub capacities : (log : List Logged) (t : S .State) → Made S log t → Bounded (S .view t)
+  pub by-number : (log : List Logged) (t : S .State) → Made S log t → ByNumber (S .view t)
+  pub timely : (log : List Logged) (t : S .State) → Made S log t → Timely (S .view t)
+  pub read-by-live : (log : List Logged) (t : S .State) → Made S log t → ReadByLive (S .view t)
+  pub own-take-hold : (log : List Logged) (t : S .State) → Made S log t → OwnTakeHold (S .view t)
+  -- where frames are bytes, every record of a history fits its 28 bytes
+  pub in-range : (log : List Logged) (t : S .State) → Made S log t
+      → ((l : Logged) → List·Memᴰ l log → AreBytes (l .frame)) → AllInRange (recordsOf log)

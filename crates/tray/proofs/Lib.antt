@@ -1,0 +1,4 @@
+-- Proofs of the tray runner.
+pub mod RunLaws
+pub mod PairLaws
+pub mod RunningLaws
