@@ -8,7 +8,6 @@ ghost use Rattle.rules.specs.Holds.{liveTxn};
 ghost use Rattle.rules.specs.LookUp.{lookUpOf, givesNothing, answer, lookUp};
 ghost use Rattle.rules.specs.Frame.{isLookUp};
 ghost use Rattle.rules.specs.Numbers.{stepArea, waitsRefused};
-ghost use Rattle.rules.specs.Records.{written};
 ghost use Rattle.rules.specs.Refusals.{waitsFull};
 ghost use Rattle.rules.specs.Requests.{frameOf};
 ghost use Rattle.rules.specs.Service.{service};
@@ -22,7 +21,6 @@ ghost use Rattle.space.specs.Outcome.{Ends};
 ghost use Rattle.space.specs.Rows.{Holds};
 ghost use Rattle.space.specs.Time.{InTime};
 use crate::answers::add_record;
-use crate::answers::plain_record;
 use crate::endings::abort_txn;
 use crate::endings::commit_txn;
 use crate::find::Match;
@@ -41,9 +39,10 @@ use crate::sweep::hand_out;
 use crate::time::end_of;
 use crate::txns::create_txn;
 use codec::records::found_record;
+use codec::records::plain_record;
+use codec::records::written_record;
 use rules::Entry;
 use rules::EntryId;
-use rules::Fields;
 use rules::FindRequest;
 use rules::LookUp;
 use rules::Record;
@@ -119,25 +118,6 @@ pub(crate) fn store(space: &mut Words, w: WriteRequest)
         },
     );
     set_next_entry(space, n + 1);
-}
-
-pub(crate) fn written_record(w: WriteRequest, n: EntryId) -> Record
-    ensures { λ r. ⌜ r ≡ written (frameOf (Request.Write w)) (n .0) ⌝ }
-{
-    let txn = w.txn;
-    Record {
-        kind: 1,
-        party: w.party,
-        refusal: 0,
-        txn,
-        entry: n,
-        fields: Fields {
-            kind: 0,
-            side: 0,
-            image: 0,
-            place: 0,
-        },
-    }
 }
 
 pub(crate) fn write(space: &mut Words, answers: &mut [u8], w: WriteRequest) -> usize

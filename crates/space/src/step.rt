@@ -24,15 +24,11 @@ use crate::apply::find;
 use crate::apply::write;
 use crate::judge::judge;
 use crate::rows::Words;
-use codec::decode;
-use codec::party_of;
 use crate::tick::tick;
+use codec::decode;
+use codec::records::refused_record;
 use rules::Decoded;
-use rules::EntryId;
-use rules::Fields;
-use rules::Record;
 use rules::Request;
-use rules::TxnId;
 
 // What a request does that the refusals 6 to 13 let pass.
 pub(crate) fn carry_out(space: &mut Words, answers: &mut [u8], q: Request) -> Outcome
@@ -70,25 +66,6 @@ pub(crate) fn take_frame(space: &mut Words, frame: &[u8], answers: &mut [u8]) ->
     match asked {
         Decoded::Asks(q) => take_up(space, answers, q),
         Decoded::Refused(n) => Outcome::Refused(n),
-    }
-}
-
-// The record of a refused frame.
-pub(crate) fn refused_record(frame: &[u8], n: u8) -> Record
-    ensures { λ r. ⌜ r ≡ refused (now (frame .entry)) n ⌝ }
-{
-    Record {
-        kind: 15,
-        party: party_of(frame),
-        refusal: n,
-        txn: TxnId(0),
-        entry: EntryId(0),
-        fields: Fields {
-            kind: 0,
-            side: 0,
-            image: 0,
-            place: 0,
-        },
     }
 }
 

@@ -20,7 +20,11 @@ create-txn-requires c κs =
     let a = c .before .before .args in
     let m = view (a .space .now) in
     let p = c .before .before .pre .0 in
-    (create-in-time m (a .party) (a .lease) p, create-room m (a .party) (a .lease) p, create-number m (a .party) (a .lease) p)
+    record {
+      in-time = create-in-time m (a .party) (a .lease) p;
+      room = create-room m (a .party) (a .lease) p;
+      number = create-number m (a .party) (a .lease) p;
+    }
 
 returns : tie.Need-returns
 unfolding create created
