@@ -3,11 +3,32 @@ ghost use mathlib.Core.Path.{_≡_};
 ghost use mathlib.Core.List.{[], _∷_};
 ghost use Prim.Native.Nat.{_+_, _≤_};
 ghost use lib.ListN.{length};
-ghost use Rattle.rules.specs.Records.{fourBytes, found};
+ghost use Rattle.rules.specs.Records.{noFields, fourBytes, plain, written, found, refused};
+ghost use Rattle.rules.specs.declared.Request.the-variants.{Write};
+ghost use Rattle.rules.specs.Requests.{frameOf};
 ghost use Rattle.codec.specs.Area.{over, recordPut};
+use crate::frames::party_of;
+use crate::numbers::KIND_FOUND;
+use crate::numbers::KIND_REFUSED;
+use crate::numbers::KIND_WRITTEN;
 use rules::Entry;
+use rules::EntryId;
+use rules::Fields;
 use rules::LookUp;
 use rules::Record;
+use rules::TxnId;
+use rules::WriteRequest;
+
+fn no_fields() -> Fields
+    ensures { λ r. ⌜ r ≡ noFields ⌝ }
+{
+    Fields {
+        kind: 0,
+        side: 0,
+        image: 0,
+        place: 0,
+    }
+}
 
 // Four bytes, from `at` on.
 fn put_four(out: &mut [u8], at: usize, a: u8, b: u8, c: u8, d: u8)
@@ -48,7 +69,39 @@ pub fn put_record(out: &mut [u8], r: Record)
     put_number(out, 24, r.fields.place);
 }
 
-// An entry, handed out to a look-up.
+// A record with no entry: every kind but written, found and refused.
+pub fn plain_record(kind: u8, party: u8, txn: TxnId) -> Record
+    ensures { λ r. ⌜ r ≡ plain kind party (txn .0) ⌝ }
+{
+    let entry = EntryId(0);
+    let fields = no_fields();
+    Record {
+        kind,
+        party,
+        refusal: 0,
+        txn,
+        entry,
+        fields,
+    }
+}
+
+// An entry has been written, with this number.
+pub fn written_record(w: WriteRequest, entry: EntryId) -> Record
+    ensures { λ r. ⌜ r ≡ written (frameOf (Write w)) (entry .0) ⌝ }
+{
+    let txn = w.txn;
+    let fields = no_fields();
+    Record {
+        kind: KIND_WRITTEN,
+        party: w.party,
+        refusal: 0,
+        txn,
+        entry,
+        fields,
+    }
+}
+
+// An entry is handed out to a look-up.
 pub fn found_record(w: LookUp, e: Entry) -> Record
     ensures { λ r. ⌜ r ≡ found w e ⌝ }
 {
@@ -56,9 +109,26 @@ pub fn found_record(w: LookUp, e: Entry) -> Record
     let entry = e.id;
     let fields = e.fields;
     Record {
-        kind: 2,
+        kind: KIND_FOUND,
         party: w.party,
         refusal: 0,
+        txn,
+        entry,
+        fields,
+    }
+}
+
+// A frame is refused.
+pub fn refused_record(frame: &[u8], refusal: u8) -> Record
+    ensures { λ r. ⌜ r ≡ refused (now (frame .entry)) refusal ⌝ }
+{
+    let txn = TxnId(0);
+    let entry = EntryId(0);
+    let fields = no_fields();
+    Record {
+        kind: KIND_REFUSED,
+        party: party_of(frame),
+        refusal,
         txn,
         entry,
         fields,

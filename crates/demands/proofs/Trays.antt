@@ -19,7 +19,6 @@ use Rattle.rules.proofs.StepCases.{cond-cases, or-left, or-right}
 use Rattle.demands.specs.Machine.{Handed, Stepped, answeredBy, theRules}
 use Rattle.demands.specs.History.{Logged, recordsOf, History, begun, handed}
 use Rattle.rules.specs.State.{Bounded}
-
 use Rattle.demands.specs.Trays.{HandedIn, none-left, one-more, TrayHistory, TraysAreHistories, ReadBack}
 use Rattle.demands.specs.Trays.{NumbersAreReadBack}
 use Rattle.rules.proofs.Capacity.{step-fits}

@@ -1,17 +1,19 @@
 -- `codec::frames::decode_write` meets its contract. Assumes nothing.
-use mathlib.Core.Path.{sym, _∙_}
+use mathlib.Core.Path.{refl, sym, _∙_}
 use borrow.Author.Needs.{needs}
 use Rattle.codec.proofs.RequestLaws.{refused, write-asks}
 use Rattle.codec.proofs.frames.decode_write.Statement.{statement}
 use Rattle.codec.proofs.frames.decode_write.Tie as tie
 
 returns : tie.Need-returns
-returns c = refused _ _ (c .before .form-refusal .ensures) (c .if1 .taken)
+returns c = (refused _ _ (c .before .form-refusal .ensures) (c .if1 .taken), refl)
 
 returns-2 : tie.Need-returns-2
-returns-2 c =
-    rw (c .before .party-of .ensures, c .before .before .before .number-at .ensures, c .number-at2 .ensures, c .before .before .fields-at .ensures)
-    (write-asks _ (sym (c .before .before .before .before .before .form-refusal .ensures) ∙ c .before .before .before .before .if1 .left) (c .before .before .before .before .before .before .before .pre))
+returns-2 c = (
+  rw (c .before .party-of .ensures, c .before .before .before .number-at .ensures, c .number-at2 .ensures, c .before .before .fields-at .ensures)
+      (write-asks _ (sym (c .before .before .before .before .before .form-refusal .ensures) ∙ c .before .before .before .before .if1 .left) (c .before .before .before .before .before .before .before .pre)),
+  refl,
+)
 
 pub decode-write-spec : {M : Type 1} → statement M
 decode-write-spec =
