@@ -3,3 +3,4 @@ pub mod RunLaws
 pub mod PairLaws
 pub mod RunningLaws
 pub mod JudgeLaws
+pub mod TrayLaws
