@@ -21,7 +21,8 @@ verdict tray = badPairs (pairsEnd tray) (length tray) (pairs tray)
 pub few-frames : (tray : List ℕ) → badTray tray ≡ false → frameCount tray ≤ 2000
 unfolding badTray
 few-frames tray e =
-    ltb-false 2000 (frameCount tray) (or-right (ltb (length tray) 4 || ltb 65536 (length tray)) _ (or-left _ (ltb (length tray) (pairsEnd tray)) e))
+    ltb-false 2000 (frameCount tray)
+    (or-right (ltb (length tray) 4 || ltb 65536 (length tray)) _ (or-left _ (ltb (length tray) (pairsEnd tray)) e))
 
 -- i pairs have been judged, and what is free begins at `free`
 pub record Judging (tray : List ℕ) (count free i : ℕ) : Type 0 where
@@ -30,7 +31,8 @@ pub record Judging (tray : List ℕ) (count free i : ℕ) : Type 0 where
   pub low : i ≤ count
   pub rest : verdict tray ≡ badPairs free (length tray) (pairsOf (count - i) (drop (4 + 8 * i) tray))
 
-pub judging-none : (tray : List ℕ) (count : ℕ) → badTray tray ≡ false → count ≡ frameCount tray → Judging tray count (4 + 8 * count) 0
+pub judging-none : (tray : List ℕ) (count : ℕ) → badTray tray ≡ false → count ≡ frameCount tray
+    → Judging tray count (4 + 8 * count) 0
 unfolding pairs
 judging-none tray count e q =
     record {
@@ -43,9 +45,14 @@ judging-none tray count e q =
           ap₂ (λ f n. badPairs f (length tray) (pairsOf n (drop 4 tray))) first all;
     }
 
-module _ (tray : List ℕ) (count free i offset size : ℕ) (j : Judging tray count free i) (l : i < count) (p : offset ≡ numberAt tray (4 + 8 * i)) (q : size ≡ numberAt tray (8 + 8 * i)) where
+module _ (tray : List ℕ) (count free i offset size : ℕ) (j : Judging tray count free i) (l : i < count)
+    (p : offset ≡ numberAt tray (4 + 8 * i)) (q : size ≡ numberAt tray (8 + 8 * i)) where
+  rest-of : List Pair
+  rest-of = pairsOf (count - (i + 1)) (drop (4 + 8 * (i + 1)) tray)
+
   -- the next pair, and the rest
-  next : pairsOf (count - i) (drop (4 + 8 * i) tray) ≡ record { offset = offset; size = size } ∷ pairsOf (count - (i + 1)) (drop (4 + 8 * (i + 1)) tray)
+  next : pairsOf (count - i) (drop (4 + 8 * i) tray) ≡ record { offset = offset; size = size } ∷ rest-of
+  unfolding rest-of
   next =
       let one : count - i ≡ suc (count - (i + 1)) = omega arith in
       let at : 4 + 8 * i + 0 ≡ 4 + 8 * i = omega arith in
@@ -54,10 +61,13 @@ module _ (tray : List ℕ) (count free i offset size : ℕ) (j : Judging tray co
       ap (λ n. pairsOf n (drop (4 + 8 * i) tray)) one
       ∙ pairs-next (count - (i + 1)) (drop (4 + 8 * i) tray)
       ∙ ap₂ (λ (x : Pair) (ps : List Pair). x ∷ ps)
-      (ap₂ (λ (x y : ℕ). record { offset = x; size = y }) (number-drop (4 + 8 * i) tray 0 ∙ ap (numberAt tray) at ∙ sym p) (number-drop (4 + 8 * i) tray (0 + 4) ∙ ap (numberAt tray) behind ∙ sym q))
+      (ap₂ (λ (x y : ℕ). record { offset = x; size = y })
+      (number-drop (4 + 8 * i) tray 0 ∙ ap (numberAt tray) at ∙ sym p)
+      (number-drop (4 + 8 * i) tray (0 + 4) ∙ ap (numberAt tray) behind ∙ sym q))
       (ap (pairsOf (count - (i + 1))) (drop-drop 8 (4 + 8 * i) tray ∙ ap (λ n. drop n tray) on))
 
-  so-far : verdict tray ≡ (ltb offset free || ltb (length tray) (offset + size) || badPairs (offset + size) (length tray) (pairsOf (count - (i + 1)) (drop (4 + 8 * (i + 1)) tray)))
+  so-far : verdict tray
+      ≡ (ltb offset free || ltb (length tray) (offset + size) || badPairs (offset + size) (length tray) rest-of)
   unfolding badPairs
   so-far = j .rest ∙ ap (badPairs free (length tray)) next
 
@@ -68,8 +78,14 @@ module _ (tray : List ℕ) (count free i offset size : ℕ) (j : Judging tray co
   runs-past f h = so-far ∙ rw (le-ltb offset free f, lt-ltb (length tray) (offset + size) h)
 
   pub judging-more : free ≤ offset → offset + size ≤ length tray → Judging tray count (offset + size) (i + 1)
+  unfolding rest-of
   judging-more f h =
-      record { few = j .few; counts = j .counts; low = omega arith; rest = so-far ∙ rw (le-ltb offset free f, le-ltb (length tray) (offset + size) h) }
+      record {
+        few = j .few;
+        counts = j .counts;
+        low = omega arith;
+        rest = so-far ∙ rw (le-ltb offset free f, le-ltb (length tray) (offset + size) h);
+      }
 
 pub judging-all : (tray : List ℕ) (count free i : ℕ) → Judging tray count free i → count ≤ i → verdict tray ≡ false
 unfolding badPairs pairsOf

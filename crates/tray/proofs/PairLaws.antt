@@ -29,7 +29,8 @@ number-drop n bs j =
 
 pub pair-drop : (n : ℕ) (bs : List ℕ) (j : ℕ) → pairFrom (drop n bs) j ≡ pairFrom bs (n + j)
 pair-drop n bs j =
-    ap₂ (λ (x y : ℕ). record { offset = x; size = y }) (number-drop n bs j) (number-drop n bs (j + 4) ∙ ap (numberAt bs) (omega arith))
+    ap₂ (λ (x y : ℕ). record { offset = x; size = y }) (number-drop n bs j)
+    (number-drop n bs (j + 4) ∙ ap (numberAt bs) (omega arith))
 
 pub pairs-length : (n : ℕ) (bs : List ℕ) → length (pairsOf n bs) ≡ n
 unfolding pairsOf
@@ -55,6 +56,8 @@ pub pair-in : (before size : ℕ) (ps : List Pair) (k : ℕ) (d : Pair) → badP
 unfolding badPairs
 pair-in before size [] k d e h = absurd (omega arith)
 pair-in before size (p ∷ ps) zero d e h =
-    ltb-false size (p .offset + p .size) (or-right (ltb (p .offset) before) _ (or-left _ (badPairs (p .offset + p .size) size ps) e))
+    ltb-false size (p .offset + p .size) (or-right (ltb (p .offset) before) _
+    (or-left _ (badPairs (p .offset + p .size) size ps) e))
 pair-in before size (p ∷ ps) (suc k) d e h =
-    pair-in (p .offset + p .size) size ps k d (or-right (ltb (p .offset) before || ltb size (p .offset + p .size)) _ e) (omega arith)
+    pair-in (p .offset + p .size) size ps k d
+    (or-right (ltb (p .offset) before || ltb size (p .offset + p .size)) _ e) (omega arith)

@@ -21,7 +21,8 @@ pub after : List (ℕ → ℕ) → (ℕ → ℕ → ℕ) → ℕ → ℕ → ℕ
 after [] more = more
 after (c ∷ cs) more = ahead c (after cs more)
 
-after-append : (cs : List (ℕ → ℕ)) (c : ℕ → ℕ) (more : ℕ → ℕ → ℕ) → after (cs ++ (c ∷ [])) more ≡ after cs (ahead c more)
+after-append : (cs : List (ℕ → ℕ)) (c : ℕ → ℕ) (more : ℕ → ℕ → ℕ)
+    → after (cs ++ (c ∷ [])) more ≡ after cs (ahead c more)
 unfolding after
 after-append [] c more = refl
 after-append (d ∷ cs) c more = ap (ahead d) (after-append cs c more)
@@ -31,15 +32,18 @@ pub before : ℕ → List Record → TrayOutcome → TrayOutcome
 before k rs o = record { frames = k + o .frames; records = rs ++ o .records; number = o .number }
 
 outcome : {j k n : ℕ} {rs qs : List Record} → j ≡ k → rs ≡ qs
-    → _≡_ {A = TrayOutcome} (record { frames = j; records = rs; number = n }) (record { frames = k; records = qs; number = n })
+    → _≡_ {A = TrayOutcome}
+    (record { frames = j; records = rs; number = n }) (record { frames = k; records = qs; number = n })
 outcome {j} {k} {n} {rs} {qs} e q =
-    ap (λ (x : ℕ). record { frames = x; records = rs; number = n }) e ∙ ap (λ (x : List Record). record { frames = k; records = x; number = n }) q
+    ap (λ (x : ℕ). record { frames = x; records = rs; number = n }) e
+    ∙ ap (λ (x : List Record). record { frames = k; records = x; number = n }) q
 
 -- the frames fs have been done with an area of `size` bytes: the space is m, and the records rs stand in the area
 pub record Ran (fs : List (List ℕ)) (size : ℕ) (m : Model) (rs : List Record) : Type 0 where
   pub choices : List (ℕ → ℕ)
   pub run : (gs : List (List ℕ)) (more : ℕ → ℕ → ℕ)
-      → runFrames (after choices more) empty size (fs ++ gs) ≡ before (length fs) rs (runFrames more m (size - 28 * length rs) gs)
+      → runFrames (after choices more) empty size (fs ++ gs)
+      ≡ before (length fs) rs (runFrames more m (size - 28 * length rs) gs)
 
 pub ran-none : (size : ℕ) → Ran [] size empty []
 unfolding after before
@@ -52,8 +56,10 @@ ran-none size =
     }
 
 -- one frame more
-pub ran-more : (fs : List (List ℕ)) (size : ℕ) (m : Model) (rs : List Record) (f : List ℕ) (c : ℕ → ℕ) → Ran fs size m rs → 28 * length rs + 700 ≤ size
-    → Ran (fs ++ (f ∷ [])) size (step c m f (size - 28 * length rs) .model) (rs ++ step c m f (size - 28 * length rs) .records)
+pub ran-more : (fs : List (List ℕ)) (size : ℕ) (m : Model) (rs : List Record) (f : List ℕ) (c : ℕ → ℕ)
+    → Ran fs size m rs → 28 * length rs + 700 ≤ size
+    → Ran (fs ++ (f ∷ [])) size
+    (step c m f (size - 28 * length rs) .model) (rs ++ step c m f (size - 28 * length rs) .records)
 unfolding runFrames before ahead
 ran-more fs size m rs f c r h =
     record {
@@ -68,12 +74,17 @@ ran-more fs size m rs f c r h =
     one : (gs : List (List ℕ)) (more : ℕ → ℕ → ℕ)
         → before (length fs) rs (runFrames (ahead c more) m (size - 28 * length rs) (f ∷ gs))
         ≡ before (length (fs ++ (f ∷ []))) (rs ++ step c m f (size - 28 * length rs) .records)
-        (runFrames more (step c m f (size - 28 * length rs) .model) (size - 28 * length (rs ++ step c m f (size - 28 * length rs) .records)) gs)
+        (runFrames more (step c m f (size - 28 * length rs) .model)
+        (size - 28 * length (rs ++ step c m f (size - 28 * length rs) .records)) gs)
     one gs more =
         let o = step c m f (size - 28 * length rs) in
-        let n : size - 28 * length (rs ++ o .records) ≡ size - 28 * length rs - 28 * length (o .records) = omega (arith, length-append rs (o .records)) in
-        ap (λ b. before (length fs) rs (cond b (stopped 1) (record { frames = suc (runFrames more (o .model) (size - 28 * length rs - 28 * length (o .records)) gs .frames); records = o .records ++ runFrames more (o .model) (size - 28 * length rs - 28 * length (o .records)) gs .records; number = runFrames more (o .model) (size - 28 * length rs - 28 * length (o .records)) gs .number })))
-        (le-ltb (size - 28 * length rs) 700 (omega arith))
+        let left = size - 28 * length rs in
+        let q = runFrames more (o .model) (left - 28 * length (o .records)) gs in
+        let done : TrayOutcome =
+        record { frames = suc (q .frames); records = o .records ++ q .records; number = q .number } in
+        let n : size - 28 * length (rs ++ o .records) ≡ left - 28 * length (o .records) =
+        omega (arith, length-append rs (o .records)) in
+        ap (λ b. before (length fs) rs (cond b (stopped 1) done)) (le-ltb left 700 (omega arith))
         ∙ outcome (omega (arith, length-append fs (f ∷ []))) (sym (append-assoc rs (o .records) _))
         ∙ ap (λ k. before (length (fs ++ (f ∷ []))) (rs ++ o .records) (runFrames more (o .model) k gs)) (sym n)
 
@@ -82,16 +93,21 @@ pub ran-all : (fs : List (List ℕ)) (size : ℕ) (m : Model) (rs : List Record)
     → runFrames (after (r .choices) more) empty size fs ≡ record { frames = length fs; records = rs; number = 0 }
 unfolding runFrames before
 ran-all fs size m rs more r =
-    ap (runFrames (after (r .choices) more) empty size) (sym (append-nil fs)) ∙ r .run [] more ∙ outcome (omega arith) (append-nil rs)
+    ap (runFrames (after (r .choices) more) empty size) (sym (append-nil fs))
+    ∙ r .run [] more
+    ∙ outcome (omega arith) (append-nil rs)
 
-stops : (choices : ℕ → ℕ → ℕ) (m : Model) (size : ℕ) (g : List ℕ) (gs : List (List ℕ)) → size < 700 → runFrames choices m size (g ∷ gs) ≡ stopped 1
+stops : (choices : ℕ → ℕ → ℕ) (m : Model) (size : ℕ) (g : List ℕ) (gs : List (List ℕ)) → size < 700
+    → runFrames choices m size (g ∷ gs) ≡ stopped 1
 unfolding runFrames
 stops choices m size g gs h = rw (lt-ltb size 700 h)
 
 -- it stops with 1 before a frame for which under 700 bytes are left
-pub ran-stops : (fs gs : List (List ℕ)) (g : List ℕ) (size : ℕ) (m : Model) (rs : List Record) (more : ℕ → ℕ → ℕ) (r : Ran fs size m rs)
+pub ran-stops : (fs gs : List (List ℕ)) (g : List ℕ) (size : ℕ) (m : Model) (rs : List Record) (more : ℕ → ℕ → ℕ)
+    (r : Ran fs size m rs)
     → size < 28 * length rs + 700
-    → runFrames (after (r .choices) more) empty size (fs ++ (g ∷ gs)) ≡ record { frames = length fs; records = rs; number = 1 }
+    → runFrames (after (r .choices) more) empty size (fs ++ (g ∷ gs))
+    ≡ record { frames = length fs; records = rs; number = 1 }
 unfolding runFrames before
 ran-stops fs gs g size m rs more r h =
     r .run (g ∷ gs) more

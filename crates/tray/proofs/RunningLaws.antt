@@ -31,10 +31,12 @@ frames-length tray = length-map (pairs tray) (frameAt tray) ∙ pairs-length (fr
 abbrev pub placeOf : List ℕ → ℕ → Pair
 placeOf tray k = pairFrom (drop 4 tray) (8 * k)
 
-frame-at : (tray : List ℕ) (k : ℕ) → k < frameCount tray → getD (framesOf tray) k (frameAt tray (placeOf tray k)) ≡ frameAt tray (placeOf tray k)
+frame-at : (tray : List ℕ) (k : ℕ) → k < frameCount tray
+    → getD (framesOf tray) k (frameAt tray (placeOf tray k)) ≡ frameAt tray (placeOf tray k)
 unfolding pairs
 frame-at tray k h =
-    List·getD-map (frameAt tray) (pairs tray) k (placeOf tray k) ∙ ap (frameAt tray) (pair-at (frameCount tray) k (drop 4 tray) (placeOf tray k) h)
+    List·getD-map (frameAt tray) (pairs tray) k (placeOf tray k)
+    ∙ ap (frameAt tray) (pair-at (frameCount tray) k (drop 4 tray) (placeOf tray k) h)
 
 -- k frames are done: n records stand in the area, and the space's words are ws
 pub record Running (tray a₀ ws a : List ℕ) (k n : ℕ) : Type 0 where
@@ -58,20 +60,23 @@ running-none tray a ws e =
     }
 
 pub running-length : (tray a₀ ws a : List ℕ) (k n : ℕ) → Running tray a₀ ws a k n → length a ≡ length a₀
-running-length tray a₀ ws a k n r = ap length (r .area) ∙ area-length (r .records) a₀ (omega (arith, r .room, r .counts))
+running-length tray a₀ ws a k n r =
+    ap length (r .area) ∙ area-length (r .records) a₀ (omega (arith, r .room, r .counts))
 
 -- one frame more, run in the part of the area behind the records
-pub running-more : (tray a₀ ws a ws′ a′ frame part part′ : List ℕ) (k n returned : ℕ) → Running tray a₀ ws a k n → k < frameCount tray
-    → 28 * n + 700 ≤ length a₀
-    → frame ≡ frameAt tray (placeOf tray k) → part ≡ drop (28 * n) a → Stepped ws frame part ws′ returned part′ → a′ ≡ take (28 * n) a ++ part′
+pub running-more : (tray a₀ ws a ws′ a′ frame part part′ : List ℕ) (k n returned : ℕ) → Running tray a₀ ws a k n
+    → k < frameCount tray → 28 * n + 700 ≤ length a₀ → frame ≡ frameAt tray (placeOf tray k) → part ≡ drop (28 * n) a
+    → Stepped ws frame part ws′ returned part′ → a′ ≡ take (28 * n) a ++ part′
     → Running tray a₀ ws′ a′ (k + 1) (n + returned % 65536)
 running-more tray a₀ ws a ws′ a′ frame part part′ k n returned r h room q p s e =
     record {
       records = rs ++ x .records;
       ran = subst⁻¹ (λ l. Ran l (length a₀) (view ws′) (rs ++ x .records)) frames
-          (subst⁻¹ (λ m. Ran (take k (framesOf tray) ++ (f ∷ [])) (length a₀) m (rs ++ x .records)) (al .space ∙ ap (λ (o : Outcome). o .model) same)
-          (subst⁻¹ (λ l. Ran (take k (framesOf tray) ++ (f ∷ [])) (length a₀) (step (al .choice) (view ws) f left .model) (rs ++ l)) (al .records ∙ ap (λ (o : Outcome). o .records) same)
-          (ran-more (take k (framesOf tray)) (length a₀) (view ws) rs f (al .choice) (r .ran) (omega (arith, r .counts)))));
+          (subst⁻¹ (λ m. Ran (take k (framesOf tray) ++ (f ∷ [])) (length a₀) m (rs ++ x .records))
+          (al .space ∙ ap (λ (o : Outcome). o .model) same)
+          (subst⁻¹ (λ l. Ran (take k (framesOf tray) ++ (f ∷ [])) (length a₀) (o .model) (rs ++ l))
+          (al .records ∙ ap (λ (o : Outcome). o .records) same)
+          (ran-more (take k (framesOf tray)) (length a₀) (view ws) rs f (al .choice) (r .ran) room′)));
       counts = omega (arith, r .counts, count, length-append rs (x .records));
       area =
           e
@@ -97,14 +102,25 @@ running-more tray a₀ ws a ws′ a′ frame part part′ k n returned r h room 
     left : ℕ
     left = length a₀ - 28 * length rs
 
+    o : Outcome
+    o = step (al .choice) (view ws) f left
+
+    room′ : 28 * length rs + 700 ≤ length a₀
+    room′ = omega (arith, room, r .counts)
+
     size : length part ≡ left
-    size = ap length p ∙ length-drop (28 * n) a ∙ ap₂ (λ x y. x - 28 * y) (running-length tray a₀ ws a k n r) (r .counts)
+    size =
+        ap length p
+        ∙ length-drop (28 * n) a
+        ∙ ap₂ (λ x y. x - 28 * y) (running-length tray a₀ ws a k n r) (r .counts)
 
     same : step (al .choice) (view ws) frame (length part) ≡ step (al .choice) (view ws) f left
     same = ap₂ (λ l j. step (al .choice) (view ws) l j) q size
 
     few : length (x .records) ≤ 25
-    few = omega (arith, ap (λ (l : List Record). length l) (al .records), step-fits (al .choice) (view ws) frame (length part) (view-bounded ws) .1)
+    few =
+        let fits = step-fits (al .choice) (view ws) frame (length part) (view-bounded ws) .1 in
+        omega (arith, ap (λ (l : List Record). length l) (al .records), fits)
 
     count : returned % 65536 ≡ length (x .records)
     count = omega (arith, s .returns, al .count, few)
@@ -120,7 +136,8 @@ running-more tray a₀ ws a ws′ a′ frame part part′ k n returned r h room 
 
 -- the run is over: all frames are done
 pub running-all : (tray a₀ ws a : List ℕ) (n : ℕ) (more : ℕ → ℕ → ℕ) (r : Running tray a₀ ws a (frameCount tray) n)
-    → runFrames (after (r .ran .choices) more) empty (length a₀) (framesOf tray) ≡ record { frames = frameCount tray; records = r .records; number = 0 }
+    → runFrames (after (r .ran .choices) more) empty (length a₀) (framesOf tray)
+    ≡ record { frames = frameCount tray; records = r .records; number = 0 }
 running-all tray a₀ ws a n more r =
     ap (runFrames (after (r .ran .choices) more) empty (length a₀)) (sym whole)
     ∙ ran-all (take (frameCount tray) (framesOf tray)) (length a₀) (view ws) (r .records) more (r .ran)
@@ -130,9 +147,14 @@ running-all tray a₀ ws a n more r =
     whole = take-all (frameCount tray) (framesOf tray) (omega (arith, frames-length tray))
 
 -- it stops before a frame for which under 700 bytes are left
-pub running-stops : (tray a₀ ws a : List ℕ) (k n : ℕ) (more : ℕ → ℕ → ℕ) (r : Running tray a₀ ws a k n) → k < frameCount tray → length a₀ < 28 * n + 700
-    → runFrames (after (r .ran .choices) more) empty (length a₀) (framesOf tray) ≡ record { frames = k; records = r .records; number = 1 }
+pub running-stops : (tray a₀ ws a : List ℕ) (k n : ℕ) (more : ℕ → ℕ → ℕ) (r : Running tray a₀ ws a k n)
+    → k < frameCount tray → length a₀ < 28 * n + 700
+    → runFrames (after (r .ran .choices) more) empty (length a₀) (framesOf tray)
+    ≡ record { frames = k; records = r .records; number = 1 }
 running-stops tray a₀ ws a k n more r h l =
-    ap (runFrames (after (r .ran .choices) more) empty (length a₀)) (split-at (framesOf tray) k [] (omega (arith, frames-length tray)))
-    ∙ ran-stops (take k (framesOf tray)) (drop (suc k) (framesOf tray)) (getD (framesOf tray) k []) (length a₀) (view ws) (r .records) more (r .ran) (omega (arith, r .counts))
-    ∙ ap (λ (j : ℕ). record { frames = j; records = r .records; number = 1 }) (length-take-le k (framesOf tray) (omega (arith, frames-length tray)))
+    ap (runFrames (after (r .ran .choices) more) empty (length a₀))
+    (split-at (framesOf tray) k [] (omega (arith, frames-length tray)))
+    ∙ ran-stops (take k (framesOf tray)) (drop (suc k) (framesOf tray)) (getD (framesOf tray) k []) (length a₀)
+    (view ws) (r .records) more (r .ran) (omega (arith, r .counts))
+    ∙ ap (λ (j : ℕ). record { frames = j; records = r .records; number = 1 })
+    (length-take-le k (framesOf tray) (omega (arith, frames-length tray)))

@@ -8,13 +8,12 @@ use borrow.Author.Tests.{lt-leb}
 use lib.Dec.{leb}
 use lib.ListN.{length, take, drop, length-drop}
 use lib.Seq.{take-all, drop-length}
-use Rattle.rules.specs.declared.Record.{Record}
 use Rattle.rules.specs.State.{empty}
 use Rattle.rules.specs.Frame.{numberAt}
 use Rattle.rules.specs.Numbers.{trayRefused, pairsRefused}
 use Rattle.rules.specs.Records.{areaAfter, answerBytes}
-use Rattle.rules.specs.Tray.{Pair, frameCount, pairsEnd, pairs, badTray, trayRefusal, frameAt, TrayOutcome, stopped, runFrames}
-use Rattle.rules.specs.Tray.{runPairs, runTray, hostNumber}
+use Rattle.rules.specs.Tray.{Pair, frameCount, pairsEnd, pairs, badTray, trayRefusal, frameAt, TrayOutcome, stopped}
+use Rattle.rules.specs.Tray.{runFrames, runPairs, runTray, hostNumber}
 use Rattle.rules.specs.Allowed.{TrayRan}
 use Rattle.tray.proofs.RunLaws.{after}
 use Rattle.tray.proofs.PairLaws.{pair-drop, pairs-length, pair-at, pair-in}
@@ -22,13 +21,16 @@ use Rattle.tray.proofs.RunningLaws.{framesOf, placeOf, Running, running
 use Rattle.tray.proofs.JudgeLaws.{verdict}
 
 -- where the frame at k stands, by the tray's own numbers
-place-at : (tray : List ℕ) (k : ℕ) → placeOf tray k ≡ record { offset = numberAt tray (4 + 8 * k); size = numberAt tray (8 + 8 * k) }
+place-at : (tray : List ℕ) (k : ℕ)
+    → placeOf tray k ≡ record { offset = numberAt tray (4 + 8 * k); size = numberAt tray (8 + 8 * k) }
 place-at tray k =
     let behind : 4 + 8 * k + 4 ≡ 8 + 8 * k = omega arith in
-    pair-drop 4 tray (8 * k) ∙ ap (λ (n : ℕ). record { offset = numberAt tray (4 + 8 * k); size = numberAt tray n }) behind
+    pair-drop 4 tray (8 * k)
+    ∙ ap (λ (n : ℕ). record { offset = numberAt tray (4 + 8 * k); size = numberAt tray n }) behind
 
 -- the part of the tray from the offset to the end is the frame
-pub part-is-frame : (tray : List ℕ) (k offset size : ℕ) → offset ≡ numberAt tray (4 + 8 * k) → size ≡ numberAt tray (8 + 8 * k)
+pub part-is-frame : (tray : List ℕ) (k offset size : ℕ) → offset ≡ numberAt tray (4 + 8 * k)
+    → size ≡ numberAt tray (8 + 8 * k)
     → take (offset + size - offset) (drop offset tray) ≡ frameAt tray (placeOf tray k)
 unfolding frameAt
 part-is-frame tray k offset size p q =
@@ -50,7 +52,8 @@ neither false true e = absurd (omega (arith, e))
 neither false false e = (refl, refl)
 
 -- what a run comes to, in the words of the host
-ran-to : (tray a a′ : List ℕ) (returned : ℕ) (choices : ℕ → ℕ → ℕ) (o : TrayOutcome) → runTray choices tray (length a) ≡ o
+ran-to : (tray a a′ : List ℕ) (returned : ℕ) (choices : ℕ → ℕ → ℕ) (o : TrayOutcome)
+    → runTray choices tray (length a) ≡ o
     → returned ≡ hostNumber o → a′ ≡ areaAfter (o .records) a → TrayRan tray a returned a′
 ran-to tray a a′ returned choices o e r q =
     record {
@@ -60,7 +63,8 @@ ran-to tray a a′ returned choices o e r q =
     }
 
 -- a tray that is refused has done nothing, and leaves the area as it is
-pub tray-refused : (tray a : List ℕ) (n returned : ℕ) → n ≡ trayRefusal tray → (n ≡ 0 → ⊥) → returned ≡ 0 + 65536 * 0 + 4294967296 * n
+pub tray-refused : (tray a : List ℕ) (n returned : ℕ) → n ≡ trayRefusal tray → (n ≡ 0 → ⊥)
+    → returned ≡ 0 + 65536 * 0 + 4294967296 * n
     → TrayRan tray a returned a
 unfolding runTray hostNumber areaAfter answerBytes
 tray-refused tray a n returned e h r = ran-to tray a a returned (λ i p. 0) (stopped n) run r refl
@@ -81,7 +85,8 @@ module _ (tray : List ℕ) (fine : trayRefusal tray ≡ 0) where
   frame-in k h =
       let d : Pair = placeOf tray k in
       let stands = pair-at (frameCount tray) k (drop 4 tray) d h ∙ place-at tray k in
-      let within = pair-in (pairsEnd tray) (length tray) (pairs tray) k d (passes .1) (omega (arith, pairs-length (frameCount tray) (drop 4 tray))) in
+      let one-of : k < length (pairs tray) = omega (arith, pairs-length (frameCount tray) (drop 4 tray)) in
+      let within = pair-in (pairsEnd tray) (length tray) (pairs tray) k d (passes .1) one-of in
       rw stands at within
 
   runs : (choices : ℕ → ℕ → ℕ) (size : ℕ) → runTray choices tray size ≡ runFrames choices empty size (framesOf tray)
@@ -89,21 +94,25 @@ module _ (tray : List ℕ) (fine : trayRefusal tray ≡ 0) where
   runs choices size = ap (λ n. cond (leb n 0) (runPairs choices tray size) (stopped n)) fine
 
   -- all frames are done
-  pub tray-done : (a₀ ws a : List ℕ) (k n returned : ℕ) → Running tray a₀ ws a k n → k ≡ frameCount tray → returned ≡ k + 65536 * n + 4294967296 * 0
+  pub tray-done : (a₀ ws a : List ℕ) (k n returned : ℕ) → Running tray a₀ ws a k n → k ≡ frameCount tray
+      → returned ≡ k + 65536 * n + 4294967296 * 0
       → TrayRan tray a₀ returned a
   unfolding hostNumber
   tray-done a₀ ws a k n returned r e q =
       let whole : Running tray a₀ ws a (frameCount tray) n = rw e at r in
       let choices = after (whole .ran .choices) (λ i p. 0) in
       ran-to tray a₀ a returned choices (record { frames = frameCount tray; records = whole .records; number = 0 })
-      (runs choices (length a₀) ∙ running-all tray a₀ ws a n (λ i p. 0) whole) (omega (arith, q, e, whole .counts)) (whole .area)
+      (runs choices (length a₀) ∙ running-all tray a₀ ws a n (λ i p. 0) whole) (omega (arith, q, e, whole .counts))
+      (whole .area)
 
   -- under 700 bytes are left before a frame
-  pub tray-stops : (a₀ ws a : List ℕ) (k n returned : ℕ) → Running tray a₀ ws a k n → k < frameCount tray → length a₀ < 28 * n + 700
+  pub tray-stops : (a₀ ws a : List ℕ) (k n returned : ℕ) → Running tray a₀ ws a k n → k < frameCount tray
+      → length a₀ < 28 * n + 700
       → returned ≡ k + 65536 * n + 4294967296 * 1
       → TrayRan tray a₀ returned a
   unfolding hostNumber
   tray-stops a₀ ws a k n returned r h l q =
       let choices = after (r .ran .choices) (λ i p. 0) in
       ran-to tray a₀ a returned choices (record { frames = k; records = r .records; number = 1 })
-      (runs choices (length a₀) ∙ running-stops tray a₀ ws a k n (λ i p. 0) r h l) (omega (arith, q, r .counts)) (r .area)
+      (runs choices (length a₀) ∙ running-stops tray a₀ ws a k n (λ i p. 0) r h l) (omega (arith, q, r .counts))
+      (r .area)

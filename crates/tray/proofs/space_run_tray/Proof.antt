@@ -10,4 +10,5 @@ returns c = tray-refused _ _ _ _ (c .before .before .judge .ensures) (c .before 
 pub space-run-tray-spec : {M : Type 1} → statement M
 space-run-tray-spec =
     tie.close
-    (tie.spec (λ c κs. tt) (λ c κs. search needs) returns (λ c κs. search needs) (λ c. search needs) (λ c. search needs))
+    (tie.spec (λ c κs. tt) (λ c κs. search needs) returns (λ c κs. search needs) (λ c. search needs)
+    (λ c. search needs))

@@ -20,19 +20,22 @@ loop-holds c = (judging-none _ _ (c .before .before .pre) (c .size-at .ensures .
 returns : tie.Need-returns Inv-loop μ-loop
 returns c =
     let l = c .before .before .before .before .loop in
-    sym (begins-early _ _ _ (l .i) _ _ (l .inv .0) (c .before .before .before .loop-test .taken) (c .before .before .size-at2 .ensures .0)
+    sym (begins-early _ _ _ (l .i) _ _ (l .inv .0) (c .before .before .before .loop-test .taken)
+    (c .before .before .size-at2 .ensures .0)
     (c .before .size-at3 .ensures .0) (c .if1 .taken))
 
 returns-2 : tie.Need-returns-2 Inv-loop μ-loop
 returns-2 c =
     let l = c .before .before .before .before .before .loop in
-    sym (runs-past _ _ _ (l .i) _ _ (l .inv .0) (c .before .before .before .before .loop-test .taken) (c .before .before .before .size-at2 .ensures .0)
+    sym (runs-past _ _ _ (l .i) _ _ (l .inv .0) (c .before .before .before .before .loop-test .taken)
+    (c .before .before .before .size-at2 .ensures .0)
     (c .before .before .size-at3 .ensures .0) (c .before .if1 .left) (omega (arith, c .if2 .taken)))
 
 loop-again : tie.Need-loop-again Inv-loop μ-loop
 loop-again c =
     let l = c .before .before .before .before .before .loop in (
-      judging-more _ _ _ (l .i) _ _ (l .inv .0) (c .before .before .before .before .loop-test .taken) (c .before .before .before .size-at2 .ensures .0)
+      judging-more _ _ _ (l .i) _ _ (l .inv .0) (c .before .before .before .before .loop-test .taken)
+          (c .before .before .before .size-at2 .ensures .0)
           (c .before .before .size-at3 .ensures .0) (c .before .if1 .left) (omega (arith, c .if2 .left)),
       l .inv .1,
     )

@@ -16,12 +16,22 @@ returns-2 c = simp (le-ltb _ _ (c .before .if1 .left), lt-ltb _ _ (c .if2 .taken
 returns-3 : tie.Need-returns-3
 unfolding badTray
 returns-3 c =
-    simp (← c .before .size-at .ensures .0, le-ltb _ _ (c .before .before .before .if1 .left), le-ltb _ _ (c .before .before .if2 .left), lt-ltb _ _ (c .if3 .taken))
+    simp (
+      ← c .before .size-at .ensures .0,
+      le-ltb _ _ (c .before .before .before .if1 .left),
+      le-ltb _ _ (c .before .before .if2 .left),
+      lt-ltb _ _ (c .if3 .taken),
+    )
 
 returns-4 : tie.Need-returns-4
 unfolding badTray
 returns-4 c =
-    simp (← c .before .size-at .ensures .0, le-ltb _ _ (c .before .before .before .if1 .left), le-ltb _ _ (c .before .before .if2 .left), le-ltb _ _ (c .if3 .left))
+    simp (
+      ← c .before .size-at .ensures .0,
+      le-ltb _ _ (c .before .before .before .if1 .left),
+      le-ltb _ _ (c .before .before .if2 .left),
+      le-ltb _ _ (c .if3 .left),
+    )
 
 pub is-bad-tray-spec : {M : Type 1} → statement M
 is-bad-tray-spec =
