@@ -38,6 +38,12 @@ use crate::service::serve_waits;
 use crate::sweep::hand_out;
 use crate::time::end_of;
 use crate::txns::create_txn;
+use codec::numbers::KIND_ABORTED;
+use codec::numbers::KIND_COMMITTED;
+use codec::numbers::KIND_CREATED;
+use codec::numbers::KIND_NOTHING;
+use codec::numbers::KIND_WAITING;
+use codec::numbers::WAITS_REFUSED;
 use codec::records::found_record;
 use codec::records::plain_record;
 use codec::records::written_record;
@@ -70,7 +76,7 @@ pub(crate) fn commit(space: &mut Words, answers: &mut [u8], party: u8, id: TxnId
     ensures { λ n. ⌜ Does (commitFrame first (view (now (space .entry))) (frameOf (Request.Commit party id))) (now (space .exit)) (now (answers .entry)) (now (answers .exit)) 0 n ⌝ }
 {
     commit_txn(space, id);
-    let r = plain_record(6, party, id);
+    let r = plain_record(KIND_COMMITTED, party, id);
     answer_and_serve(space, answers, r)
 }
 
@@ -79,7 +85,7 @@ pub(crate) fn abort(space: &mut Words, answers: &mut [u8], party: u8, id: TxnId)
     ensures { λ n. ⌜ Does (abortFrame first (view (now (space .entry))) (frameOf (Request.Abort party id))) (now (space .exit)) (now (answers .entry)) (now (answers .exit)) 0 n ⌝ }
 {
     abort_txn(space, id);
-    let r = plain_record(7, party, id);
+    let r = plain_record(KIND_ABORTED, party, id);
     answer_and_serve(space, answers, r)
 }
 
@@ -88,7 +94,7 @@ pub(crate) fn create(space: &mut Words, answers: &mut [u8], party: u8, lease: u3
     ensures { λ n. ⌜ Does (createFrame (view (now (space .entry))) (frameOf (Request.Create party lease))) (now (space .exit)) (now (answers .entry)) (now (answers .exit)) 0 n ⌝ }
 {
     let id = create_txn(space, party, lease);
-    let r = plain_record(5, party, id);
+    let r = plain_record(KIND_CREATED, party, id);
     add_record(answers, 0, r)
 }
 
@@ -185,14 +191,14 @@ pub(crate) fn go_without(
     let party = w.party;
     let txn = w.txn;
     if gives_nothing(space, w, p, timeout) {
-        let r = plain_record(3, party, txn);
+        let r = plain_record(KIND_NOTHING, party, txn);
         return Outcome::Carried(add_record(answers, 0, r));
     }
     if 16 <= wait_count(space) {
-        return Outcome::Refused(14);
+        return Outcome::Refused(WAITS_REFUSED);
     }
     add_wait(space, w);
-    let r = plain_record(4, party, txn);
+    let r = plain_record(KIND_WAITING, party, txn);
     Outcome::Carried(add_record(answers, 0, r))
 }
 
