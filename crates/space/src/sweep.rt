@@ -7,7 +7,7 @@ ghost use Rattle.rules.specs.Words.{view};
 ghost use Rattle.space.specs.Live.{slotOf};
 ghost use Rattle.space.specs.HandOut.{handedOut};
 ghost use Rattle.rules.specs.Holds.{liveTxn};
-ghost use mathlib.Core.Bool.{cond, _&&_};
+ghost use mathlib.Core.Bool.{not, cond, _&&_, _||_};
 ghost use lib.Dec.{eqb};
 ghost use Rattle.rules.specs.Transactions.{noTxn};
 ghost use Rattle.rules.specs.Time.{reached};
@@ -171,6 +171,13 @@ pub(crate) fn is_removed(takes: bool, private_to: TxnId, t: TxnId) -> bool
     if takes { private_to.0 == t.0 } else { false }
 }
 
+// Whether handing out leaves a mark where it does not remove: a read outside transactions leaves none.
+pub(crate) fn is_marked(takes: bool, p: u8) -> bool
+    ensures { λ r. ⌜ r ≡ (takes || not (eqb p 8)) ⌝ }
+{
+    if takes { true } else { p != 8 }
+}
+
 // The entry is handed out to the look-up, whose transaction has the place p among the read holders.
 pub(crate) fn hand_out(space: &mut Words, e: Entry, w: LookUp, p: u8)
     requires { ⌜ (p ≤ 8) × (p ≡ slotOf (liveTxn (w .txn .0) (view (now space) .txns))) ⌝ }
@@ -182,9 +189,13 @@ pub(crate) fn hand_out(space: &mut Words, e: Entry, w: LookUp, p: u8)
     let takes = w.takes;
     if is_removed(takes, private_to, txn) {
         pass_over(space, Sweep::Remove(id));
-    } else {
-        pass_over(space, Sweep::Mark(id, takes, txn, p));
+        return;
     }
+    if is_marked(takes, p) {
+        pass_over(space, Sweep::Mark(id, takes, txn, p));
+        return;
+    }
+    entry_count(space);
 }
 
 // Stored entries that end now are removed.
