@@ -6,7 +6,7 @@ use native.Mathlib.Omega.{arith}
 use Rattle.rules.specs.declared.Record.{Record}
 use Rattle.rules.specs.declared.Request.the-variants.{Find}
 use Rattle.rules.specs.State.{Model}
-use Rattle.rules.specs.LookUp.{Done, answerFound}
+use Rattle.rules.specs.LookUp.{answerFound}
 use Rattle.rules.specs.Requests.{frameOf}
 use Rattle.rules.specs.Words.{view}
 use Rattle.space.specs.Find.{matchOf}

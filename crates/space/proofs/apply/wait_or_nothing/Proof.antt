@@ -6,7 +6,7 @@ use native.Mathlib.Omega.{arith}
 use borrow.Author.Tests.{le-leb, lt-leb}
 use Rattle.rules.specs.declared.Record.{Record}
 use Rattle.rules.specs.State.{Model}
-use Rattle.rules.specs.LookUp.{Done, answerNothing, answerWaiting}
+use Rattle.rules.specs.LookUp.{answerNothing, answerWaiting}
 use Rattle.rules.specs.Records.{nothing, waiting}
 use Rattle.rules.specs.Words.{view}
 use Rattle.space.proofs.DoesLaws.{does-adds, does-as}
