@@ -9,8 +9,7 @@ returns : tie.Need-returns
 returns c = refused _ _ (c .before .form-refusal .ensures) (c .if1 .taken)
 
 returns-2 : tie.Need-returns-2
-returns-2 c =
-    tick-asks _ (sym (c .before .form-refusal .ensures) ∙ c .if1 .left) (c .before .before .before .pre)
+returns-2 c = tick-asks _ (sym (c .before .form-refusal .ensures) ∙ c .if1 .left) (c .before .before .before .pre)
 
 pub decode-tick-spec : {M : Type 1} → statement M
 decode-tick-spec = tie.close (tie.spec (λ c κs. search needs) returns returns-2)
