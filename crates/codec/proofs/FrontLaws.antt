@@ -39,10 +39,13 @@ module _ (ws : List ℕ) (o : ℕ) (r : List ℕ) (fits : o + length r ≤ lengt
   unfolding over
   over-then q =
       ap₂ (λ a b. a ++ (q ++ b)) over-upto
-      (sym (drop-drop (length q) (o + length r) (over ws o r)) ∙ ap (drop (length q)) over-past ∙ drop-drop (length q) (o + length r) ws)
+      (sym (drop-drop (length q) (o + length r) (over ws o r))
+      ∙ ap (drop (length q)) over-past
+      ∙ drop-drop (length q) (o + length r) ws)
       ∙ append-assoc (take o ws) r (q ++ drop (o + length r + length q) ws)
       ∙ ap (λ x. take o ws ++ x) (sym (append-assoc r q (drop (o + length r + length q) ws)))
-      ∙ ap (λ n. take o ws ++ ((r ++ q) ++ drop n ws)) (add-assoc o (length r) (length q) ∙ ap (λ n. o + n) (sym (length-append r q)))
+      ∙ ap (λ n. take o ws ++ ((r ++ q) ++ drop n ws))
+      (add-assoc o (length r) (length q) ∙ ap (λ n. o + n) (sym (length-append r q)))
 
 -- none are written over
 pub over-none : (ws : List ℕ) (o : ℕ) → over ws o [] ≡ ws
@@ -86,12 +89,15 @@ front-more old new front r o f h =
       is =
           ap₂ (λ a b. a ++ (r ++ b))
           (ap (take o) (f .is) ∙ take-at front (drop o old) o (f .size))
-          (sym (drop-drop (length r) o new) ∙ ap (drop (length r)) (ap (drop o) (f .is) ∙ drop-at front (drop o old) o (f .size)) ∙ drop-drop (length r) o old)
+          (sym (drop-drop (length r) o new)
+          ∙ ap (drop (length r)) (ap (drop o) (f .is) ∙ drop-at front (drop o old) o (f .size))
+          ∙ drop-drop (length r) o old)
           ∙ sym (append-assoc front r (drop (o + length r) old));
     }
 
 -- the same, of what a call left
-pub front-next : (old new new′ front r : List ℕ) (o : ℕ) → Front old new front o → o + length r ≤ length old → new′ ≡ over new o r
+pub front-next : (old new new′ front r : List ℕ) (o : ℕ) → Front old new front o → o + length r ≤ length old
+    → new′ ≡ over new o r
     → Front old new′ (front ++ r) (o + length r)
 front-next old new new′ front r o f h e = rw e (front-more old new front r o f h)
 

@@ -38,7 +38,8 @@ unfolding digits
 digits-length zero n = omega arith
 digits-length (suc k) n = go (ltb n 10) (digits-length k (n / 10))
   where
-    go : (b : Bool) → length (digits k (n / 10)) ≤ k → length (cond b ((48 + n) ∷ []) (digits k (n / 10) ++ ((48 + n % 10) ∷ []))) ≤ suc k
+    go : (b : Bool) → length (digits k (n / 10)) ≤ k
+        → length (cond b ((48 + n) ∷ []) (digits k (n / 10) ++ ((48 + n % 10) ∷ []))) ≤ suc k
     go true h = omega arith
     go false h = simp length-append (omega arith)
 

@@ -40,13 +40,17 @@ pub record Lining (ns old new : List ℕ) (at next i : ℕ) : Type 0 where
 pub lining-none : (ns old : List ℕ) (at : ℕ) → 1 ≤ length ns → Lining ns old old at at 0
 lining-none [] old at h = absurd (omega arith)
 lining-none (n ∷ ns) old at h =
-    record { text = []; puts = record { bytes = sym (over-none old at); end = omega arith }; few = omega arith; rest = refl }
+    record {
+      text = [];
+      puts = record { bytes = sym (over-none old at); end = omega arith };
+      few = omega arith;
+      rest = refl;
+    }
 
 module _ (ns old new : List ℕ) (at next i : ℕ) (l : Lining ns old new at next i) where
   pub lining-done : length ns ≤ i → Puts (line ns) old new at next
   lining-done h =
-      let all : line ns ≡ l .text = l .rest ∙ ap (λ x. l .text ++ restLine x) (drop-of-length-le ns h) ∙ append-nil (l .text) in
-      rw all (l .puts)
+      rw (l .rest ∙ ap (λ x. l .text ++ restLine x) (drop-of-length-le ns h) ∙ append-nil (l .text)) (l .puts)
 
   pub lining-length : i ≤ length ns → at + 11 * length ns ≤ length old → length new ≡ length old
   lining-length h room = puts-length (l .text) old new at next (l .puts) (omega (arith, l .few))
@@ -74,13 +78,16 @@ module _ (ns old new : List ℕ) (at next i : ℕ) (l : Lining ns old new at nex
         let few = digits-length 10 n in
         let long = puts-length (decimal n) new mid next to p (omega (arith, lining-room)) in
         let behind = puts-one mid to s (omega (arith, lining-room, p .end)) in
-        let more = puts-then (decimal n) (s ∷ []) new mid (set mid to s) next to (to + 1) p (omega (arith, lining-room)) behind in
+        let room : next + length (decimal n) ≤ length new = omega (arith, lining-room) in
+        let more = puts-then (decimal n) (s ∷ []) new mid (set mid to s) next to (to + 1) p room behind in
+        let before : at + length (l .text) ≤ length old = omega (arith, fits) in
         record {
           text = l .text ++ (decimal n ++ (s ∷ []));
-          puts = puts-then (l .text) (decimal n ++ (s ∷ [])) old new (set mid to s) at next (to + 1) (l .puts) (omega (arith, fits)) more;
+          puts = puts-then (l .text) (decimal n ++ (s ∷ [])) old new (set mid to s) at next (to + 1) (l .puts) before more;
           few = simp length-append (omega (arith, l .few));
           rest =
               l .rest
-              ∙ ap (λ x. l .text ++ x) (rest-is ∙ ap (λ x. (decimal n ++ (x ∷ [])) ++ restLine (drop (i + 1) ns)) (sym e))
+              ∙ ap (λ x. l .text ++ x)
+              (rest-is ∙ ap (λ x. (decimal n ++ (x ∷ [])) ++ restLine (drop (i + 1) ns)) (sym e))
               ∙ sym (append-assoc (l .text) (decimal n ++ (s ∷ [])) (restLine (drop (i + 1) ns)));
         }

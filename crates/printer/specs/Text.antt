@@ -15,7 +15,8 @@ pub record Puts (text old new : List ℕ) (at next : ℕ) : Type 0 where
   pub bytes : new ≡ over old at text
   pub end : next ≡ at + length text
 
--- where there is room, the text stands in front of the buffer and its length is returned; else nothing is written and 0 is returned
+-- where there is room, the text stands in front of the buffer and its length is returned; else nothing is written and
+-- 0 is returned
 pub record Prints (room : Bool) (text old new : List ℕ) (n : ℕ) : Type 0 where
   pub bytes : new ≡ cond room (text ++ drop (length text) old) old
   pub count : n ≡ cond room (length text) 0

@@ -61,7 +61,8 @@ fn put_line(out: &mut [u8], at: usize, numbers: &[u32]) -> usize
 
 // The line of the record whose 28 bytes stand in front. Returns its length; 0 where a byte or room is lacking.
 pub fn record_line(bytes: &[u8], out: &mut [u8]) -> usize
-    ensures { λ r. ⌜ Prints (hasRecord (now (bytes .entry)) && hasLine (now (out .entry))) (recordText (now (bytes .entry))) (now (out .entry)) (now (out .exit)) r ⌝ }
+    ensures { λ r. ⌜ Prints (hasRecord (now (bytes .entry)) && hasLine (now (out .entry)))
+        (recordText (now (bytes .entry))) (now (out .entry)) (now (out .exit)) r ⌝ }
 {
     if bytes.len() < 28 {
         return 0;
@@ -100,7 +101,8 @@ fn put_done(out: &mut [u8])
 
 // The last line: `done`, frames, records, number. Returns its length; 0 where there is no room.
 pub fn done_line(frames: u32, records: u32, number: u32, out: &mut [u8]) -> usize
-    ensures { λ r. ⌜ Prints (hasLine (now (out .entry))) (doneLine frames records number) (now (out .entry)) (now (out .exit)) r ⌝ }
+    ensures { λ r. ⌜ Prints (hasLine (now (out .entry)))
+        (doneLine frames records number) (now (out .entry)) (now (out .exit)) r ⌝ }
 {
     if out.len() < LINE_SIZE {
         return 0;

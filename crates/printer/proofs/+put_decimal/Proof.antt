@@ -34,26 +34,35 @@ pub +put-decimal-spec : {M : Type 1} → statement M
     (put-decimal-at t)
     put-decimal.Post
     (λ c κs. c .if1 .taken)
-    (λ c. let s = c .before .before .before in omega (arith, s .pre .1, one-long (s .args .n) (c .before .if1 .taken)))
-    (λ c. let s = c .before .before .before in omega (arith, s .pre .1, one-long (s .args .n) (c .before .if1 .taken)))
+    (λ c.
+    let s = c .before .before .before in
+    omega (arith, s .pre .1, one-long (s .args .n) (c .before .if1 .taken)))
+    (λ c.
+    let s = c .before .before .before in
+    omega (arith, s .pre .1, one-long (s .args .n) (c .before .if1 .taken)))
     (λ c. simp length-set)
     (λ c.
     let s = c .before .before .before in
-    puts-digit _ _ (s .args .n) _ (c .before .if1 .taken) (c .digit .ensures) (omega (arith, s .pre .1, one-long (s .args .n) (c .before .if1 .taken))))
+    let one = one-long (s .args .n) (c .before .if1 .taken) in
+    puts-digit _ _ (s .args .n) _ (c .before .if1 .taken) (c .digit .ensures) (omega (arith, s .pre .1)))
     (λ c κs.
     let s = c .before .before .before in
-    (omega (arith, s .pre .0, c .before .if1 .left), omega (arith, s .pre .1, many-long (s .args .n) (s .fits .n .fits) (c .before .if1 .left))))
+    let ten = c .before .if1 .left in
+    (omega (arith, s .pre .0), omega (arith, s .pre .1, many-long (s .args .n) (s .fits .n .fits) ten)))
     (λ c κs. omega arith)
     (λ c.
     let d = c .before .before .before in
     let s = d .before .before .before .before in
-    omega (arith, s .pre .1, d .put-decimal .ensures .end, d .put-decimal .kept .0, many-long (s .args .n) (s .fits .n .fits) (d .before .before .if1 .left)))
+    let many = many-long (s .args .n) (s .fits .n .fits) (d .before .before .if1 .left) in
+    omega (arith, s .pre .1, d .put-decimal .ensures .end, d .put-decimal .kept .0))
     (λ c.
     let d = c .before .before .before in
     let s = d .before .before .before .before in
-    omega (arith, s .pre .1, d .put-decimal .ensures .end, d .put-decimal .kept .0, many-long (s .args .n) (s .fits .n .fits) (d .before .before .if1 .left), s .good .0 .0))
+    let many = many-long (s .args .n) (s .fits .n .fits) (d .before .before .if1 .left) in
+    omega (arith, s .pre .1, d .put-decimal .ensures .end, s .good .0 .0))
     (λ c. simp length-set (c .before .before .before .put-decimal .kept .0))
     (λ c.
     let d = c .before .before .before in
     let s = d .before .before .before .before in
-    puts-digits _ _ _ _ (s .args .n) _ (s .fits .n .fits) (d .before .before .if1 .left) (d .put-decimal .ensures) (c .digit2 .ensures) (s .pre .1))
+    let ten = d .before .before .if1 .left in
+    puts-digits _ _ _ _ (s .args .n) _ (s .fits .n .fits) ten (d .put-decimal .ensures) (c .digit2 .ensures) (s .pre .1))

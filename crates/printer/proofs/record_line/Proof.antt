@@ -28,7 +28,17 @@ returns-3 c =
     let b1 = b2 .before in
     let room = b1 .before in
     prints-all _ _ _ _ _ (rw (le-leb _ _ (room .before .if1 .left), le-leb _ _ (room .if2 .left)))
-    (rw (sym (b1 .byte-at .ensures), sym (b2 .byte-at2 .ensures), sym (b3 .byte-at3 .ensures), sym (n1 .number-at .ensures), sym (n2 .number-at2 .ensures), sym (n3 .number-at3 .ensures), sym (n4 .number-at4 .ensures), sym (n5 .number-at5 .ensures), sym (n6 .number-at6 .ensures)) (c .before .before .put-line .ensures))
+    (rw (
+      sym (b1 .byte-at .ensures),
+      sym (b2 .byte-at2 .ensures),
+      sym (b3 .byte-at3 .ensures),
+      sym (n1 .number-at .ensures),
+      sym (n2 .number-at2 .ensures),
+      sym (n3 .number-at3 .ensures),
+      sym (n4 .number-at4 .ensures),
+      sym (n5 .number-at5 .ensures),
+      sym (n6 .number-at6 .ensures),
+    ) (c .before .before .put-line .ensures))
 
 pub record-line-spec : {M : Type 1} → statement M
 record-line-spec =
