@@ -63,7 +63,8 @@ module _ (bs : List ℕ) (clear : formRefusal bs ≡ 0) where
   size op n e l = eqb-true (length bs) (frameLength (byteAt bs 0)) (not-false _ (in-order .0)) ∙ ap frameLength e ∙ l
 
   -- byte 3 and the mask of an operation other than look-ups
-  plain : (op : ℕ) → byteAt bs 0 ≡ op → isLookUp op ≡ false → isCreate op ≡ false → (byteAt bs 3 ≡ 0) × (byteAt bs 2 ≡ 0)
+  plain : (op : ℕ) → byteAt bs 0 ≡ op → isLookUp op ≡ false → isCreate op ≡ false
+      → (byteAt bs 3 ≡ 0) × (byteAt bs 2 ≡ 0)
   unfolding decode
   plain op e l h =
       let f = sym (plain-form (decode bs) (ap isLookUp e ∙ l) (ap isCreate e ∙ h)) ∙ in-order .1 in
@@ -72,10 +73,21 @@ module _ (bs : List ℕ) (clear : formRefusal bs ≡ 0) where
   -- a frame without fields, or without a lease or timeout too, or without a transaction too
   no-fields : length bs ≤ 12 → decode bs .fields ≡ noFields
   unfolding decode
-  no-fields h = rw (number-past bs 12 (omega arith), number-past bs 16 (omega arith), number-past bs 20 (omega arith), number-past bs 24 (omega arith))
+  no-fields h =
+      rw (
+        number-past bs 12 (omega arith),
+        number-past bs 16 (omega arith),
+        number-past bs 20 (omega arith),
+        number-past bs 24 (omega arith),
+      )
 
   pub write-asks : byteAt bs 0 ≡ 1
-      → Decodes bs (Asks (Write (record { party = byteAt bs 1; txn = record { 0 = numberAt bs 4 }; lease = numberAt bs 8; fields = decode bs .fields })))
+      → Decodes bs (Asks (Write (record {
+        party = byteAt bs 1;
+        txn = record { 0 = numberAt bs 4 };
+        lease = numberAt bs 8;
+        fields = decode bs .fields;
+      })))
   unfolding decode
   write-asks e = let p = plain 1 e refl refl in asks _ (rw (e, p .0, p .1))
 
@@ -124,4 +136,7 @@ module _ (bs : List ℕ) (clear : formRefusal bs ≡ 0) where
   tick-asks e =
       let p = plain 9 e refl refl in
       let s = size 9 4 e refl in
-      asks _ (rw (no-fields (omega arith), number-past bs 8 (omega arith), number-past bs 4 (omega arith), e, p .0, p .1, zero-of (byteAt bs 1) (rw e at (in-order .2))))
+      let party = zero-of (byteAt bs 1) (rw e at (in-order .2)) in
+      let timeout = number-past bs 8 (omega arith) in
+      let txn = number-past bs 4 (omega arith) in
+      asks _ (rw (no-fields (omega arith), timeout, txn, e, p .0, p .1, party))

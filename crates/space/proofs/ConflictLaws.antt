@@ -1,12 +1,11 @@
 -- Conflicts by the place of the look-up's transaction are the rules'.
 use Prim.Native.Nat.{ℕ}
 use mathlib.Core.Bool.{Bool, true, false, not, _&&_, _||_}
-use mathlib.Core.Path.{_≡_, refl, sym, ap, _∙_}
+use mathlib.Core.Path.{_≡_, refl, sym}
 use mathlib.Core.List.{List}
 use lib.Dec.{eqb}
 use Rattle.rules.specs.declared.Entry.{Entry}
 use Rattle.rules.specs.declared.LookUp.{LookUp}
-use Rattle.rules.specs.declared.Txn.{Txn}
 use Rattle.rules.specs.Template.{matches}
 use Rattle.rules.specs.Holds.{liveTxn, readByOther, visible, conflicts}
 use Rattle.rules.specs.Words.{view}

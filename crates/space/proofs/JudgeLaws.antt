@@ -1,6 +1,6 @@
 -- Laws of the refusals: what the code finds out row by row of the tables, and the table of refusals in parts.
-use Prim.Native.Nat.{ℕ, suc, _+_, _-_, _*_, _≤_, _<_}
-use mathlib.Core.Bool.{Bool, true, false, not, cond, _&&_, _||_, or-true}
+use Prim.Native.Nat.{ℕ, _+_, _-_, _*_, _≤_, _<_}
+use mathlib.Core.Bool.{Bool, true, false, not, cond, _||_, or-true}
 use mathlib.Core.Option.{none, some}
 use mathlib.Core.Path.{_≡_, refl, sym, ap, _∙_}
 use mathlib.Core.List.{List, [], _∷_}
@@ -13,17 +13,17 @@ use lib.ListN.{length}
 use Rattle.rules.specs.declared.LookUp.{LookUp}
 use Rattle.rules.specs.declared.Txn.{Txn}
 use Rattle.rules.specs.declared.TxnId.{TxnId}
-use Rattle.rules.specs.Lists.{firstRow, findb, anyb}
+use Rattle.rules.specs.Lists.{firstRow}
 use Rattle.rules.specs.Numbers.{waitingRefused, notLiveRefused, notOwnRefused, leaseRefused, clockRefused, entriesRefused, txnsRefused, numberRefused, waitsRefused}
 use Rattle.rules.specs.State.{Model}
 use Rattle.rules.specs.Frame.{Frame, isWrite, isLookUp, isCreate, isCommit, isAbort, isTick, hasLeaseOrTimeout}
 use Rattle.rules.specs.Holds.{liveTxn}
-use Rattle.rules.specs.Refusals.{inTxn, isOf, partyWaits, notLive, notOwn, noLease, tooLate, entriesFull, txnsFull, noNumber, waitsFull}
-use Rattle.rules.specs.Requests.{frameOf, plainFrame, spaceRefusal}
+use Rattle.rules.specs.Refusals.{inTxn, partyWaits, notLive, notOwn, noLease, tooLate, entriesFull, txnsFull, noNumber, waitsFull}
+use Rattle.rules.specs.Requests.{frameOf, spaceRefusal}
 use Rattle.rules.specs.declared.Request.the-variants.{Commit, Abort}
 use Rattle.rules.proofs.StepCases.{cond-cases, and-left, and-right}
 use Rattle.rules.proofs.RefusalLaws.{first-append}
-use Rattle.rules.specs.Words.{entryOf, entryCount, txnOf, txnCount, waitOf, waitFrom, waitCount, row, entries, txns, waits, view}
+use Rattle.rules.specs.Words.{entryOf, entryCount, waitOf, waitFrom, waitCount, row, entries, waits, view}
 use Rattle.space.specs.Judge.{partyWaiting, inTxnRefusal, admissionRefusal, earlyRefusal}
 use Rattle.space.proofs.RowLaws.{length-upTo}
 use Rattle.space.proofs.FindLaws.{any-passed, any-at, some-any, none-any}

@@ -1,9 +1,7 @@
 -- What is known of a request that the refusals 6 to 13 let pass.
-use Prim.Native.Nat.{ℕ, suc, _+_, _≤_, _<_}
-use mathlib.Core.Bool.{Bool, true, false, not, cond, _&&_, _||_}
-use mathlib.Core.Path.{_≡_, refl, sym, ap, _∙_}
-use mathlib.Core.List.{List}
-use native.Mathlib.Omega.{arith}
+use Prim.Native.Nat.{ℕ, _+_, _<_}
+use mathlib.Core.Bool.{true, false, not}
+use mathlib.Core.Path.{_≡_, ap}
 use borrow.Author.Tests.{ltb-false, leb-false, ne-eqb}
 use lib.Dec.{eqb, leb, ltb}
 use lib.ListN.{length}
@@ -14,7 +12,7 @@ use Rattle.rules.specs.Numbers.{forever, lastClock, maxEntries, maxTxns}
 use Rattle.rules.specs.State.{Model}
 use Rattle.rules.specs.Frame.{Frame, isLookUp}
 use Rattle.rules.specs.Refusals.{partyWaits, notLive, notOwn, noLease, tooLate, entriesFull, txnsFull, noNumber}
-use Rattle.rules.specs.Requests.{frameOf, plainFrame}
+use Rattle.rules.specs.Requests.{frameOf}
 use Rattle.rules.proofs.StepCases.{and-false-right, or-left}
 use Rattle.rules.proofs.RefusalLaws.{row}
 use Rattle.space.specs.Judge.{late, earlyRefusal}

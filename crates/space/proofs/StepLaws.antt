@@ -1,29 +1,27 @@
 -- A step's outcome, by the refusal that applies: what is allowed of the words, the area and the number returned.
 use Prim.Native.Nat.{ℕ, _+_, _*_, _≤_, _<_}
 use mathlib.Core.Bool.{Bool, true, false, cond}
-use mathlib.Core.Option.{Option, none, some}
+use mathlib.Core.Option.{none, some}
 use mathlib.Core.Path.{_≡_, refl, sym, ap, _∙_}
-use mathlib.Core.List.{List, [], _∷_, _++_}
+use mathlib.Core.List.{List, [], _∷_}
 use native.Mathlib.Omega.{arith}
-use borrow.Author.Tests.{eq-eqb, ne-eqb, eqb-false, lt-ltb, le-ltb}
+use borrow.Author.Tests.{ne-eqb, eqb-false, lt-ltb, le-ltb}
 use lib.Dec.{eqb, ltb}
-use lib.ListN.{length, take, drop}
-use Rattle.rules.specs.declared.Record.{Record}
+use lib.ListN.{length}
 use Rattle.rules.specs.declared.Request.{Request}
 use Rattle.rules.specs.declared.Request.the-variants.{Find}
 use Rattle.rules.specs.declared.FindRequest.{FindRequest}
-use Rattle.rules.specs.declared.Decoded.{Decoded}
 use Rattle.rules.specs.declared.Decoded.the-variants.{Asks, Refused}
 use Rattle.rules.specs.Numbers.{stepArea, areaRefused}
 use Rattle.rules.specs.State.{Model}
 use Rattle.rules.specs.Frame.{Frame, decode, isLookUp}
 use Rattle.rules.specs.Records.{refused, answerBytes, areaAfter}
-use Rattle.rules.specs.LookUp.{Done, lookUp}
+use Rattle.rules.specs.LookUp.{lookUp}
 use Rattle.rules.specs.Refusals.{refusal}
 use Rattle.rules.specs.Requests.{frameOf, formRefusal, spaceRefusal, Decodes}
 use Rattle.rules.specs.Step.{Outcome, step, carriedOut, refusedWith, accepted}
 use Rattle.rules.specs.Words.{view}
-use Rattle.rules.specs.Allowed.{Answered, Allowed, Stepped}
+use Rattle.rules.specs.Allowed.{Stepped}
 use Rattle.rules.proofs.ListLaws.{none≢some}
 use Rattle.rules.proofs.StepCases.{cond-cases}
 use Rattle.rules.proofs.RefusalLaws.{refusal-parts, form-not-area, space-not-area}

@@ -9,12 +9,13 @@ use Rattle.rules.specs.declared.Entry.{Entry}
 use Rattle.rules.specs.declared.LookUp.{LookUp}
 use Rattle.rules.specs.declared.Txn.{Txn}
 use Rattle.rules.specs.Lists.{anyb, firstRow}
-use Rattle.rules.specs.Numbers.{forever, lastClock, maxEntries, maxWaits, waitingRefused, notLiveRefused, notOwnRefused, leaseRefused, clockRefused, entriesRefused, txnsRefused, numberRefused}
+use Rattle.rules.specs.Numbers.{forever, lastClock, maxEntries, maxWaits, waitingRefused, notLiveRefused, notOwnRefused}
+use Rattle.rules.specs.Numbers.{leaseRefused, clockRefused, entriesRefused, txnsRefused, numberRefused, waitsRefused}
 use Rattle.rules.specs.State.{Model}
 use Rattle.rules.specs.Holds.{liveTxn}
 use Rattle.rules.specs.Frame.{Frame}
 use Rattle.rules.specs.LookUp.{givesNothing}
-use Rattle.rules.specs.Refusals.{isOf, partyWaits, notLive, notOwn, noLease, tooLate, entriesFull, txnsFull, noNumber}
+use Rattle.rules.specs.Refusals.{isOf, partyWaits, notLive, notOwn, noLease, tooLate, entriesFull, txnsFull, noNumber, waitsFull}
 
 -- 6, of a party
 abbrev pub partyWaiting : ℕ → List LookUp → Bool
@@ -54,6 +55,10 @@ earlyRefusal m f =
     ∷ (noNumber m f, numberRefused)
     ∷ [])
 
--- 14, of a look-up to which no entry is available
+-- 14, or 0
+abbrev pub lateRefusal : Model → Frame → ℕ
+lateRefusal m f = cond (waitsFull m f) waitsRefused 0
+
+-- the same of a look-up to which no entry is available
 abbrev pub noWaitLeft : Model → LookUp → ℕ → Bool
 noWaitLeft m w timeout = not (givesNothing m w timeout) && leb maxWaits (length (m .waits))

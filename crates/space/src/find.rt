@@ -23,7 +23,8 @@ pub(crate) enum Match {
 // The first entry that is available to the look-up, whose transaction has the place p among the read holders.
 pub(crate) fn find_available(space: &Words, w: LookUp, p: u8) -> Match
     requires { ⌜ (p ≤ 8) × (p ≡ slotOf (liveTxn (w .txn .0) (view (now space) .txns))) ⌝ }
-    ensures { λ r. ⌜ matchOf r ≡ pick 0 (availableTo (view (now (space .entry)) .txns) w (view (now (space .entry)) .entries)) ⌝ }
+    ensures { λ r. ⌜ matchOf r
+        ≡ pick 0 (availableTo (view (now (space .entry)) .txns) w (view (now (space .entry)) .entries)) ⌝ }
 {
     let n = entry_count(space);
     let mut i: usize = 0;

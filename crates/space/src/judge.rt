@@ -13,6 +13,14 @@ use crate::rows::entry_count;
 use crate::rows::txn_count;
 use crate::rows::wait_at;
 use crate::rows::wait_count;
+use codec::numbers::CLOCK_REFUSED;
+use codec::numbers::ENTRIES_REFUSED;
+use codec::numbers::LEASE_REFUSED;
+use codec::numbers::NOT_LIVE_REFUSED;
+use codec::numbers::NOT_OWN_REFUSED;
+use codec::numbers::NUMBER_REFUSED;
+use codec::numbers::TXNS_REFUSED;
+use codec::numbers::WAITING_REFUSED;
 use rules::FindRequest;
 use rules::Request;
 use rules::TxnId;
@@ -53,12 +61,12 @@ pub(crate) fn txn_refusal(space: &Words, inside: bool, party: u8, id: TxnId) -> 
         return 0;
     }
     if id.0 == 0 {
-        return 7;
+        return NOT_LIVE_REFUSED;
     }
     let Live::At(t) = find_txn(space, id) else {
-        return 7;
+        return NOT_LIVE_REFUSED;
     };
-    if t.party == party { 0 } else { 8 }
+    if t.party == party { 0 } else { NOT_OWN_REFUSED }
 }
 
 // 6, 7 or 8; 0: none of them applies.
@@ -66,7 +74,7 @@ pub(crate) fn admission(space: &Words, inside: bool, party: u8, id: TxnId) -> u8
     ensures { λ r. ⌜ r ≡ admissionRefusal inside party (id .0) (view (now (space .entry))) ⌝ }
 {
     if waits_already(space, party) {
-        6
+        WAITING_REFUSED
     } else {
         txn_refusal(space, inside, party, id)
     }
@@ -91,12 +99,16 @@ pub(crate) fn judge_write(space: &Words, w: WriteRequest) -> u8
         return n;
     }
     if too_late(space[0], w.lease) {
-        return 10;
+        return CLOCK_REFUSED;
     }
     if lacks_room(space, w.lease) {
-        return 11;
+        return ENTRIES_REFUSED;
     }
-    if 4294967295 <= space[1] { 13 } else { 0 }
+    if 4294967295 <= space[1] {
+        NUMBER_REFUSED
+    } else {
+        0
+    }
 }
 
 pub(crate) fn judge_find(space: &Words, l: FindRequest) -> u8
@@ -107,34 +119,46 @@ pub(crate) fn judge_find(space: &Words, l: FindRequest) -> u8
     if n != 0 {
         return n;
     }
-    if too_late(space[0], l.timeout) { 10 } else { 0 }
+    if too_late(space[0], l.timeout) {
+        CLOCK_REFUSED
+    } else {
+        0
+    }
 }
 
 pub(crate) fn judge_create(space: &Words, party: u8, lease: u32) -> u8
     ensures { λ r. ⌜ r ≡ earlyRefusal (view (now (space .entry))) (frameOf (Request.Create party lease)) ⌝ }
 {
     if waits_already(space, party) {
-        return 6;
+        return WAITING_REFUSED;
     }
     if lease == 0 {
-        return 9;
+        return LEASE_REFUSED;
     }
     if too_late(space[0], lease) {
-        return 10;
+        return CLOCK_REFUSED;
     }
     if 8 <= txn_count(space) {
-        return 12;
+        return TXNS_REFUSED;
     }
-    if 4294967295 <= space[2] { 13 } else { 0 }
+    if 4294967295 <= space[2] {
+        NUMBER_REFUSED
+    } else {
+        0
+    }
 }
 
 pub(crate) fn judge_tick(space: &Words) -> u8
     ensures { λ r. ⌜ r ≡ earlyRefusal (view (now (space .entry))) (frameOf Request.Tick) ⌝ }
 {
     if waits_already(space, 0) {
-        return 6;
+        return WAITING_REFUSED;
     }
-    if 4294967294 <= space[0] { 10 } else { 0 }
+    if 4294967294 <= space[0] {
+        CLOCK_REFUSED
+    } else {
+        0
+    }
 }
 
 // The first of the refusals 6 to 13 that applies, or 0.

@@ -7,7 +7,11 @@ use Rattle.codec.proofs.frames.fields_at.Tie as tie
 
 returns : tie.Need-returns
 unfolding decode
-returns c = rw (c .before .before .before .number-at .ensures, c .before .before .number-at2 .ensures, c .before .number-at3 .ensures, c .number-at4 .ensures)
+returns c =
+    let image = c .before in
+    let side = image .before in
+    let kind = side .before in
+    rw (kind .number-at .ensures, side .number-at2 .ensures, image .number-at3 .ensures, c .number-at4 .ensures)
 
 pub fields-at-spec : {M : Type 1} → statement M
 fields-at-spec =

@@ -7,7 +7,19 @@ use Rattle.codec.proofs.frames.is_bad_template.Tie as tie
 
 returns : tie.Need-returns
 unfolding decode bit
-returns c = rw (c .before .before .before .is-unasked .ensures, c .before .before .is-unasked2 .ensures, c .before .is-unasked3 .ensures, c .is-unasked4 .ensures, c .before .before .before .before .fields-at .ensures, c .before .before .before .before .before .byte-at .ensures)
+returns c =
+    let image = c .before in
+    let side = image .before in
+    let kind = side .before in
+    let fields = kind .before in
+    rw (
+      kind .is-unasked .ensures,
+      side .is-unasked2 .ensures,
+      image .is-unasked3 .ensures,
+      c .is-unasked4 .ensures,
+      fields .fields-at .ensures,
+      fields .before .byte-at .ensures,
+    )
 
 pub is-bad-template-spec : {M : Type 1} → statement M
 is-bad-template-spec =

@@ -12,24 +12,28 @@ use Rattle.codec.proofs.frames.is_malformed.Tie as tie
 returns : tie.Need-returns
 unfolding decode
 returns c =
-    rw (c .before .before .before .byte-at .ensures, c .before .before .byte-at2 .ensures, c .number-at .ensures)
-    (sym (create-form (decode (c .before .before .before .before .before .args .frame .now)) (omega (arith, c .before .match .keys1))))
+    let byte3 = c .before .before .before in
+    rw (byte3 .byte-at .ensures, c .before .before .byte-at2 .ensures, c .number-at .ensures)
+    (sym (create-form (decode (byte3 .before .before .args .frame .now)) (omega (arith, c .before .match .keys1))))
 
 returns-2 : tie.Need-returns-2
 unfolding decode
 returns-2 c =
-    rw (c .before .before .before .before .before .byte-at .ensures, c .before .before .before .before .byte-at2 .ensures, c .is-bad-template .ensures)
-    (sym (find-form (decode (c .before .before .before .before .before .before .before .args .frame .now)) (omega arith) (omega arith)))
+    let mask = c .before .before .before .before in
+    rw (mask .before .byte-at .ensures, mask .byte-at2 .ensures, c .is-bad-template .ensures)
+    (sym (find-form (decode (mask .before .before .before .args .frame .now)) (omega arith) (omega arith)))
 
 returns-3 : tie.Need-returns-3
 unfolding decode
 returns-3 c =
-    let start = c .before .before .before .before .before in
-    rw (c .before .before .before .byte-at .ensures, c .before .before .byte-at2 .ensures)
+    let byte3 = c .before .before .before in
+    let start = byte3 .before .before in
+    let op = byteAt (start .args .frame .now) 0 in
+    rw (byte3 .byte-at .ensures, c .before .before .byte-at2 .ensures)
     (sym
     (plain-form (decode (start .args .frame .now))
-    (⊎-elim (λ w. find-below (byteAt (start .args .frame .now) 0) (omega (arith, start .pre))) (λ w. find-above (byteAt (start .args .frame .now) 0) (omega (arith, start .pre))) (c .if1 .came))
-    (ne-eqb (byteAt (start .args .frame .now) 0) 6 (λ e. omega (arith, start .pre, c .before .match .rest)))))
+    (⊎-elim (λ w. find-below op (omega (arith, start .pre))) (λ w. find-above op (omega (arith, start .pre))) (c .if1 .came))
+    (ne-eqb op 6 (λ e. omega (arith, start .pre, c .before .match .rest)))))
 
 pub is-malformed-spec : {M : Type 1} → statement M
 is-malformed-spec =

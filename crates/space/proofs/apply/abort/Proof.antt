@@ -1,7 +1,6 @@
 -- `space::abort` meets its contract. Assumes nothing.
 use borrow.Author.Needs.{needs}
 use mathlib.Core.Path.{ap₂}
-use Rattle.rules.specs.LookUp.{Done}
 use Rattle.rules.specs.Records.{aborted}
 use Rattle.rules.specs.Service.{service}
 use Rattle.rules.specs.Step.{after, abortFrame}

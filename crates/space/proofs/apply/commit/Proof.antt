@@ -1,7 +1,6 @@
 -- `space::commit` meets its contract. Assumes nothing.
 use borrow.Author.Needs.{needs}
 use mathlib.Core.Path.{ap₂}
-use Rattle.rules.specs.LookUp.{Done}
 use Rattle.rules.specs.Records.{committed}
 use Rattle.rules.specs.Service.{service}
 use Rattle.rules.specs.Step.{after, commitFrame}

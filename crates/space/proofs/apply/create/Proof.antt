@@ -4,10 +4,9 @@ use mathlib.Core.Path.{ap, _∙_}
 use mathlib.Core.List.{[], _∷_}
 use Rattle.rules.specs.declared.Record.{Record}
 use Rattle.rules.specs.declared.Request.the-variants.{Create}
-use Rattle.rules.specs.LookUp.{Done}
 use Rattle.rules.specs.Numbers.{kindCreated}
 use Rattle.rules.specs.Records.{plain, created}
-use Rattle.rules.specs.Requests.{frameOf, plainFrame}
+use Rattle.rules.specs.Requests.{frameOf}
 use Rattle.rules.specs.Transactions.{create}
 use Rattle.rules.specs.Words.{view}
 use Rattle.space.proofs.DoesLaws.{does-adds, does-as}

@@ -6,7 +6,7 @@ use native.Mathlib.Omega.{arith}
 use Rattle.rules.specs.declared.Record.{Record}
 use Rattle.rules.specs.declared.Request.the-variants.{Find}
 use Rattle.rules.specs.State.{Model}
-use Rattle.rules.specs.LookUp.{Done, answerFound}
+use Rattle.rules.specs.LookUp.{answerFound}
 use Rattle.rules.specs.Requests.{frameOf}
 use Rattle.rules.specs.Words.{view}
 use Rattle.space.specs.Find.{matchOf}
@@ -27,8 +27,8 @@ returns c =
     let f = frameOf (Find (a .l)) in
     let w = c .before .before .before .before .before .before .before .before .before .before .before .before .look-up-of in
     let n = sym (c .before .before .before .before .before .before .before .find-available .ensures) ∙ ap matchOf (c .before .before .before .before .before .enum-told .given .1) in
-    ends-as _ _ _ _ (c .before .before .go-without .result) (missing-number m f (w .result) (w .ensures .0) n (c .before .before .before .before .before .before .before .before .before .before .before .before .before .before .before .pre .0)) (missing-answer m f (w .result) (w .ensures .0) n)
-    (c .before .before .go-without .ensures)
+    ends-as _ _ _ _ (c .before .before .wait-or-nothing .result) (missing-number m f (w .result) (w .ensures .0) n (c .before .before .before .before .before .before .before .before .before .before .before .before .before .before .before .pre .0)) (missing-answer m f (w .result) (w .ensures .0) n)
+    (c .before .before .wait-or-nothing .ensures)
 
 add-record-requires : tie.Need-add-record-requires
 add-record-requires c κs = omega (arith, c .before .before .before .before .before .before .before .before .before .before .before .before .before .before .before .pre .2)

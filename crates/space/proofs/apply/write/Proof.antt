@@ -2,7 +2,6 @@
 use borrow.Author.Needs.{needs}
 use mathlib.Core.Path.{refl, ap₂}
 use borrow.Author.Tests.{eq-eqb, ne-eqb}
-use Rattle.rules.specs.Records.{written}
 use Rattle.rules.specs.Service.{service}
 use Rattle.rules.specs.Step.{after, quiet, write}
 use Rattle.rules.specs.Words.{view}

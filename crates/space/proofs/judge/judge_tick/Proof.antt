@@ -1,11 +1,11 @@
 -- `space::judge_tick` meets its contract. Assumes nothing.
 use borrow.Author.Needs.{needs}
 use mathlib.Core.Bool.{false}
-use mathlib.Core.Path.{_≡_, refl, sym, _∙_}
+use mathlib.Core.Path.{refl, sym, _∙_}
 use borrow.Author.Tests.{le-leb, lt-leb}
 use native.Mathlib.Omega.{arith}
 use Rattle.rules.specs.Refusals.{noLease, tooLate, entriesFull, txnsFull, noNumber}
-use Rattle.rules.specs.Requests.{frameOf, plainFrame}
+use Rattle.rules.specs.Requests.{frameOf}
 use Rattle.rules.specs.Words.{view}
 use Rattle.rules.specs.declared.Request.the-variants.{Tick}
 use Rattle.space.proofs.JudgeLaws.{party-admitted, party-refused, early-admission, early-rest}

@@ -1,8 +1,7 @@
 -- `space::judge_write` meets its contract. Assumes nothing.
 use borrow.Author.Needs.{needs}
-use mathlib.Core.Path.{_≡_, sym, _∙_}
+use mathlib.Core.Path.{sym, _∙_}
 use borrow.Author.Tests.{le-leb, lt-leb}
-use lib.Dec.{eqb}
 use Rattle.rules.specs.Refusals.{noLease, tooLate, entriesFull, txnsFull, noNumber}
 use Rattle.rules.specs.Requests.{frameOf}
 use Rattle.rules.specs.Words.{view}

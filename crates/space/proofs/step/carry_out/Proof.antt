@@ -2,13 +2,12 @@
 use borrow.Author.Needs.{needs}
 use Prim.Native.Nat.{ℕ}
 use mathlib.Core.Bool.{true, cond}
-use mathlib.Core.Path.{_≡_, refl, sym, ap, _∙_, subst, subst⁻¹}
+use mathlib.Core.Path.{_≡_, refl, sym, subst, subst⁻¹}
 use mathlib.Core.List.{List}
 use Rattle.rules.specs.declared.Request.{Request}
 use Rattle.rules.specs.Numbers.{waitsRefused}
 use Rattle.rules.specs.Refusals.{waitsFull}
-use Rattle.rules.specs.Requests.{frameOf, plainFrame}
-use Rattle.rules.specs.State.{Model}
+use Rattle.rules.specs.Requests.{frameOf}
 use Rattle.rules.specs.Step.{carriedOut}
 use Rattle.rules.specs.Words.{view}
 use Rattle.codec.specs.Kinds.{ofItsKind}
@@ -17,7 +16,6 @@ use Rattle.space.specs.declared.apply.Outcome.the-variants.{Carried}
 use Rattle.space.specs.Does.{first}
 use Rattle.space.specs.Judge.{earlyRefusal}
 use Rattle.space.specs.Outcome.{Ends}
-use Rattle.space.proofs.JudgeLaws.{looks-up}
 use Rattle.space.proofs.LookUpLaws.{ends-as}
 use Rattle.space.proofs.PassedLaws.{tick-clock}
 use Rattle.space.proofs.StepLaws.{carried-find}

@@ -1,6 +1,6 @@
 -- `space::take_frame` meets its contract. Assumes nothing.
 use borrow.Author.Needs.{needs}
-use mathlib.Core.Path.{refl, sym, ap, _∙_, subst}
+use mathlib.Core.Path.{refl, sym, ap, subst}
 use lib.ListN.{length}
 use Rattle.rules.specs.Requests.{Decodes}
 use Rattle.rules.specs.Step.{carriedOut}

@@ -1,4 +1,4 @@
--- `space::go_without` meets its contract. Assumes nothing.
+-- `space::wait_or_nothing` meets its contract. Assumes nothing.
 use borrow.Author.Needs.{needs}
 use mathlib.Core.Path.{refl, sym, ap, ap₂, _∙_}
 use mathlib.Core.List.{[], _∷_}
@@ -6,14 +6,14 @@ use native.Mathlib.Omega.{arith}
 use borrow.Author.Tests.{le-leb, lt-leb}
 use Rattle.rules.specs.declared.Record.{Record}
 use Rattle.rules.specs.State.{Model}
-use Rattle.rules.specs.LookUp.{Done, answerNothing, answerWaiting}
+use Rattle.rules.specs.LookUp.{answerNothing, answerWaiting}
 use Rattle.rules.specs.Records.{nothing, waiting}
 use Rattle.rules.specs.Words.{view}
 use Rattle.space.proofs.DoesLaws.{does-adds, does-as}
 use Rattle.space.proofs.LookUpLaws.{nothing-left, nothing-answer, waits-left, waits-answer, no-wait-left}
 use Rattle.space.proofs.MoveLaws.{length-waits}
-use Rattle.space.proofs.apply.go_without.Statement.{statement}
-use Rattle.space.proofs.apply.go_without.Tie as tie
+use Rattle.space.proofs.apply.wait_or_nothing.Statement.{statement}
+use Rattle.space.proofs.apply.wait_or_nothing.Tie as tie
 
 returns : tie.Need-returns
 unfolding answerNothing nothing
@@ -49,8 +49,8 @@ returns-3 c =
           (does-adds (c .before .before .before .before .before .add-wait .last .0) (view (c .before .before .before .before .before .add-wait .last .0)) (c .before .before .add-record2 .ensures) refl),
     )
 
-pub go-without-spec : {M : Type 1} → statement M
-go-without-spec =
+pub wait-or-nothing-spec : {M : Type 1} → statement M
+wait-or-nothing-spec =
     tie.close
     (tie.spec
     (λ c κs. search needs)
