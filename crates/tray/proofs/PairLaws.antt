@@ -1,15 +1,15 @@
 -- The pairs of a tray, one after another.
 use Prim.Native.Nat.{ℕ, zero, suc, _+_, _-_, _*_, _≤_, _<_}
-use mathlib.Core.Bool.{Bool, true, false, _||_}
-use mathlib.Core.Path.{_≡_, refl, sym, ap, ap₂, _∙_}
-use mathlib.Core.List.{List, [], _∷_, _++_, map}
+use mathlib.Core.Bool.{false, _||_}
+use mathlib.Core.Path.{_≡_, refl, ap, ap₂, _∙_}
+use mathlib.Core.List.{List, [], _∷_}
 use native.Mathlib.Omega.{arith}
 use borrow.Author.Tests.{ltb-false}
 use lib.Dec.{ltb}
-use lib.ListN.{length, getD, take, drop, length-map}
-use lib.Seq.{getD-drop, drop-drop}
+use lib.ListN.{length, getD, drop}
+use lib.Seq.{getD-drop}
 use Rattle.rules.specs.Frame.{byteAt, numberAt}
-use Rattle.rules.specs.Tray.{Pair, pairsOf, frameCount, pairsEnd, pairs, badPairs, frameAt}
+use Rattle.rules.specs.Tray.{Pair, pairsOf, pairs, badPairs}
 use Rattle.rules.proofs.StepCases.{or-left, or-right}
 
 -- the pair whose eight bytes begin at j

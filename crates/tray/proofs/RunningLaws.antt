@@ -1,17 +1,16 @@
 -- The runner's loop: what stands in the space and in the answers area after some frames.
-use Prim.Native.Nat.{ℕ, suc, _+_, _-_, _*_, _/_, _%_, _≤_, _<_}
-use mathlib.Core.Bool.{false}
+use Prim.Native.Nat.{ℕ, suc, _+_, _-_, _*_, _%_, _≤_, _<_}
 use mathlib.Core.Path.{_≡_, refl, sym, ap, ap₂, _∙_, subst, subst⁻¹}
 use mathlib.Core.List.{List, [], _∷_, _++_, map}
 use native.Mathlib.Omega.{arith}
 use lib.ListN.{length, getD, take, drop, length-append, length-drop, length-map, List·getD-map}
 use lib.Seq.{take-suc, split-at, length-take-le, take-all}
 use Rattle.rules.specs.declared.Record.{Record}
-use Rattle.rules.specs.State.{Model, empty}
+use Rattle.rules.specs.State.{empty}
 use Rattle.rules.specs.Words.{view}
 use Rattle.rules.specs.Records.{answerBytes, areaAfter}
 use Rattle.rules.specs.Step.{Outcome, step}
-use Rattle.rules.specs.Tray.{Pair, pairsOf, frameCount, pairs, frameAt, TrayOutcome, runFrames}
+use Rattle.rules.specs.Tray.{Pair, frameCount, pairs, frameAt, runFrames}
 use Rattle.rules.specs.Allowed.{Answered, Allowed, Stepped}
 use Rattle.rules.proofs.AreaLaws.{area-length, area-then}
 use Rattle.rules.proofs.Capacity.{step-fits}

@@ -10,14 +10,14 @@ use lib.Dec.{leb}
 use lib.ListN.{length, getD, take, drop}
 use Rattle.rules.specs.State.{Model, empty}
 use Rattle.rules.specs.Records.{areaAfter}
-use Rattle.rules.specs.Tray.{pairs, trayRefusal, frameAt, TrayOutcome, stopped, runFrames, runPairs, runTray}
+use Rattle.rules.specs.Tray.{pairs, trayRefusal, frameAt, TrayOutcome, runFrames, runPairs, runTray}
 use Rattle.rules.specs.Print.{doneLine, printed}
 use Rattle.rules.specs.Allowed.{TrayRan}
 use Rattle.rules.proofs.StepCases.{cond-cases}
 use Rattle.demands.specs.Machine.{theRules}
 use Rattle.demands.specs.History.{Logged}
 use Rattle.demands.specs.Bounds.{AreBytes, AllInRange}
-use Rattle.demands.specs.Trays.{HandedIn, none-left, one-more, TrayHistory, TraysAreHistories, ReadBack}
+use Rattle.demands.specs.Trays.{HandedIn, none-left, one-more, TrayHistory, TraysAreHistories}
 use Rattle.demands.specs.Trays.{NumbersAreReadBack}
 use Rattle.demands.proofs.Carried.{rules-follow}
 use Rattle.demands.proofs.Trays.{trays-are-histories, numbers-are-read-back}

@@ -2,7 +2,7 @@
 use Prim.Native.Nat.{ℕ, zero, suc, _+_, _-_, _*_, _≤_}
 use mathlib.Core.Bool.{Bool, true, _&&_}
 use mathlib.Core.Path.{_≡_, refl, sym, ap, ap₂, _∙_, subst}
-use mathlib.Core.List.{List, [], _++_, append-assoc, append-nil}
+use mathlib.Core.List.{List, _++_, append-assoc, append-nil}
 use native.Mathlib.Numerals.{add-one}
 use native.Mathlib.Omega.{arith}
 use borrow.Author.Tests.{le-leb}
@@ -98,15 +98,19 @@ recordAt area i = take (length area - 28 * i) (drop (28 * i) area)
 -- the line of the record at i, printed behind those before it
 module _ (area old out new : List ℕ) (at i n : ℕ) (f : Prints true (recordTexts i area) old out at)
     (h : 28 * i + 28 ≤ length area) (k : at + 100 ≤ length out)
-    (p : Prints (hasRecord (recordAt area i) && hasLine (lineAt out at)) (recordText (recordAt area i)) (lineAt out at) new n)
+    (p : Prints (hasRecord (recordAt area i) && hasLine (lineAt out at)) (recordText (recordAt area i))
+    (lineAt out at) new n)
     (same : length new ≡ length (lineAt out at)) where
   its-line : Prints true (recordText (drop (28 * i) area)) (lineAt out at) new n
   its-line =
       subst (λ bs. Prints true (recordText bs) (lineAt out at) new n) (part-from area (28 * i))
-      (by-room _ (recordText (recordAt area i)) (lineAt out at) new n (ap₂ (λ x y. x && y) whole (line-room out at k)) p)
+      (by-room _ (recordText (recordAt area i)) (lineAt out at) new n room p)
     where
       whole : hasRecord (recordAt area i) ≡ true
       whole = le-leb 28 (length (recordAt area i)) (simp (length-take, length-drop) (omega arith))
+
+      room : (hasRecord (recordAt area i) && hasLine (lineAt out at)) ≡ true
+      room = ap₂ (λ x y. x && y) whole (line-room out at k)
 
   pub record-short : n ≤ 100
   record-short = no-longer (recordTexts i area) (recordText (drop (28 * i) area)) old out new at n f its-line same

@@ -55,9 +55,10 @@ loop-again c =
     let at = sizes .before .size-at2 .ensures .0 in
     let frame = part-is-frame (start .args .tray .now) (l .frames) _ _ at (sizes .size-at3 .ensures .0) in
     let area = part-put (l .answers) (step .last .1 .1 .0) (28 * l .records) in
-    let more = running-more _ (start .args .answers .now) (l .space) (l .answers) _ _ _ _ (step .last .1 .1 .0) (l .frames)
-    (l .records) _ (l .inv .0) (omega arith) (omega arith) frame (part-from (l .answers) (28 * l .records)) (step .ensures)
-    area in
+    let part = part-from (l .answers) (28 * l .records) in
+    let more =
+    running-more _ (start .args .answers .now) (l .space) (l .answers) _ _ _ _ (step .last .1 .1 .0)
+    (l .frames) (l .records) _ (l .inv .0) (omega arith) (omega arith) frame part (step .ensures) area in
     (more, l .inv .1, l .inv .2, omega arith, running-length _ _ _ _ _ _ more)
 
 packed-requires-2 : tie.Need-packed-requires-2 Inv-loop μ-loop

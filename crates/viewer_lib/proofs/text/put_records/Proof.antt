@@ -30,7 +30,8 @@ loop-again c =
     let l = c .before .before .before .before .before .before .loop in
     let t = c .before .before .record-line in
     let more =
-    record-printed _ _ (l .out) _ (l .at) (l .i) _ (l .inv .0) (omega arith) (omega arith) (t .ensures) (t .kept .1 .0) in
+    record-printed _ _ (l .out) _ (l .at) (l .i) _ (l .inv .0) (omega arith) (omega arith) (t .ensures)
+    (t .kept .1 .0) in
     (more, omega (arith, short c), omega arith, prints-length _ _ _ _ more (omega (arith, short c)))
 
 returns : tie.Need-returns Inv-loop μ-loop
@@ -38,7 +39,9 @@ returns c =
     let l = c .before .loop in
     let a = c .before .before .before .before .args in
     let all : l .i ≡ a .count = omega arith in
-    (subst (λ k. Prints true (recordTexts k (a .answers .now)) (a .out .now) (l .out) (l .at)) all (l .inv .0), omega arith)
+    let lines =
+    subst (λ k. Prints true (recordTexts k (a .answers .now)) (a .out .now) (l .out) (l .at)) all (l .inv .0) in
+    (lines, omega arith)
 
 pub put-records-spec : {M : Type 1} → statement M
 put-records-spec =

@@ -12,8 +12,8 @@ use Rattle.viewer_lib.proofs.text.show_tray.Tie as tie
 bytes : (c : tie.After-space-run-tray) → AreBytes (c .before .before .before .before .before .args .tray .now)
 bytes c = are-bytes _ (λ i. omega (arith, c .before .before .before .before .shared-slice-known .given i))
 
-fit : (c : tie.After-space-run-tray)
-    → 28 * (c .space-run-tray .result / 65536 % 65536) ≤ length (c .before .before .before .before .before .args .answers .now)
+fit : (c : tie.After-space-run-tray) → 28 * (c .space-run-tray .result / 65536 % 65536)
+    ≤ length (c .before .before .before .before .before .args .answers .now)
 fit c = records-fit _ _ _ _ (c .space-run-tray .ensures) (bytes c)
 
 put-records-requires : tie.Need-put-records-requires
@@ -32,8 +32,9 @@ add-result c =
     let d = c .before .before .done-line in
     let q = c .before .before .before .before .before .before in
     let t = q .before .before .before .before .before in
-    let short = shown-short _ _ _ _ (t .space-run-tray .ensures) (bytes t) _ _ _ _ _ (q .put-records .ensures .0) (room q)
-    (d .ensures) (d .kept .1 .1 .1 .0) in
+    let lines = q .put-records .ensures .0 in
+    let short = shown-short _ _ _ _ (t .space-run-tray .ensures) (bytes t) _ _ _ _ _ lines (room q) (d .ensures)
+    (d .kept .1 .1 .1 .0) in
     omega (arith, short, q .put-records .ensures .1, fit t)
 
 returns : tie.Need-returns
