@@ -1,10 +1,12 @@
 // A frame's bytes, decoded into a request or one of the refusals 2 to 5.
 ghost use mathlib.Core.Path.{_≡_};
+ghost use mathlib.Core.Bool.{true};
 ghost use Prim.Native.Nat.{_≤_};
 ghost use Rattle.rules.specs.Numbers.{opWrite, opRead, opTakeIfExists, opCreate, opCommit, opAbort, opTick};
 ghost use Rattle.rules.specs.Frame.{byteAt, frameLength, decode as decodeFrame};
 ghost use Rattle.rules.specs.Refusals.{unasked, badTemplate, malformed, wrongParty};
 ghost use Rattle.rules.specs.Requests.{formRefusal, Decodes};
+ghost use Rattle.codec.specs.Kinds.{asksOfItsKind};
 use crate::bytes::byte_at;
 use crate::bytes::number_at;
 use crate::numbers::FORM_REFUSED;
@@ -123,6 +125,7 @@ fn form_refusal(frame: &[u8], op: u8) -> u8
 fn decode_write(frame: &[u8]) -> Decoded
     requires { ⌜ byteAt (now frame) 0 ≡ opWrite ⌝ }
     ensures { λ r. ⌜ Decodes (now (frame .entry)) r ⌝ }
+    ensures kind { λ r. ⌜ asksOfItsKind r ≡ true ⌝ }
 {
     let n = form_refusal(frame, OP_WRITE);
     if n != 0 {
@@ -141,6 +144,7 @@ fn decode_write(frame: &[u8]) -> Decoded
 fn decode_find(frame: &[u8], op: u8) -> Decoded
     requires { ⌜ (op ≡ byteAt (now frame) 0) × (opRead ≤ op) × (op ≤ opTakeIfExists) ⌝ }
     ensures { λ r. ⌜ Decodes (now (frame .entry)) r ⌝ }
+    ensures kind { λ r. ⌜ asksOfItsKind r ≡ true ⌝ }
 {
     let n = form_refusal(frame, op);
     if n != 0 {
@@ -161,6 +165,7 @@ fn decode_find(frame: &[u8], op: u8) -> Decoded
 fn decode_create(frame: &[u8]) -> Decoded
     requires { ⌜ byteAt (now frame) 0 ≡ opCreate ⌝ }
     ensures { λ r. ⌜ Decodes (now (frame .entry)) r ⌝ }
+    ensures kind { λ r. ⌜ asksOfItsKind r ≡ true ⌝ }
 {
     let n = form_refusal(frame, OP_CREATE);
     if n != 0 {
@@ -173,6 +178,7 @@ fn decode_create(frame: &[u8]) -> Decoded
 fn decode_ending(frame: &[u8], op: u8) -> Decoded
     requires { ⌜ (op ≡ byteAt (now frame) 0) × (opCommit ≤ op) × (op ≤ opAbort) ⌝ }
     ensures { λ r. ⌜ Decodes (now (frame .entry)) r ⌝ }
+    ensures kind { λ r. ⌜ asksOfItsKind r ≡ true ⌝ }
 {
     let n = form_refusal(frame, op);
     if n != 0 {
@@ -189,6 +195,7 @@ fn decode_ending(frame: &[u8], op: u8) -> Decoded
 fn decode_tick(frame: &[u8]) -> Decoded
     requires { ⌜ byteAt (now frame) 0 ≡ opTick ⌝ }
     ensures { λ r. ⌜ Decodes (now (frame .entry)) r ⌝ }
+    ensures kind { λ r. ⌜ asksOfItsKind r ≡ true ⌝ }
 {
     let n = form_refusal(frame, OP_TICK);
     if n != 0 {
@@ -200,6 +207,7 @@ fn decode_tick(frame: &[u8]) -> Decoded
 // What a frame asks for, or the first of the refusals 2 to 5 that applies.
 pub fn decode(frame: &[u8]) -> Decoded
     ensures { λ r. ⌜ Decodes (now (frame .entry)) r ⌝ }
+    ensures kind { λ r. ⌜ asksOfItsKind r ≡ true ⌝ }
 {
     if frame.len() == 0 {
         return Decoded::Refused(OPERATION_REFUSED);

@@ -1,4 +1,5 @@
--- Aborting again changes nothing; so the transactions that end now may be aborted one by one, the first that is left each time.
+-- Aborting again changes nothing; so the transactions that end now may be aborted one by one,
+-- the first that is left each time.
 use Prim.Native.Nat.{ℕ, _<_}
 use mathlib.Core.Bool.{true, false, cond, not}
 use mathlib.Core.Logic.{_⊎_, inl, inr}

@@ -1,14 +1,21 @@
--- What is known of a frame that is not refused: none of the table's rows applies.
+-- What is known of a frame that is not refused: none of the table's rows applies. The table in parts.
 use Prim.Native.Nat.{ℕ, suc}
-use mathlib.Core.Bool.{Bool, true, false, cond}
-use mathlib.Core.Path.{_≡_, refl}
-use mathlib.Core.List.{List}
+use mathlib.Core.Bool.{Bool, true, false, not, cond, _&&_}
+use mathlib.Core.Path.{_≡_, refl, ap}
+use mathlib.Core.List.{List, [], _∷_, _++_}
 use native.Mathlib.Omega.{arith}
-use lib.Dec.{ltb}
+use borrow.Author.Tests.{not-true}
+use lib.Dec.{eqb, ltb}
+use Rattle.rules.specs.Lists.{firstRow}
+use Rattle.rules.specs.Numbers.{stepArea, areaRefused, operationRefused, lengthRefused, formRefused, partyRefused}
+use Rattle.rules.specs.Numbers.{waitingRefused, notLiveRefused, notOwnRefused, leaseRefused, clockRefused}
+use Rattle.rules.specs.Numbers.{entriesRefused, txnsRefused, numberRefused, waitsRefused}
 use Rattle.rules.specs.State.{Model}
-use Rattle.rules.specs.Frame.{decode}
+use Rattle.rules.specs.Frame.{Frame, decode}
 use Rattle.rules.specs.Refusals.{noOperation, wrongLength, malformed, wrongParty, partyWaits, notLive, notOwn}
 use Rattle.rules.specs.Refusals.{noLease, tooLate, entriesFull, txnsFull, noNumber, waitsFull, refusal}
+use Rattle.rules.specs.Requests.{formRefusal, spaceRefusal}
+use Rattle.rules.proofs.StepCases.{cond-cases, and-left, and-right}
 
 pub row : (b : Bool) (n rest : ℕ) → cond b (suc n) rest ≡ 0 → (b ≡ false) × (rest ≡ 0)
 row true n rest e = absurd (omega arith)
@@ -63,3 +70,72 @@ clear m bs area e =
       numbers = r13 .0;
       wait-room = r14 .0;
     }
+
+-- ---- the table in parts
+-- no row has the number k
+abbrev pub without : ℕ → List (Bool × ℕ) → Bool
+without k [] = true
+without k (r ∷ rs) = not (eqb (r .1) k) && without k rs
+
+-- and so none is given; k is not 0, which says that none applies
+pub first-without : (k : ℕ) (rs : List (Bool × ℕ)) → eqb 0 k ≡ false → without k rs ≡ true → eqb (firstRow rs) k ≡ false
+first-without k [] z e = z
+first-without k (r ∷ rs) z e =
+    cond-cases (λ n. eqb n k ≡ false) (r .0) (λ t. not-true (eqb (r .1) k) (and-left (not (eqb (r .1) k)) (without k rs) e))
+    (λ t. first-without k rs z (and-right (not (eqb (r .1) k)) (without k rs) e))
+
+-- the first of some rows that applies, or else of the rows behind them
+pub first-append : (xs ys : List (Bool × ℕ)) → without 0 xs ≡ true → firstRow (xs ++ ys) ≡ cond (eqb (firstRow xs) 0) (firstRow ys) (firstRow xs)
+first-append [] ys e = refl
+first-append (x ∷ xs) ys e =
+    go (x .0) (not-true (eqb (x .1) 0) (and-left (not (eqb (x .1) 0)) (without 0 xs) e)) (first-append xs ys (and-right (not (eqb (x .1) 0)) (without 0 xs) e))
+  where
+    go : (b : Bool) → eqb (x .1) 0 ≡ false → firstRow (xs ++ ys) ≡ cond (eqb (firstRow xs) 0) (firstRow ys) (firstRow xs)
+        → cond b (x .1) (firstRow (xs ++ ys)) ≡ cond (eqb (cond b (x .1) (firstRow xs)) 0) (firstRow ys) (cond b (x .1) (firstRow xs))
+    go true q below = rw q
+    go false q below = below
+
+-- the answers area is judged first, then the frame's bytes, then the frame against the space
+pub refusal-parts : (m : Model) (bs : List ℕ) (area : ℕ)
+    → refusal m bs area
+    ≡ cond (ltb area stepArea) areaRefused (cond (eqb (formRefusal bs) 0) (spaceRefusal m (decode bs)) (formRefusal bs))
+unfolding refusal formRefusal spaceRefusal
+refusal-parts m bs area =
+    let f = decode bs in
+    ap (λ n. cond (ltb area stepArea) areaRefused n)
+    (first-append
+    ((noOperation bs f, operationRefused) ∷ (wrongLength bs f, lengthRefused) ∷ (malformed f, formRefused) ∷ (wrongParty f, partyRefused) ∷ [])
+    ((partyWaits m f, waitingRefused)
+    ∷ (notLive m f, notLiveRefused)
+    ∷ (notOwn m f, notOwnRefused)
+    ∷ (noLease f, leaseRefused)
+    ∷ (tooLate m f, clockRefused)
+    ∷ (entriesFull m f, entriesRefused)
+    ∷ (txnsFull m f, txnsRefused)
+    ∷ (noNumber m f, numberRefused)
+    ∷ (waitsFull m f, waitsRefused)
+    ∷ []) refl)
+
+-- no frame's bytes, and no frame against the space, are refused with 1
+pub form-not-area : (bs : List ℕ) → eqb (formRefusal bs) areaRefused ≡ false
+unfolding formRefusal
+form-not-area bs =
+    let f = decode bs in
+    first-without areaRefused
+    ((noOperation bs f, operationRefused) ∷ (wrongLength bs f, lengthRefused) ∷ (malformed f, formRefused) ∷ (wrongParty f, partyRefused) ∷ [])
+    refl refl
+
+pub space-not-area : (m : Model) (f : Frame) → eqb (spaceRefusal m f) areaRefused ≡ false
+unfolding spaceRefusal
+space-not-area m f =
+    first-without areaRefused
+    ((partyWaits m f, waitingRefused)
+    ∷ (notLive m f, notLiveRefused)
+    ∷ (notOwn m f, notOwnRefused)
+    ∷ (noLease f, leaseRefused)
+    ∷ (tooLate m f, clockRefused)
+    ∷ (entriesFull m f, entriesRefused)
+    ∷ (txnsFull m f, txnsRefused)
+    ∷ (noNumber m f, numberRefused)
+    ∷ (waitsFull m f, waitsRefused)
+    ∷ []) refl refl

@@ -13,7 +13,7 @@ use lib.Seq.{getD-set-same, getD-set-other}
 use Rattle.rules.specs.declared.Entry.{Entry}
 use Rattle.rules.specs.declared.LookUp.{LookUp}
 use Rattle.rules.specs.Frame.{isTake, isIfExists}
-use Rattle.rules.specs.State.{Model, withEntries, withWaits, withClock, withNextTxn}
+use Rattle.rules.specs.State.{Model, withEntries, withWaits, withClock, withNextEntry, withNextTxn}
 use Rattle.rules.specs.Words.{before, from, row, untilOf, untilWord, entryCount, txnCount, waitCount, entryFrom, entryOf, waitFrom, waitOf, entries, txns, waits, view}
 use Rattle.space.specs.Rows.{putEntry, entryWords, putWait, waitWords, opWord, Holds}
 use Rattle.space.proofs.RowLaws.{over, over-length, over-before, over-from, over-row, set9-over, word-before}
@@ -148,6 +148,16 @@ clock-view ws t l =
       getD-set-same ws 0 t 0 (omega arith),
       getD-set-other ws 0 1 t 0 (eqb-false 1 0 refl),
       getD-set-other ws 0 2 t 0 (eqb-false 2 0 refl),
+    )
+
+pub next-entry-view : (ws : List ℕ) (n : ℕ) → length ws ≡ 758 → view (set ws 1 n) ≡ withNextEntry n (view ws)
+unfolding view
+next-entry-view ws n l =
+    set-head ws 1 n (lit< tt)
+    ∙ rw (
+      getD-set-other ws 1 0 n 0 (eqb-false 0 1 refl),
+      getD-set-same ws 1 n 0 (omega arith),
+      getD-set-other ws 1 2 n 0 (eqb-false 2 1 refl),
     )
 
 pub next-txn-view : (ws : List ℕ) (n : ℕ) → length ws ≡ 758 → view (set ws 2 n) ≡ withNextTxn n (view ws)

@@ -37,7 +37,8 @@ split : {rs : List Record} {a a₁ : List ℕ} {c c₁ : ℕ} → Adds rs a a₁
 unfolding areaAfter
 split {rs} {a = a} {c = c} p = p .bytes ∙ sym (append-assoc (take (28 * c) a) (answerBytes rs) _)
 
-size : {rs : List Record} {a a₁ : List ℕ} {c c₁ : ℕ} → 28 * c ≤ length a → Adds rs a a₁ c c₁ → length (take (28 * c) a ++ answerBytes rs) ≡ 28 * c₁
+size : {rs : List Record} {a a₁ : List ℕ} {c c₁ : ℕ} → 28 * c ≤ length a → Adds rs a a₁ c c₁
+    → length (take (28 * c) a ++ answerBytes rs) ≡ 28 * c₁
 size {rs} {a = a} {c = c} room p =
     length-append (take (28 * c) a) (answerBytes rs)
     ∙ ap₂ (λ m n. m + n) (length-take-le (28 * c) a room) (answers-length rs)
@@ -59,7 +60,8 @@ module _ {rs : List Record} {a a₁ : List ℕ} {c c₁ : ℕ} (room : 28 * c �
   adds-length h =
       ap length (split p)
       ∙ length-append (take (28 * c) a ++ answerBytes rs) _
-      ∙ ap₂ (λ m n. m + n) (size room p) (length-drop (28 * length rs) (drop (28 * c) a) ∙ ap (λ n. n - 28 * length rs) (length-drop (28 * c) a))
+      ∙ ap₂ (λ m n. m + n) (size room p)
+      (length-drop (28 * length rs) (drop (28 * c) a) ∙ ap (λ n. n - 28 * length rs) (length-drop (28 * c) a))
       ∙ omega (arith, p .counts)
 
 -- some records, and then others
@@ -102,16 +104,19 @@ pub does-quietly : {d : Done} {ws a a′ : List ℕ} {c c′ : ℕ} (ws′ : Lis
 does-quietly ws′ m h v = does-adds ws′ m (adds-of h) v
 
 -- one record is put into the part of the area from `at` on
-pub does-one : (ws a a′ : List ℕ) (c at k : ℕ) (m : Model) (r : Record) → view ws ≡ m → 28 * (c + 1) ≤ length a → at ≡ 28 * c → length a ≤ at + k
+pub does-one : (ws a a′ : List ℕ) (c at k : ℕ) (m : Model) (r : Record) → view ws ≡ m → 28 * (c + 1) ≤ length a
+    → at ≡ 28 * c → length a ≤ at + k
     → a′ ≡ take at a ++ ((recordBytes r ++ drop 28 (take k (drop at a))) ++ drop k (drop at a))
     → Does (record { model = m; records = r ∷ [] }) ws a a′ c (c + 1)
 does-one ws a a′ c at k m r v room p l e = does-adds ws m (adds-one a a′ c at k r room p l e) v
 
 -- the area keeps its length
-pub does-length : {d : Done} {ws a a₁ : List ℕ} {c c₁ : ℕ} → 28 * c ≤ length a → Does d ws a a₁ c c₁ → 28 * c₁ ≤ length a → length a₁ ≡ length a
+pub does-length : {d : Done} {ws a a₁ : List ℕ} {c c₁ : ℕ} → 28 * c ≤ length a → Does d ws a a₁ c c₁ → 28 * c₁ ≤ length a
+    → length a₁ ≡ length a
 does-length room p h = adds-length room (adds-of p) h
 
 -- one function after another
-pub does-then : {d e : Done} {ws₁ ws₂ a a₁ a₂ : List ℕ} {c c₁ c₂ : ℕ} → 28 * c ≤ length a → Does d ws₁ a a₁ c c₁ → Does e ws₂ a₁ a₂ c₁ c₂
+pub does-then : {d e : Done} {ws₁ ws₂ a a₁ a₂ : List ℕ} {c c₁ c₂ : ℕ} → 28 * c ≤ length a → Does d ws₁ a a₁ c c₁
+    → Does e ws₂ a₁ a₂ c₁ c₂
     → Does (record { model = e .model; records = d .records ++ e .records }) ws₂ a a₂ c c₂
 does-then {ws₂ = ws₂} room p q = does-adds ws₂ _ (adds-then room (adds-of p) (adds-of q)) (q .model)

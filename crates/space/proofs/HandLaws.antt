@@ -111,6 +111,41 @@ handed-marked ws w e p q t =
     ap (λ k. withEntries (swept (Mark (e .id) (w .takes) (w .txn) k) (view ws .entries)) (view ws)) q
     ∙ ap (λ es. withEntries es (view ws)) (sym (hand-marks (view ws .txns) w (live-low (w .txn .0) ws) e (view ws .entries) t))
 
+-- a read by no live transaction leaves the entries as they are
+no-place : (o : Option Txn) → LowPlace o → slotOf o ≡ 8 → o ≡ none
+no-place none l e = refl
+no-place (some t) l e = absurd (omega arith)
+
+no-mark : (ts : List Txn) (w : LookUp) → w .takes ≡ false → liveTxn (w .txn .0) ts ≡ none → (x : Entry) → marked ts w x ≡ x
+unfolding marked withHold
+no-mark ts w t n x =
+    ap (λ o. cond (eqb (x .«private_to» .0) (w .txn .0)) x (held (w .takes) o)) n
+    ∙ ap (λ b. cond (eqb (x .«private_to» .0) (w .txn .0)) x (held b none)) t
+    ∙ cond-cases (λ y. y ≡ x) (eqb (x .«private_to» .0) (w .txn .0)) (λ e. refl) (λ e. refl)
+  where
+    held : Bool → Option Txn → Entry
+    held b o =
+        record {
+          id = x .id;
+          fields = x .fields;
+          end = x .end;
+          «private_to» = x .«private_to»;
+          «taken_by» = cond b (w .txn) (x .«taken_by»);
+          readers = cond b (dropReaderOf o (x .readers)) (addReaderOf o (x .readers));
+        }
+
+pub handed-unmarked : (ws : List ℕ) (w : LookUp) (e : Entry) (p : ℕ) → p ≡ slotOf (liveTxn (w .txn .0) (view ws .txns)) → p ≡ 8 → w .takes ≡ false
+    → view ws ≡ handedOut w e (view ws)
+unfolding handedOut handOut removes
+handed-unmarked ws w e p q z t =
+    let n = no-place (liveTxn (w .txn .0) (view ws .txns)) (live-low (w .txn .0) ws) (sym q ∙ z) in
+    let same : (x : Entry) → cond (isEntry e x) (marked (view ws .txns) w x) x ≡ x
+    = λ x. ap (λ y. cond (isEntry e x) y x) (no-mark (view ws .txns) w t n x) ∙ cond-cases (λ y. y ≡ x) (isEntry e x) (λ h. refl) (λ h. refl) in
+    ap (λ es. withEntries es (view ws))
+    (sym (ap (λ b. cond (b && eqb (e .«private_to» .0) (w .txn .0)) (filterb (λ x. not (isEntry e x)) (view ws .entries)) (map (λ x. cond (isEntry e x) (marked (view ws .txns) w x) x) (view ws .entries))) t
+    ∙ ap (λ f. map f (view ws .entries)) (fun-ext same)
+    ∙ map-id (view ws .entries)))
+
 -- ---- a transaction committed: the pass, and then the transaction is live no longer
 pub committed-model : (ws : List ℕ) (t : TxnId) (p : ℕ) (m₁ m₂ : Model) → p ≡ slotOf (liveTxn (t .0) (view ws .txns))
     → m₁ ≡ sweepModel (Commit t p) (view ws) → m₂ ≡ withTxns (withoutTxn (t .0) (m₁ .txns)) m₁ → m₂ ≡ commit (t .0) (view ws)

@@ -1,5 +1,5 @@
--- The search for an entry that is available to a look-up, row by row.
-use Prim.Native.Nat.{ℕ, suc, _+_, _*_, _≤_, _<_}
+-- The search for an entry that is available to a look-up, or that conflicts with it, row by row.
+use Prim.Native.Nat.{ℕ, _+_, _*_, _<_}
 use mathlib.Core.Bool.{Bool, true, false}
 use mathlib.Core.Option.{none, some}
 use mathlib.Core.Path.{_≡_, refl, sym, ap, _∙_}
@@ -7,14 +7,15 @@ use mathlib.Core.List.{List}
 use native.Mathlib.Numerals.{add-one}
 use Rattle.rules.specs.declared.Entry.{Entry}
 use Rattle.rules.specs.declared.LookUp.{LookUp}
-use Rattle.rules.specs.Lists.{findb, pick}
-use Rattle.rules.specs.Holds.{liveTxn, available, availableTo}
+use Rattle.rules.specs.Lists.{findb, anyb, pick}
+use Rattle.rules.specs.Holds.{liveTxn, available, availableTo, conflicts, someConflicts}
 use Rattle.rules.specs.Words.{entryOf, entryFrom, entryCount, row, entries, view}
 use Rattle.space.specs.Live.{slotOf}
-use Rattle.space.specs.HandOut.{availableAt}
-use Rattle.space.proofs.FindLaws.{passed, found-at, first-pick}
+use Rattle.space.specs.HandOut.{availableAt, conflictsAt}
+use Rattle.space.proofs.FindLaws.{passed, found-at, first-pick, any-passed, any-at}
 use Rattle.space.proofs.ViewLaws.{entry-row}
 use Rattle.space.proofs.HandLaws.{live-low, available-of}
+use Rattle.space.proofs.ConflictLaws.{conflicts-of}
 
 module _ (ws : List ℕ) (w : LookUp) where
   -- none of the first j entries is available
@@ -50,3 +51,28 @@ module _ (ws : List ℕ) (w : LookUp) where
       first-pick (available (view ws .txns) w) (view ws .entries)
       ∙ ap (λ k. findb (available (view ws .txns) w) (entries k ws)) (sym e)
       ∙ h
+
+module _ (ws : List ℕ) (w : LookUp) where
+  -- none of the first j entries conflicts
+  abbrev pub NoConflict : ℕ → Type 0
+  NoConflict j = anyb (conflicts (view ws .txns) w) (entries j ws) ≡ false
+
+  pub no-conflict-none : NoConflict 0
+  unfolding entries
+  no-conflict-none = refl
+
+  module _ (j p : ℕ) (e : Entry) (r : e ≡ entryFrom ws (6 + 9 * j)) (q : p ≡ slotOf (liveTxn (w .txn .0) (view ws .txns))) (b : Bool) (a : b ≡ conflictsAt p w e) where
+    judged : conflicts (view ws .txns) w (entryOf (row 6 9 ws j)) ≡ b
+    judged = ap (conflicts (view ws .txns) w) (entry-row ws j ∙ sym r) ∙ conflicts-of ws w p q e ∙ sym a
+
+    pub no-conflict-more : NoConflict j → b ≡ false → NoConflict (j + 1)
+    unfolding entries
+    no-conflict-more h t = rw add-one (any-passed (conflicts (view ws .txns) w) (λ k. entryOf (row 6 9 ws k)) j h (judged ∙ t))
+
+    pub conflict-found : b ≡ true → j < entryCount ws → someConflicts (view ws .txns) w (view ws .entries) ≡ true
+    unfolding entries view
+    conflict-found t l = any-at (conflicts (view ws .txns) w) (λ k. entryOf (row 6 9 ws k)) j (entryCount ws) l (judged ∙ t)
+
+  pub no-conflict : (j : ℕ) → j ≡ entryCount ws → NoConflict j → someConflicts (view ws .txns) w (view ws .entries) ≡ false
+  unfolding view
+  no-conflict j e h = ap (λ k. anyb (conflicts (view ws .txns) w) (entries k ws)) (sym e) ∙ h

@@ -1,6 +1,7 @@
 -- A pass over the entries, row by row.
 use Prim.Native.Nat.{ℕ, zero, suc, _+_, _*_, _≤_, _<_}
 use mathlib.Core.Bool.{Bool, true, false, cond}
+use mathlib.Core.Logic.{⊎-elim}
 use mathlib.Core.Path.{_≡_, refl, sym, ap, ap₂, _∙_, subst}
 use mathlib.Core.List.{List, [], _∷_, _++_, map, map-append, append-nil}
 use native.Mathlib.Omega.{arith}
@@ -14,13 +15,16 @@ use Rattle.rules.specs.Lists.{filterb}
 use Rattle.rules.proofs.ListLaws.{filter-append}
 use Rattle.rules.proofs.StepCases.{cond-cases}
 use Rattle.rules.specs.State.{Model, withEntries}
+use Rattle.rules.specs.Template.{bit}
+use Rattle.rules.specs.Holds.{dropReader}
+use Rattle.rules.specs.Transactions.{privateTo, takenBy}
 use Rattle.space.specs.declared.sweep.Sweep.{Sweep}
 use Rattle.space.specs.declared.sweep.Sweep.the-variants.{Expire, Commit, Abort, Remove, Mark}
 use Rattle.rules.specs.Words.{before, from, row, untilOf, untilWord, entryOf, entryFrom, entryCount, entries, view}
 use Rattle.space.specs.Rows.{putEntry, entryWords}
-use Rattle.space.specs.Sweep.{releasedAt, heldAt, markedAt, keeps, changes, swept, sweepModel}
+use Rattle.space.specs.Sweep.{dropAt, releasedAt, heldAt, markedAt, keeps, changes, KeptAt, swept, sweepModel}
 use Rattle.space.proofs.RowLaws.{over, over-length, over-before, over-from, over-row, set9-over, row-from, from-more, word-before}
-use Rattle.space.proofs.CompactLaws.{Compacting, compact-start, compact-passed, compact-kept}
+use Rattle.space.proofs.CompactLaws.{Compacting, compact-start, compact-passed, compact-same, compact-kept}
 use Rattle.space.proofs.ViewLaws.{until-back, entry-row, entries-more, Storable, entry-back}
 use Rattle.space.proofs.StateLaws.{Kept, kept-entries, kept-count, kept-then, entries-before, entries-from, set-from, view-entries}
 
@@ -38,6 +42,23 @@ put-more ws n x st fits =
     (entries-before n (6 + 9 * n) ws′ ws (omega arith) (over-before ws (6 + 9 * n) (entryWords x) fits (6 + 9 * n) (omega arith)))
     (sym (entry-row ws′ n) ∙ ap entryOf (over-row 6 9 n ws (entryWords x) refl fits) ∙ entry-back x st)
 
+-- a change leaves the end, so the row can hold it
+change-end : (s : Sweep) (e : Entry) → changes s e .end ≡ e .end
+unfolding releasedAt markedAt heldAt
+change-end (Expire clock) e = refl
+change-end (Commit t p) e = refl
+change-end (Abort t p) e = refl
+change-end (Remove n) e = refl
+change-end (Mark n takes t p) e =
+    cond-cases (λ (x : Entry). x .end ≡ e .end) (eqb (e .id .0) (n .0))
+    (λ h. cond-cases (λ (x : Entry). x .end ≡ e .end) (eqb (e .«private_to» .0) (t .0)) (λ k. refl) (λ k. refl))
+    (λ h. refl)
+
+storable : (s : Sweep) (ws : List ℕ) (o : ℕ) (e x : Entry) → e ≡ entryFrom ws o → x ≡ changes s e → x .readers < 256 → Storable x
+storable s ws o e x r c l =
+    let same : x .end ≡ untilOf (getD ws (o + 5) 0) = ap (λ (y : Entry). y .end) c ∙ change-end s e ∙ ap (λ (y : Entry). y .end) r in
+    record { readers-fit = l; end-fits = ap (λ u. untilOf (untilWord u)) same ∙ ap untilOf (until-back (getD ws (o + 5) 0)) ∙ sym same }
+
 -- the first i entries are gone through, and the n that are kept stand in front
 abbrev pub Sweeping : Sweep → List ℕ → List ℕ → ℕ → ℕ → Type 0
 Sweeping s ws₀ ws i n = Compacting entryOf 6 9 (keeps s) (changes s) ws₀ ws i n
@@ -52,11 +73,16 @@ module _ (s : Sweep) (ws₀ ws : List ℕ) (i n : ℕ) (w : Sweeping s ws₀ ws 
   pub sweep-passed : keeps s e ≡ false → Sweeping s ws₀ ws (i + 1) n
   sweep-passed t = compact-passed entryOf 6 9 (keeps s) (changes s) ws₀ ws i n w (ap (keeps s) read-is ∙ t)
 
-  pub sweep-kept : (x : Entry) → x ≡ changes s e → Storable x → keeps s e ≡ true → Sweeping s ws₀ (putEntry ws (6 + 9 * n) x) (i + 1) (n + 1)
-  sweep-kept x c st t =
-      subst (λ v. Sweeping s ws₀ v (i + 1) (n + 1)) (sym (put-over ws n x (w .long ∙ l) (omega (arith, w .behind))))
-      (compact-kept entryOf 6 9 (keeps s) (changes s) ws₀ ws i n w (entryWords x) refl (omega arith)
-      (entry-back x st ∙ c ∙ ap (changes s) (sym read-is)) (ap (keeps s) read-is ∙ t))
+  -- a kept entry stays as it is, or is written
+  pub sweep-kept : (ws′ : List ℕ) → KeptAt s e i n ws ws′ → keeps s e ≡ true → Sweeping s ws₀ ws′ (i + 1) (n + 1)
+  sweep-kept ws′ k t =
+      ⊎-elim
+      (λ a. subst (λ v. Sweeping s ws₀ v (i + 1) (n + 1)) (sym (a .2))
+      (compact-same entryOf 6 9 (keeps s) (changes s) ws₀ ws i n w (a .0) (ap (changes s) read-is ∙ a .1 ∙ sym read-is) (ap (keeps s) read-is ∙ t)))
+      (λ a. subst (λ v. Sweeping s ws₀ v (i + 1) (n + 1)) (sym (a .1 ∙ put-over ws n (changes s e) (w .long ∙ l) (omega (arith, w .behind))))
+      (compact-kept entryOf 6 9 (keeps s) (changes s) ws₀ ws i n w (entryWords (changes s e)) refl (omega arith)
+      (entry-back (changes s e) (storable s ws (6 + 9 * i) e (changes s e) r refl (a .0)) ∙ ap (changes s) (sym read-is)) (ap (keeps s) read-is ∙ t)))
+      k
 
 -- the count is set, and the pass is done
 pub sweep-done : (s : Sweep) (ws₀ ws : List ℕ) (i n : ℕ) → length ws₀ ≡ 758 → i ≡ entryCount ws₀ → Sweeping s ws₀ ws i n → view (set ws 3 n) ≡ sweepModel s (view ws₀)
@@ -72,19 +98,10 @@ sweep-done s ws₀ ws i n l e w =
     ∙ ap (λ es. withEntries es (view ws₀))
     (entries-from n 6 (set ws 3 n) ws (lit≤ tt) (set-from ws 3 n 6 (lit< tt)) ∙ w .done ∙ ap (λ k. swept s (entries k ws₀)) e)
 
--- a change leaves the end, so the row can hold it
-change-end : (s : Sweep) (e : Entry) → changes s e .end ≡ e .end
-unfolding releasedAt markedAt heldAt
-change-end (Expire clock) e = refl
-change-end (Commit t p) e = refl
-change-end (Abort t p) e = refl
-change-end (Remove n) e = refl
-change-end (Mark n takes t p) e =
-    cond-cases (λ (x : Entry). x .end ≡ e .end) (eqb (e .id .0) (n .0))
-    (λ h. cond-cases (λ (x : Entry). x .end ≡ e .end) (eqb (e .«private_to» .0) (t .0)) (λ k. refl) (λ k. refl))
-    (λ h. refl)
-
-pub storable : (s : Sweep) (ws : List ℕ) (o : ℕ) (e x : Entry) → e ≡ entryFrom ws o → x ≡ changes s e → x .readers < 256 → Storable x
-storable s ws o e x r c l =
-    let same : x .end ≡ untilOf (getD ws (o + 5) 0) = ap (λ (y : Entry). y .end) c ∙ change-end s e ∙ ap (λ (y : Entry). y .end) r in
-    record { readers-fit = l; end-fits = ap (λ u. untilOf (untilWord u)) same ∙ ap untilOf (until-back (getD ws (o + 5) 0)) ∙ sym same }
+-- a transaction that has nothing of the entry releases nothing
+pub released-same : (t p : ℕ) (e : Entry) → privateTo t e ≡ false → takenBy t e ≡ false → bit p (e .readers) ≡ false → releasedAt t p e ≡ e
+unfolding releasedAt dropReader
+released-same t p e a b d =
+    let same : dropAt p (e .readers) ≡ e .readers =
+    cond-cases (λ x. x ≡ e .readers) (eqb p 8) (λ h. refl) (λ h. rw d) in
+    rw (a, b, same)

@@ -1,6 +1,6 @@
 -- The model once a transaction is removed, and once one is appended.
-use Prim.Native.Nat.{ℕ, zero, suc, _+_, _*_, _≤_, _<_, min}
-use mathlib.Core.Bool.{Bool, true, false, not}
+use Prim.Native.Nat.{ℕ, _+_, _*_, _≤_, _<_, min}
+use mathlib.Core.Bool.{Bool, not}
 use mathlib.Core.Path.{_≡_, refl, sym, ap, ap₂, _∙_}
 use mathlib.Core.List.{List, [], _∷_, _++_, map-id}
 use native.Mathlib.Omega.{arith}
@@ -12,9 +12,9 @@ use lib.ListN.{length, getD, set}
 use lib.Seq.{getD-set-same, getD-set-other}
 use Rattle.rules.specs.declared.Txn.{Txn}
 use Rattle.rules.specs.Lists.{filterb}
-use Rattle.rules.specs.State.{Model, withTxns}
+use Rattle.rules.specs.State.{withTxns}
 use Rattle.rules.specs.Transactions.{withoutTxn}
-use Rattle.rules.specs.Words.{before, from, entryCount, txnCount, waitCount, txnFrom, txnOf, row, entries, txns, waits, view}
+use Rattle.rules.specs.Words.{before, from, entryCount, txnCount, waitCount, txnFrom, txnOf, row, txns, view}
 use Rattle.space.specs.Rows.{moveTxn, putTxn, txnWords, Holds}
 use Rattle.space.proofs.RowLaws.{length-upTo, over, over-length, over-before, over-from, over-row, word-before, from-more}
 use Rattle.space.proofs.RecordLaws.{set4-over}

@@ -1,6 +1,8 @@
 -- What a pass over the entries does: which it keeps, and how it changes those.
-use Prim.Native.Nat.{ℕ}
+use Prim.Native.Nat.{ℕ, _+_, _*_, _<_}
 use mathlib.Core.Bool.{Bool, true, not, cond}
+use mathlib.Core.Logic.{_⊎_}
+use mathlib.Core.Path.{_≡_}
 use mathlib.Core.List.{List, map}
 use lib.Dec.{eqb}
 use Rattle.rules.specs.declared.Entry.{Entry}
@@ -10,6 +12,7 @@ use Rattle.rules.specs.Time.{reached}
 use Rattle.rules.specs.State.{Model, withEntries}
 use Rattle.rules.specs.Holds.{addReader, dropReader}
 use Rattle.rules.specs.Transactions.{noTxn, privateTo, takenBy}
+use Rattle.space.specs.Rows.{putEntry}
 use Rattle.space.specs.declared.sweep.Sweep.{Sweep}
 use Rattle.space.specs.declared.sweep.Sweep.the-variants.{Expire, Commit, Abort, Remove, Mark}
 
@@ -70,6 +73,12 @@ slotIn (Commit t p) = p
 slotIn (Abort t p) = p
 slotIn (Remove n) = 0
 slotIn (Mark n takes t p) = p
+
+-- the words before and after the entry e of row i is kept at row n: it stands there as it is, or is written, changed
+abbrev pub KeptAt : Sweep → Entry → ℕ → ℕ → List ℕ → List ℕ → Type 0
+KeptAt s e i n ws ws′ =
+    ((n ≡ i) × (changes s e ≡ e) × (ws′ ≡ ws))
+    ⊎ ((changes s e .readers < 256) × (ws′ ≡ putEntry ws (6 + 9 * n) (changes s e)))
 
 abbrev pub swept : Sweep → List Entry → List Entry
 swept s es = map (changes s) (filterb (keeps s) es)

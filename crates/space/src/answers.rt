@@ -7,8 +7,8 @@ use codec::put_record;
 pub(crate) use codec::records::plain_record;
 use rules::Record;
 
-// One record more, in the part of the area that starts where the last record ended. `count` records stand there before; the number
-// afterwards is returned.
+// One record more, in the part of the area that starts where the last record ended.
+// `count` records stand there before; the number afterwards is returned.
 pub(crate) fn add_record(answers: &mut [u8], count: usize, r: Record) -> usize
     requires { ⌜ 28 * (count + 1) ≤ length (now answers) ⌝ }
     ensures { λ n. ⌜ Adds (r ∷ []) (now (answers .entry)) (now (answers .exit)) count n ⌝ }

@@ -2,7 +2,8 @@
 ghost use mathlib.Core.Path.{_≡_};
 ghost use Prim.Native.Nat.{_^_, _≤_};
 ghost use Rattle.rules.specs.Template.{bit, agrees, matches};
-ghost use Rattle.space.specs.HandOut.{availableAt};
+ghost use Rattle.rules.specs.Holds.{isOther};
+ghost use Rattle.space.specs.HandOut.{availableAt, othersAt, conflictsAt};
 ghost use mathlib.Core.Bool.{not, _&&_, _||_};
 ghost use lib.Dec.{eqb};
 ghost use Rattle.space.specs.Sweep.{addAt, dropAt};
@@ -143,4 +144,45 @@ pub(crate) fn is_available(e: Entry, w: LookUp, p: u8) -> bool
         }
     }
     false
+}
+
+// Whether n is the number of a transaction other than t.
+pub(crate) fn is_other(t: TxnId, n: TxnId) -> bool
+    ensures { λ r. ⌜ r ≡ isOther (t .0) (n .0) ⌝ }
+{
+    if n.0 == 0 { false } else { n.0 != t.0 }
+}
+
+// Whether another transaction than the look-up's has the entry: it is private to it, take-held by it, or (for a take) read-held.
+pub(crate) fn is_others(e: Entry, w: LookUp, p: u8) -> bool
+    requires { ⌜ p ≤ 8 ⌝ }
+    ensures { λ r. ⌜ r ≡ othersAt p w e ⌝ }
+{
+    let txn = w.txn;
+    let private_to = e.private_to;
+    if is_other(txn, private_to) {
+        return true;
+    }
+    let taken_by = e.taken_by;
+    if is_other(txn, taken_by) {
+        return true;
+    }
+    let takes = w.takes;
+    let readers = e.readers;
+    is_barred(takes, readers, p)
+}
+
+// Whether the entry conflicts with the look-up. Where another transaction has it, it is not available: that needs no test.
+pub(crate) fn is_conflicting(e: Entry, w: LookUp, p: u8) -> bool
+    requires { ⌜ p ≤ 8 ⌝ }
+    ensures { λ r. ⌜ r ≡ conflictsAt p w e ⌝ }
+{
+    let mask = w.mask;
+    let want = w.fields;
+    let have = e.fields;
+    if fields_match(mask, want, have) {
+        is_others(e, w, p)
+    } else {
+        false
+    }
 }

@@ -3,7 +3,7 @@ ghost use mathlib.Core.Path.{_≡_};
 ghost use Prim.Native.Nat.{_+_, _*_, _<_};
 ghost use lib.ListN.{length, getD};
 ghost use mathlib.Core.List.{[], _∷_, _++_};
-ghost use Rattle.rules.specs.State.{withEntries, withTxns, withWaits, withClock, withNextTxn};
+ghost use Rattle.rules.specs.State.{withEntries, withTxns, withWaits, withClock, withNextEntry, withNextTxn};
 ghost use Rattle.rules.specs.Words.{untilOf, untilWord, entryFrom, txnFrom, waitFrom, entryCount, txnCount, waitCount};
 ghost use Rattle.space.specs.Rows.{putEntry, moveRow, opWord, putWait, putTxn, Holds, moveTxn};
 ghost use Rattle.rules.specs.Words.{view};
@@ -258,6 +258,14 @@ pub(crate) fn set_clock(space: &mut Words, t: u32)
 {
     wait_count(space);
     space[0] = t;
+}
+
+// The next entry's number is set.
+pub(crate) fn set_next_entry(space: &mut Words, n: u32)
+    ensures { λ _. ⌜ view (now (space .exit)) ≡ withNextEntry n (view (now (space .entry))) ⌝ }
+{
+    entry_count(space);
+    space[1] = n;
 }
 
 // The next transaction's number is set.

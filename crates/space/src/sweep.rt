@@ -1,19 +1,20 @@
 // One pass over the entries: which are kept, and how those are changed.
 ghost use mathlib.Core.Path.{_≡_};
-ghost use Prim.Native.Nat.{_≤_};
+ghost use Prim.Native.Nat.{_≤_, _<_};
 ghost use lib.ListN.{length};
 ghost use Rattle.rules.specs.Tick.{dropEnded};
 ghost use Rattle.rules.specs.Words.{view};
 ghost use Rattle.space.specs.Live.{slotOf};
 ghost use Rattle.space.specs.HandOut.{handedOut};
 ghost use Rattle.rules.specs.Holds.{liveTxn};
-ghost use mathlib.Core.Bool.{cond, _&&_};
+ghost use mathlib.Core.Bool.{true, not, cond, _&&_, _||_};
 ghost use lib.Dec.{eqb};
 ghost use Rattle.rules.specs.Transactions.{noTxn};
 ghost use Rattle.rules.specs.Time.{reached};
-ghost use Rattle.space.specs.Sweep.{releasedAt, markedAt, keeps, changes, slotIn, sweepModel};
+ghost use Rattle.space.specs.Sweep.{releasedAt, markedAt, keeps, changes, slotIn, KeptAt, sweepModel};
 use crate::holds::add_reader;
 use crate::holds::drop_reader;
+use crate::holds::has_bit;
 use crate::rows::Words;
 use crate::rows::entry_at;
 use crate::rows::entry_count;
@@ -144,6 +145,54 @@ pub(crate) fn change_entry(s: Sweep, e: Entry) -> Entry
     }
 }
 
+// Whether the transaction t, at place p, has nothing to release: the entry is not its own, and it holds none on it.
+pub(crate) fn is_free_of(e: Entry, t: TxnId, p: u8) -> bool
+    requires { ⌜ p ≤ 8 ⌝ }
+    ensures { λ r. ⌜ (r ≡ true → releasedAt (t .0) p e ≡ e) ⌝ }
+{
+    if e.private_to.0 == t.0 {
+        return false;
+    }
+    if e.taken_by.0 == t.0 {
+        return false;
+    }
+    !has_bit(e.readers, p)
+}
+
+// Whether the pass leaves the entry as it is.
+pub(crate) fn is_untouched(s: Sweep, e: Entry) -> bool
+    requires { ⌜ slotIn s ≤ 8 ⌝ }
+    ensures { λ r. ⌜ (r ≡ true → changes s e ≡ e) ⌝ }
+{
+    match s {
+        Sweep::Expire(_) => true,
+        Sweep::Commit(t, p) => is_free_of(e, t, p),
+        Sweep::Abort(t, p) => is_free_of(e, t, p),
+        Sweep::Remove(_) => true,
+        Sweep::Mark(n, _, _, _) => e.id.0 != n.0,
+    }
+}
+
+// Whether it also stays in its row.
+pub(crate) fn is_in_place(s: Sweep, e: Entry, i: usize, n: usize) -> bool
+    requires { ⌜ slotIn s ≤ 8 ⌝ }
+    ensures { λ r. ⌜ (r ≡ true → (n ≡ i) × (changes s e ≡ e)) ⌝ }
+{
+    if n == i { is_untouched(s, e) } else { false }
+}
+
+// The entry of row i, which is kept, stands at row n. A row that stays as it is is not written.
+pub(crate) fn keep_entry(space: &mut Words, s: Sweep, e: Entry, i: usize, n: usize)
+    requires { ⌜ (slotIn s ≤ 8) × (n < 64) ⌝ }
+    ensures { λ _. ⌜ KeptAt s e i n (now (space .entry)) (now (space .exit)) ⌝ }
+{
+    if is_in_place(s, e, i, n) {
+        return;
+    }
+    let x = change_entry(s, e);
+    put_entry(space, n, x);
+}
+
 // One pass over the entries, in place.
 pub(crate) fn pass_over(space: &mut Words, s: Sweep)
     requires { ⌜ slotIn s ≤ 8 ⌝ }
@@ -155,8 +204,7 @@ pub(crate) fn pass_over(space: &mut Words, s: Sweep)
     while i < count {
         let e = entry_at(space, i);
         if keeps_entry(s, e) {
-            let x = change_entry(s, e);
-            put_entry(space, n, x);
+            keep_entry(space, s, e, i, n);
             n += 1;
         }
         i += 1;
@@ -171,6 +219,13 @@ pub(crate) fn is_removed(takes: bool, private_to: TxnId, t: TxnId) -> bool
     if takes { private_to.0 == t.0 } else { false }
 }
 
+// Whether handing out leaves a mark where it does not remove: a read outside transactions leaves none.
+pub(crate) fn is_marked(takes: bool, p: u8) -> bool
+    ensures { λ r. ⌜ r ≡ (takes || not (eqb p 8)) ⌝ }
+{
+    if takes { true } else { p != 8 }
+}
+
 // The entry is handed out to the look-up, whose transaction has the place p among the read holders.
 pub(crate) fn hand_out(space: &mut Words, e: Entry, w: LookUp, p: u8)
     requires { ⌜ (p ≤ 8) × (p ≡ slotOf (liveTxn (w .txn .0) (view (now space) .txns))) ⌝ }
@@ -182,9 +237,13 @@ pub(crate) fn hand_out(space: &mut Words, e: Entry, w: LookUp, p: u8)
     let takes = w.takes;
     if is_removed(takes, private_to, txn) {
         pass_over(space, Sweep::Remove(id));
-    } else {
-        pass_over(space, Sweep::Mark(id, takes, txn, p));
+        return;
     }
+    if is_marked(takes, p) {
+        pass_over(space, Sweep::Mark(id, takes, txn, p));
+        return;
+    }
+    entry_count(space);
 }
 
 // Stored entries that end now are removed.

@@ -2,14 +2,12 @@
 ghost use mathlib.Core.Path.{_≡_};
 ghost use Prim.Native.Nat.{_<_};
 ghost use lib.Dec.{eqb};
-ghost use lib.ListN.{length};
 ghost use Rattle.rules.specs.declared.Request.the-variants.{Create};
-ghost use Rattle.rules.specs.Numbers.{forever, maxTxns};
 ghost use Rattle.rules.specs.Lists.{anyb};
 ghost use Rattle.rules.specs.Requests.{frameOf};
 ghost use Rattle.rules.specs.Transactions.{freeSlot, create};
 ghost use Rattle.rules.specs.Words.{view};
-ghost use Rattle.space.specs.Time.{InTime};
+ghost use Rattle.space.specs.Txns.{Creatable};
 use crate::rows::Words;
 use crate::rows::add_txn;
 use crate::rows::set_next_txn;
@@ -51,8 +49,9 @@ pub(crate) fn free_slot(space: &Words) -> u8
 
 // A transaction of the party's is made, with the next number and a free slot.
 pub(crate) fn create_txn(space: &mut Words, party: u8, lease: u32) -> TxnId
-    requires { ⌜ (InTime (view (now space) .clock) lease) × (length (view (now space) .txns) < maxTxns) × (view (now space) .nextTxn < forever) ⌝ }
-    ensures { λ r. ⌜ (view (now (space .exit)) ≡ create (view (now (space .entry))) (frameOf (Create party lease)) .model) × (r .0 ≡ view (now (space .entry)) .nextTxn) ⌝ }
+    requires { ⌜ Creatable (view (now space)) lease ⌝ }
+    ensures made { λ _. ⌜ view (now (space .exit)) ≡ create (view (now (space .entry))) (frameOf (Create party lease)) .model ⌝ }
+    ensures numbered { λ r. ⌜ r .0 ≡ view (now (space .entry)) .nextTxn ⌝ }
 {
     let clock = space[0];
     let n = space[2];

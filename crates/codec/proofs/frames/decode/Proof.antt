@@ -1,4 +1,5 @@
 -- `codec::frames::decode` meets its contract. Assumes nothing.
+use mathlib.Core.Path.{refl}
 use native.Mathlib.Omega.{arith}
 use lib.ListN.{List·getD-eq-default}
 use borrow.Author.Needs.{needs}
@@ -7,13 +8,13 @@ use Rattle.codec.proofs.frames.decode.Statement.{statement}
 use Rattle.codec.proofs.frames.decode.Tie as tie
 
 returns : tie.Need-returns
-returns c = zero-operation _ (List·getD-eq-default (c .before .before .args .frame .now) 0 (omega arith))
+returns c = (zero-operation _ (List·getD-eq-default (c .before .before .args .frame .now) 0 (omega arith)), refl)
 
 returns-7 : tie.Need-returns-7
-returns-7 c = zero-operation _ (omega arith)
+returns-7 c = (zero-operation _ (omega arith), refl)
 
 returns-8 : tie.Need-returns-8
-returns-8 c = high-operation _ (omega (arith, c .before .before .before .match .rest))
+returns-8 c = (high-operation _ (omega (arith, c .before .before .before .match .rest)), refl)
 
 pub decode-spec : {M : Type 1} → statement M
 decode-spec =

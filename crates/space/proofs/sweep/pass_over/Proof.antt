@@ -1,11 +1,11 @@
 -- `space::pass_over` meets its contract. The loop's invariant: the first i entries are gone through. Assumes nothing.
-use Prim.Native.Nat.{_≤_, _-_, _+_, _*_}
+use Prim.Native.Nat.{_≤_, _-_, _+_}
 use mathlib.Core.Logic.{⊎-elim}
-use mathlib.Core.Path.{_≡_, sym, ap, ap₂, _∙_, subst, subst₂}
+use mathlib.Core.Path.{sym, _∙_, subst₂}
 use native.Mathlib.Omega.{arith}
 use lib.ListN.{length-set}
 use borrow.Author.Needs.{needs}
-use Rattle.space.proofs.SweepLaws.{Sweeping, sweep-start, sweep-kept, sweep-passed, sweep-done, storable}
+use Rattle.space.proofs.SweepLaws.{Sweeping, sweep-start, sweep-kept, sweep-passed, sweep-done}
 use Rattle.space.proofs.sweep.pass_over.Statement.{statement}
 use Rattle.space.proofs.sweep.pass_over.Tie as tie
 
@@ -18,8 +18,8 @@ abbrev μ-loop : tie.MeasureT-loop
 loop-holds : tie.Need-loop-holds Inv-loop μ-loop
 loop-holds c = (omega arith, sweep-start (c .before .before .args .s) (c .before .before .args .space .now))
 
-change-entry-requires : tie.Need-change-entry-requires Inv-loop μ-loop
-change-entry-requires c κs = c .before .before .before .before .before .before .before .before .pre
+keep-entry-requires : tie.Need-keep-entry-requires Inv-loop μ-loop
+keep-entry-requires c κs = (c .before .before .before .before .before .before .before .before .before .pre, omega (arith, c .before .before .before .before .before .before .loop .inv .1 .behind))
 
 loop-again : tie.Need-loop-again Inv-loop μ-loop
 loop-again c =
@@ -30,9 +30,8 @@ loop-again c =
     let k = c .before .keeps-entry .ensures in (
       omega arith,
       ⊎-elim
-          (λ w. subst₂ (λ x m. Sweeping (a .s) (a .space .now) x (l .i + 1) m) (sym (w .4 ∙ w .3 .ensures)) (sym (w .5))
-          (sweep-kept (a .s) (a .space .now) (l .space) (l .i) (l .n) (l .inv .1) long (omega arith) _ r _ (w .1 .ensures)
-          (storable (a .s) (l .space) (6 + 9 * l .i) _ _ r (w .1 .ensures) (omega (arith, w .1 .ok))) (sym k ∙ w .0 .taken)))
+          (λ w. subst₂ (λ x m. Sweeping (a .s) (a .space .now) x (l .i + 1) m) (sym (w .3)) (sym (w .4))
+          (sweep-kept (a .s) (a .space .now) (l .space) (l .i) (l .n) (l .inv .1) long (omega arith) _ r _ (w .2 .ensures) (sym k ∙ w .0 .taken)))
           (λ w. subst₂ (λ x m. Sweeping (a .s) (a .space .now) x (l .i + 1) m) (sym (w .1)) (sym (w .2))
           (sweep-passed (a .s) (a .space .now) (l .space) (l .i) (l .n) (l .inv .1) long (omega arith) _ r (sym k ∙ w .0 .left)))
           (c .if1 .came),
@@ -53,8 +52,7 @@ pass-over-spec =
     loop-holds
     (λ c κs. omega arith)
     (λ c κs. tt)
-    change-entry-requires
-    (λ c κs. omega arith)
+    keep-entry-requires
     (λ c. omega arith)
     (λ c. omega arith)
     (λ c. omega arith)

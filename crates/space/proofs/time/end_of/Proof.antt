@@ -1,6 +1,6 @@
 -- `space::time::end_of` meets its contract. Assumes nothing.
 use Prim.Native.Nat.{_+_}
-use mathlib.Core.Path.{_≡_, refl}
+use mathlib.Core.Path.{refl}
 use native.Mathlib.Omega.{arith}
 use borrow.Author.Tests.{eq-eqb, ne-eqb}
 use Rattle.rules.specs.Time.{until}
@@ -17,7 +17,9 @@ returns c = (rw (eq-eqb _ _ (c .if1 .taken)), refl)
 
 returns-2 : tie.Need-returns-2
 unfolding until untilOf
-returns-2 c = (rw (ne-eqb _ _ (c .if1 .left)), rw (ne-eqb (c .before .args .clock + c .before .args .lease) 4294967295 (λ e. omega (arith, e, c .before .pre (c .if1 .left)))))
+returns-2 c =
+    let low = c .before .pre (c .if1 .left) in
+    (rw (ne-eqb _ _ (c .if1 .left)), rw (ne-eqb (c .before .args .clock + c .before .args .lease) 4294967295 (λ e. omega arith)))
 
 pub end-of-spec : {M : Type 1} → statement M
 end-of-spec = tie.close (tie.spec add-t5 returns returns-2)

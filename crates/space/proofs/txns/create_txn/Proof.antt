@@ -1,7 +1,7 @@
 -- `space::txns::create_txn` meets its contract. Assumes nothing.
 use borrow.Author.Needs.{needs}
 use Prim.Native.Nat.{_+_}
-use mathlib.Core.Path.{_≡_, refl, ap, ap₂, _∙_}
+use mathlib.Core.Path.{refl, ap, ap₂, _∙_}
 use mathlib.Core.List.{[], _∷_, _++_}
 use native.Mathlib.Omega.{arith}
 use lib.ListN.{getD}
@@ -14,14 +14,16 @@ use Rattle.space.proofs.txns.create_txn.Tie as tie
 
 end-of-requires : tie.Need-end-of-requires
 unfolding view
-end-of-requires c κs = c .before .before .pre .0
+end-of-requires c κs = c .before .before .pre .in-time
 
 add-txn-requires : tie.Need-add-txn-requires
-add-txn-requires c κs = (omega (arith, length-txns (c .before .before .before .before .before .before .args .space .now), c .before .before .before .before .before .before .pre .1), c .before .free-slot .ensures .1, c .before .before .before .end-of .ensures .1)
+add-txn-requires c κs =
+    let start = c .before .before .before .before .before .before in
+    (omega (arith, length-txns (start .args .space .now), start .pre .room), c .before .free-slot .ensures .1, c .before .before .before .end-of .ensures .1)
 
 add-set-next-txn : tie.Need-add-set-next-txn
 unfolding view
-add-set-next-txn c = record { fits = omega (arith, c .before .before .before .before .before .before .before .before .pre .2) }
+add-set-next-txn c = record { fits = omega (arith, c .before .before .before .before .before .before .before .before .pre .number) }
 
 returns : tie.Need-returns
 unfolding view create

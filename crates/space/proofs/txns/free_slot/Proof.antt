@@ -1,7 +1,7 @@
 -- `space::txns::free_slot` meets its contract. Assumes nothing.
 use Prim.Native.Nat.{_≤_, _-_}
 use mathlib.Core.Bool.{not}
-use mathlib.Core.Path.{_≡_, refl, sym, ap, _∙_}
+use mathlib.Core.Path.{refl, sym, ap, _∙_}
 use native.Mathlib.Omega.{arith}
 use Rattle.rules.specs.Words.{view}
 use Rattle.space.proofs.SlotLaws.{NoneFree, none-free-more, free-found, free-missing}
@@ -34,7 +34,8 @@ loop-less c = omega arith
 loop-again : tie.Need-loop-again Inv-loop μ-loop
 loop-again c =
     let l = c .before .before .before .loop in
-    (omega arith, none-free-more (view (c .before .before .before .before .args .space .now) .txns) (l .p) (l .inv .1) (ap not (sym (c .before .has-slot .ensures)) ∙ c .if1 .left))
+    let ts = view (c .before .before .before .before .args .space .now) .txns in
+    (omega arith, none-free-more ts (l .p) (l .inv .1) (ap not (sym (c .before .has-slot .ensures)) ∙ c .if1 .left))
 
 returns-2 : tie.Need-returns-2 Inv-loop μ-loop
 returns-2 c = (sym (free-missing _ (c .before .loop .p) (omega arith) (c .before .loop .inv .1)), omega arith)

@@ -1,0 +1,202 @@
+-- Laws of the refusals: what the code finds out row by row of the tables, and the table of refusals in parts.
+use Prim.Native.Nat.{ℕ, _+_, _-_, _*_, _≤_, _<_}
+use mathlib.Core.Bool.{Bool, true, false, not, cond, _||_, or-true}
+use mathlib.Core.Option.{none, some}
+use mathlib.Core.Path.{_≡_, refl, sym, ap, _∙_}
+use mathlib.Core.List.{List, [], _∷_}
+use native.Mathlib.Omega.{arith}
+use native.Mathlib.Decide.{decLt}
+use native.Mathlib.Numerals.{add-one}
+use borrow.Author.Tests.{leb-true, eqb-true, eq-eqb, ne-eqb, lt-ltb, le-ltb, le-leb}
+use lib.Dec.{eqb, leb, ltb}
+use lib.ListN.{length}
+use Rattle.rules.specs.declared.LookUp.{LookUp}
+use Rattle.rules.specs.declared.Txn.{Txn}
+use Rattle.rules.specs.declared.TxnId.{TxnId}
+use Rattle.rules.specs.Lists.{firstRow}
+use Rattle.rules.specs.Numbers.{waitingRefused, notLiveRefused, notOwnRefused, leaseRefused, clockRefused, entriesRefused, txnsRefused, numberRefused, waitsRefused}
+use Rattle.rules.specs.State.{Model}
+use Rattle.rules.specs.Frame.{Frame, isWrite, isLookUp, isCreate, isCommit, isAbort, isTick, hasLeaseOrTimeout}
+use Rattle.rules.specs.Holds.{liveTxn}
+use Rattle.rules.specs.Refusals.{inTxn, partyWaits, notLive, notOwn, noLease, tooLate, entriesFull, txnsFull, noNumber, waitsFull}
+use Rattle.rules.specs.Requests.{frameOf, spaceRefusal}
+use Rattle.rules.specs.declared.Request.the-variants.{Commit, Abort}
+use Rattle.rules.proofs.StepCases.{cond-cases, and-left, and-right}
+use Rattle.rules.proofs.RefusalLaws.{first-append}
+use Rattle.rules.specs.Words.{entryOf, entryCount, waitOf, waitFrom, waitCount, row, entries, waits, view}
+use Rattle.space.specs.Judge.{partyWaiting, inTxnRefusal, admissionRefusal, earlyRefusal}
+use Rattle.space.proofs.RowLaws.{length-upTo}
+use Rattle.space.proofs.FindLaws.{any-passed, any-at, some-any, none-any}
+use Rattle.space.proofs.ViewLaws.{wait-row}
+
+-- ---- 6: the search for a waiting look-up of the party
+abbrev isOfParty : ℕ → LookUp → Bool
+isOfParty party w = eqb (w .party) party
+
+module _ (ws : List ℕ) (party : ℕ) where
+  -- none of the first i look-ups is the party's
+  abbrev pub NoneWaits : ℕ → Type 0
+  NoneWaits i = partyWaiting party (waits i ws) ≡ false
+
+  pub none-waits-none : NoneWaits 0
+  unfolding waits
+  none-waits-none = refl
+
+  module _ (i : ℕ) (w : LookUp) (r : w ≡ waitFrom ws (614 + 9 * i)) where
+    pub none-waits-more : NoneWaits i → (w .party ≡ party → ⊥) → NoneWaits (i + 1)
+    unfolding waits
+    none-waits-more h t =
+        rw add-one
+        (any-passed (isOfParty party) (λ k. waitOf (row 614 9 ws k)) i h (ap (isOfParty party) (wait-row ws i ∙ sym r) ∙ ne-eqb (w .party) party t))
+
+    pub party-waits : i < waitCount ws → w .party ≡ party → partyWaiting party (view ws .waits) ≡ true
+    unfolding waits view
+    party-waits l t =
+        any-at (isOfParty party) (λ k. waitOf (row 614 9 ws k)) i (waitCount ws) l (ap (isOfParty party) (wait-row ws i ∙ sym r) ∙ eq-eqb (w .party) party t)
+
+  pub none-waits : (i : ℕ) → i ≡ waitCount ws → NoneWaits i → partyWaiting party (view ws .waits) ≡ false
+  unfolding view
+  none-waits i e h = ap (λ k. partyWaiting party (waits k ws)) (sym e) ∙ h
+
+-- ---- 10: a sum above the last clock, by a difference that cannot wrap
+pub late-by : (last clock n : ℕ) → n ≤ last → ltb (last - n) clock ≡ ltb last (clock + n)
+late-by last clock n h = go (decLt last (clock + n))
+  where
+    go : Dec (last < clock + n) → ltb (last - n) clock ≡ ltb last (clock + n)
+    go (yes l) = lt-ltb (last - n) clock (omega arith) ∙ sym (lt-ltb last (clock + n) l)
+    go (no l) = le-ltb (last - n) clock (omega arith) ∙ sym (le-ltb last (clock + n) (omega arith))
+
+-- ---- 7 and 8: by what the search for the transaction finds
+module _ (party t : ℕ) (ts : List Txn) (n : eqb t 0 ≡ false) where
+  pub live-none : liveTxn t ts ≡ none → inTxnRefusal true party t ts ≡ notLiveRefused
+  unfolding inTxnRefusal liveTxn
+  live-none e = rw (n, none-any (λ (x : Txn). eqb (x .id .0) t) ts e)
+
+  pub live-some : (x : Txn) → liveTxn t ts ≡ some x → inTxnRefusal true party t ts ≡ cond (not (eqb (x .party) party)) notOwnRefused 0
+  unfolding inTxnRefusal liveTxn
+  live-some x e = rw (n, some-any (λ (y : Txn). eqb (y .id .0) t) ts e, e)
+
+-- ---- the table in parts
+-- 9 to 13
+abbrev pub restRefusal : Model → Frame → ℕ
+restRefusal m f =
+    firstRow
+    ((noLease f, leaseRefused)
+    ∷ (tooLate m f, clockRefused)
+    ∷ (entriesFull m f, entriesRefused)
+    ∷ (txnsFull m f, txnsRefused)
+    ∷ (noNumber m f, numberRefused)
+    ∷ [])
+
+module _ (m : Model) (f : Frame) where
+  parts : earlyRefusal m f
+      ≡ cond (eqb (admissionRefusal (inTxn f) (f .party) (f .txn) m) 0) (restRefusal m f) (admissionRefusal (inTxn f) (f .party) (f .txn) m)
+  unfolding earlyRefusal admissionRefusal inTxnRefusal partyWaits notLive notOwn
+  parts =
+      first-append ((partyWaits m f, waitingRefused) ∷ (notLive m f, notLiveRefused) ∷ (notOwn m f, notOwnRefused) ∷ [])
+      ((noLease f, leaseRefused)
+      ∷ (tooLate m f, clockRefused)
+      ∷ (entriesFull m f, entriesRefused)
+      ∷ (txnsFull m f, txnsRefused)
+      ∷ (noNumber m f, numberRefused)
+      ∷ []) refl
+
+  module _ (inside : Bool) (i : inTxn f ≡ inside) (n : ℕ) (a : n ≡ admissionRefusal inside (f .party) (f .txn) m) where
+    by : earlyRefusal m f ≡ cond (eqb n 0) (restRefusal m f) n
+    by = parts ∙ ap (λ k. cond (eqb k 0) (restRefusal m f) k) (ap (λ b. admissionRefusal b (f .party) (f .txn) m) i ∙ sym a)
+
+    -- one of 6 to 8 applies
+    pub early-admission : (n ≡ 0 → ⊥) → n ≡ earlyRefusal m f
+    early-admission h = sym (by ∙ ap (λ b. cond b (restRefusal m f) n) (ne-eqb n 0 h))
+
+    -- none does
+    pub early-rest : (r : ℕ) → n ≡ 0 → r ≡ restRefusal m f → r ≡ earlyRefusal m f
+    early-rest r z e = e ∙ sym (by ∙ ap (λ b. cond b (restRefusal m f) n) (eq-eqb n 0 z))
+
+    -- none of 9 to 13 can apply
+    pub early-all : restRefusal m f ≡ 0 → n ≡ earlyRefusal m f
+    early-all z = sym (by ∙ ap (λ r. cond (eqb n 0) r n) z ∙ go n)
+      where
+        go : (k : ℕ) → cond (eqb k 0) 0 k ≡ k
+        go k = cond-cases (λ x. x ≡ k) (eqb k 0) (λ e. sym (eqb-true k 0 e)) (λ e. refl)
+
+-- every commit and abort is in a transaction, and is judged by 6 to 8 alone
+module _ (m : Model) (party n : ℕ) (t : TxnId) (a : n ≡ admissionRefusal true party (t .0) m) where
+  pub early-commit : n ≡ earlyRefusal m (frameOf (Commit party t))
+  unfolding noLease tooLate entriesFull txnsFull noNumber
+  early-commit = early-all m (frameOf (Commit party t)) true (ap (λ b. b || false) (or-true (not (eqb (t .0) 0)))) n a refl
+
+  pub early-abort : n ≡ earlyRefusal m (frameOf (Abort party t))
+  unfolding noLease tooLate entriesFull txnsFull noNumber
+  early-abort = early-all m (frameOf (Abort party t)) true (or-true (not (eqb (t .0) 0) || false)) n a refl
+
+-- of a frame in no transaction 6 alone is judged
+pub party-admitted : (m : Model) (party t : ℕ) → partyWaiting party (m .waits) ≡ false → 0 ≡ admissionRefusal false party t m
+unfolding admissionRefusal inTxnRefusal
+party-admitted m party t e = rw e
+
+pub party-refused : (m : Model) (party t : ℕ) → partyWaiting party (m .waits) ≡ true → 6 ≡ admissionRefusal false party t m
+unfolding admissionRefusal
+party-refused m party t e = rw e
+
+-- a frame that is neither commit nor abort is in a transaction if it names one
+pub plain-inside : (t : ℕ) → (not (eqb t 0) || false || false) ≡ not (eqb t 0)
+plain-inside t = go (not (eqb t 0))
+  where
+    go : (b : Bool) → (b || false || false) ≡ b
+    go true = refl
+    go false = refl
+
+pub length-entries : (ws : List ℕ) → length (view ws .entries) ≡ entryCount ws
+unfolding view entries
+length-entries ws = length-upTo (λ k. entryOf (row 6 9 ws k)) (entryCount ws)
+
+-- the operation of a look-up is none of the others
+pub record LooksUp (op : ℕ) : Type 0 where
+  pub write : isWrite op ≡ false
+  pub create : isCreate op ≡ false
+  pub commit : isCommit op ≡ false
+  pub abort : isAbort op ≡ false
+  pub tick : isTick op ≡ false
+  pub timeout : hasLeaseOrTimeout op ≡ true
+
+pub looks-up : (op : ℕ) → isLookUp op ≡ true → LooksUp op
+looks-up op e =
+    let low = leb-true 2 op (and-left (leb 2 op) (leb op 5) e) in
+    let high = leb-true op 5 (and-right (leb 2 op) (leb op 5) e) in
+    record {
+      write = ne-eqb op 1 (λ q. omega arith);
+      create = ne-eqb op 6 (λ q. omega arith);
+      commit = ne-eqb op 7 (λ q. omega arith);
+      abort = ne-eqb op 8 (λ q. omega arith);
+      tick = ne-eqb op 9 (λ q. omega arith);
+      timeout = le-leb op 6 (omega arith);
+    }
+
+pub look-up-inside : (op : ℕ) → isLookUp op ≡ true → (t : ℕ) → (not (eqb t 0) || isCommit op || isAbort op) ≡ not (eqb t 0)
+look-up-inside op e t = let k = looks-up op e in rw (k .commit, k .abort) (plain-inside t)
+
+-- 14 is judged behind the others
+pub space-parts : (m : Model) (f : Frame)
+    → spaceRefusal m f ≡ cond (eqb (earlyRefusal m f) 0) (cond (waitsFull m f) waitsRefused 0) (earlyRefusal m f)
+unfolding spaceRefusal earlyRefusal
+space-parts m f =
+    first-append
+    ((partyWaits m f, waitingRefused)
+    ∷ (notLive m f, notLiveRefused)
+    ∷ (notOwn m f, notOwnRefused)
+    ∷ (noLease f, leaseRefused)
+    ∷ (tooLate m f, clockRefused)
+    ∷ (entriesFull m f, entriesRefused)
+    ∷ (txnsFull m f, txnsRefused)
+    ∷ (noNumber m f, numberRefused)
+    ∷ []) ((waitsFull m f, waitsRefused) ∷ []) refl
+
+pub early-refused : (m : Model) (f : Frame) (n : ℕ) → n ≡ earlyRefusal m f → (n ≡ 0 → ⊥) → spaceRefusal m f ≡ n
+early-refused m f n e h =
+    space-parts m f
+    ∙ ap (λ k. cond (eqb k 0) (cond (waitsFull m f) waitsRefused 0) k) (sym e)
+    ∙ ap (λ b. cond b (cond (waitsFull m f) waitsRefused 0) n) (ne-eqb n 0 h)
+
+pub early-passed : (m : Model) (f : Frame) → earlyRefusal m f ≡ 0 → cond (waitsFull m f) waitsRefused 0 ≡ spaceRefusal m f
+early-passed m f e = sym (space-parts m f ∙ ap (λ k. cond (eqb k 0) (cond (waitsFull m f) waitsRefused 0) k) e)

@@ -1,0 +1,133 @@
+// The tick: the clock advances, and what ends now ends.
+ghost use mathlib.Core.Path.{_≡_};
+ghost use Prim.Native.Nat.{_+_, _*_, _≤_, _<_};
+ghost use mathlib.Core.List.{map};
+ghost use lib.ListN.{length};
+ghost use Rattle.rules.specs.Lists.{findb};
+ghost use Rattle.rules.specs.Numbers.{lastClock, stepArea};
+ghost use Rattle.rules.specs.Records.{exception};
+ghost use Rattle.rules.specs.Tick.{endedTxns, abortAll, closeWaits, tick};
+ghost use Rattle.rules.specs.Time.{reached};
+ghost use Rattle.rules.specs.Words.{view};
+ghost use Rattle.space.specs.Does.{Adds, Does, first};
+ghost use Rattle.space.specs.Live.{liveOf};
+ghost use Rattle.space.specs.Tick.{expired};
+use crate::answers::add_record;
+use crate::answers::plain_record;
+use crate::endings::abort_txn;
+use crate::live::Live;
+use crate::rows::Words;
+use crate::rows::move_wait;
+use crate::rows::set_clock;
+use crate::rows::txn_at;
+use crate::rows::txn_count;
+use crate::rows::wait_at;
+use crate::rows::wait_count;
+use crate::service::serve_waits;
+use crate::sweep::drop_ended;
+use crate::sweep::reached_at;
+use rules::TxnId;
+
+// An exception for each transaction that ends now, by number.
+pub(crate) fn put_exceptions(space: &Words, answers: &mut [u8], count: usize) -> usize
+    requires { ⌜ 28 * (count + 8) ≤ length (now answers) ⌝ }
+    ensures { λ r. ⌜ Adds (map exception (endedTxns (view (now (space .entry))))) (now (answers .entry)) (now (answers .exit)) count r ⌝ }
+{
+    let clock = space[0];
+    let n = txn_count(space);
+    let mut done = count;
+    let mut i: usize = 0;
+    while i < n {
+        let t = txn_at(space, i);
+        let end = t.end;
+        if reached_at(clock, end) {
+            let r = plain_record(8, t.party, t.id);
+            done = add_record(answers, done, r);
+        }
+        i += 1;
+    }
+    done
+}
+
+// The first live transaction that ends now.
+pub(crate) fn first_ended(space: &Words) -> Live
+    ensures { λ r. ⌜ liveOf r ≡ findb (λ t. reached (view (now (space .entry)) .clock) (t .end)) (view (now (space .entry)) .txns) ⌝ }
+{
+    let clock = space[0];
+    let n = txn_count(space);
+    let mut i: usize = 0;
+    while i < n {
+        let t = txn_at(space, i);
+        let end = t.end;
+        if reached_at(clock, end) {
+            return Live::At(t);
+        }
+        i += 1;
+    }
+    Live::None
+}
+
+// The transactions that end now are aborted, by number.
+pub(crate) fn abort_ended(space: &mut Words)
+    ensures { λ _. ⌜ view (now (space .exit)) ≡ abortAll (endedTxns (view (now (space .entry)))) (view (now (space .entry))) ⌝ }
+{
+    loop {
+        let Live::At(t) = first_ended(space) else {
+            return;
+        };
+        abort_txn(space, t.id);
+    }
+}
+
+// The transactions that end now are aborted, by number, each with an exception.
+// `count` records stand in the answers area before; the number afterwards is returned.
+pub(crate) fn expire(space: &mut Words, answers: &mut [u8], count: usize) -> usize
+    requires { ⌜ 28 * (count + 8) ≤ length (now answers) ⌝ }
+    ensures { λ r. ⌜ Does (expired (view (now (space .entry)))) (now (space .exit)) (now (answers .entry)) (now (answers .exit)) count r ⌝ }
+{
+    let done = put_exceptions(space, answers, count);
+    abort_ended(space);
+    done
+}
+
+// Waiting look-ups whose deadline is reached get nothing, in order of arrival.
+pub(crate) fn time_out(space: &mut Words, answers: &mut [u8], count: usize) -> usize
+    requires { ⌜ 28 * (count + length (view (now space) .waits)) ≤ length (now answers) ⌝ }
+    ensures { λ r. ⌜ Does (closeWaits (view (now (space .entry)))) (now (space .exit)) (now (answers .entry)) (now (answers .exit)) count r ⌝ }
+{
+    let clock = space[0];
+    let waits = wait_count(space);
+    let mut done = count;
+    let mut i: usize = 0;
+    let mut n: usize = 0;
+    while i < waits {
+        let w = wait_at(space, i);
+        let deadline = w.deadline;
+        if reached_at(clock, deadline) {
+            let r = plain_record(3, w.party, w.txn);
+            done = add_record(answers, done, r);
+        } else {
+            move_wait(space, i, n);
+            n += 1;
+        }
+        i += 1;
+    }
+    space[5] = n as u32;
+    done
+}
+
+// The clock advances; transactions that end now are aborted; stored entries that end now are removed, held or not;
+// service; waiting look-ups whose deadline is reached get nothing. The number of records is returned.
+pub(crate) fn tick(space: &mut Words, answers: &mut [u8]) -> usize
+    requires { ⌜ (view (now space) .clock < lastClock) × (stepArea ≤ length (now answers)) ⌝ }
+    ensures { λ r. ⌜ Does (tick first (view (now (space .entry)))) (now (space .exit)) (now (answers .entry)) (now (answers .exit)) 0 r ⌝ }
+{
+    let clock = space[0];
+    set_clock(space, clock + 1);
+    let own = plain_record(9, 0, TxnId(0));
+    let count = add_record(answers, 0, own);
+    let count = expire(space, answers, count);
+    drop_ended(space);
+    let count = serve_waits(space, answers, count);
+    time_out(space, answers, count)
+}

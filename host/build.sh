@@ -1,0 +1,45 @@
+# Sourced by the scripts beside it, at the repository's root: finds or builds what they use.
+#   archive  the proved library: SPACE_ARCHIVE, or what `rt staticlib tray` writes
+#   program  the proved program: SPACE_PROGRAM, or what `rt check viewer` writes; empty if there is none
+#   out      where everything of the host is built
+out=$PWD/target/host
+mkdir -p "$out"
+export CARGO_TARGET_DIR=$out/cargo
+
+missing_or_old() { # FILE: it is not there, or older than something in crates/
+    [ ! -f "$1" ] || [ -n "$(find crates crates.txt -newer "$1" -print -quit)" ]
+}
+
+rt_makes() { # FILE WORDS: has `rt WORDS` make the file, if need be
+    local file=$1
+    shift
+    missing_or_old "$file" || return 0
+    echo "rt $*"
+    rt "$@" > "$out/rt-$1.log" || { tail -n 20 "$out/rt-$1.log"; return 1; }
+}
+
+find_archive() {
+    archive=${SPACE_ARCHIVE:-target/staticlib/libtray.a}
+    [ -n "${SPACE_ARCHIVE:-}" ] || rt_makes "$archive" staticlib tray || return 1
+    [ -f "$archive" ] || { echo "there is no $archive"; return 1; }
+    archive=$(realpath "$archive")
+    export SPACE_ARCHIVE=$archive
+}
+
+find_program() {
+    program=${SPACE_PROGRAM:-target/bin/viewer}
+    if [ -z "${SPACE_PROGRAM:-}" ] && grep -q '^viewer:' crates.txt; then
+        rt_makes "$program" check viewer || return 1
+    fi
+    [ -x "$program" ] || program=
+}
+
+build_rust() {
+    cargo build --quiet --release --offline --manifest-path host/reference/Cargo.toml "$@"
+}
+
+build_c() { # NAME [FLAGS]: target/host/NAME from host/NAME.c
+    local name=$1
+    shift
+    ${CC:-cc} -std=c99 -pedantic -O2 -g -Wall -Wextra -Werror "$@" -o "$out/$name" "host/$name.c" "$archive"
+}

@@ -1,0 +1,221 @@
+/* Runs damaged trays and garbled frames in buffers of the exact length: damaged COUNT SEED [fence].
+ * Without `fence` the buffers are from malloc and stay unset, for valgrind or the address sanitizer. With it a page
+ * that may not be touched adjoins each buffer, before it or behind it, so that a byte too far ends the program. */
+#define _DEFAULT_SOURCE
+#include <stdio.h>
+#include <stdlib.h>
+#include <string.h>
+#include <sys/mman.h>
+#include "space.h"
+
+enum { PAGE = 4096, ROOM = 20 * PAGE, MOST_FRAMES = 120 };
+
+static uint64_t state;
+static int fenced;
+
+static uint32_t below(uint32_t bound)
+{
+    state ^= state << 13;
+    state ^= state >> 7;
+    state ^= state << 17;
+    return (uint32_t)(state >> 33) % bound;
+}
+
+static uint32_t odd_number(void)
+{
+    static const uint32_t odd[] = {0, 1, 3, 27, 28, 65535, 65536, 4294967294u, 4294967295u};
+    return below(2) ? odd[below(sizeof odd / sizeof odd[0])] : below(4294967295u);
+}
+
+/* A buffer of this length; `slot` tells buffers of one call apart. */
+static uint8_t *buffer(int slot, size_t length)
+{
+    static uint8_t *rooms[3];
+    if (!fenced)
+        return malloc(length);
+    if (!rooms[slot]) {
+        uint8_t *map = mmap(NULL, ROOM + 2 * PAGE, PROT_NONE, MAP_PRIVATE | MAP_ANONYMOUS, -1, 0);
+        if (map == MAP_FAILED || mprotect(map + PAGE, ROOM, PROT_READ | PROT_WRITE) != 0)
+            exit(2);
+        rooms[slot] = map + PAGE;
+    }
+    return below(2) ? rooms[slot] : rooms[slot] + ROOM - length;
+}
+
+static void release(uint8_t *memory)
+{
+    if (!fenced)
+        free(memory);
+}
+
+/* A frame of any operation, its fields but the kind 0. */
+static size_t put_frame(uint8_t *frame, int operation, int party, uint32_t transaction, uint32_t duration)
+{
+    static const size_t lengths[] = {0, 28, 28, 28, 28, 28, 12, 8, 8, 4};
+    int is_look_up = operation >= SPACE_OP_READ && operation <= SPACE_OP_TAKE_IF_EXISTS;
+    uint8_t whole[28] = {(uint8_t)operation, (uint8_t)party, is_look_up ? SPACE_MASK_KIND : 0, 0};
+    space_put_word(whole + SPACE_FRAME_AT_TRANSACTION, transaction);
+    space_put_word(whole + SPACE_FRAME_AT_DURATION, duration);
+    space_put_word(whole + SPACE_FRAME_AT_FIELDS, 1);
+    memcpy(frame, whole, lengths[operation]);
+    return lengths[operation];
+}
+
+/* A random frame, garbled in some cases. */
+static size_t make_frame(uint8_t frame[28])
+{
+    int operation = 1 + (int)below(9);
+    int party = operation == SPACE_OP_TICK ? 0 : 1 + (int)below(5);
+    uint32_t transaction = operation == SPACE_OP_CREATE || below(2) ? 0 : below(9);
+    memset(frame, 0, 28);
+    size_t length = put_frame(frame, operation, party, transaction, below(9) ? below(6) : odd_number());
+    if (!below(12))
+        frame[below(28)] = (uint8_t)below(256);
+    if (!below(12))
+        length = below(29);
+    return length;
+}
+
+static size_t make_tray(uint8_t *tray)
+{
+    uint32_t frames = below(MOST_FRAMES + 1);
+    size_t end = 4 + 8 * (size_t)frames;
+    space_put_word(tray, frames);
+    for (uint32_t i = 0; i < frames; i++) {
+        uint8_t frame[28];
+        size_t length = make_frame(frame);
+        space_put_word(tray + 4 + 8 * i, (uint32_t)end);
+        space_put_word(tray + 8 + 8 * i, (uint32_t)length);
+        memcpy(tray + end, frame, length);
+        end += length;
+    }
+    switch (below(8)) {
+    case 0: return below((uint32_t)end + 1);
+    case 1: space_put_word(tray, odd_number()); break;
+    case 2: case 3:
+        if (frames)
+            space_put_word(tray + 4 + 4 * below(2 * frames), odd_number());
+        break;
+    case 4: tray[below((uint32_t)end)] = (uint8_t)below(256); break;
+    case 5: return 65535 + below(3);
+    default: break;
+    }
+    return end;
+}
+
+static void fail(const char *what, uint64_t returned)
+{
+    fprintf(stderr, "damaged: %s, returned %llx\n", what, (unsigned long long)returned);
+    exit(1);
+}
+
+/* Every record is fully written: valgrind reports a test on a byte that is not. */
+static void read_records(const uint8_t *answers, uint32_t records)
+{
+    uint32_t with_words = 0;
+    for (uint32_t i = 0; i < records; i++) {
+        const uint8_t *record = answers + SPACE_RECORD_BYTES * i;
+        int refused = record[0] == SPACE_RECORD_REFUSED;
+        uint32_t any = 0;
+        for (int at = 4; at < SPACE_RECORD_BYTES; at += 4)
+            any |= space_get_word(record + at);
+        if (record[0] == 0 || (record[0] > SPACE_RECORD_TICKED && !refused) || record[3] != 0)
+            fail("a record", i);
+        if ((record[2] != 0) != refused || (refused && any != 0))
+            fail("a refused record", i);
+        with_words += any != 0;
+    }
+    if (with_words > records)
+        fail("records", records);
+}
+
+static void run_one_tray(void)
+{
+    static uint8_t made[SPACE_MAX_TRAY_BYTES + 8];
+    size_t tray_len = make_tray(made);
+    size_t answers_len = below(4) ? below(6000) : below(65537);
+    uint8_t *tray = buffer(0, tray_len), *answers = buffer(1, answers_len);
+    memcpy(tray, made, tray_len);
+    if (fenced)
+        memset(answers, 0x5a, answers_len);
+    uint64_t returned = space_run_tray(tray, tray_len, answers, answers_len);
+    uint32_t records = space_run_records(returned), number = space_run_number(returned);
+    if (space_run_frames(returned) > SPACE_MAX_TRAY_FRAMES || SPACE_RECORD_BYTES * (size_t)records > answers_len)
+        fail("counts", returned);
+    if (number > SPACE_REFUSAL_AREA_TOO_SMALL && number != SPACE_REFUSAL_BAD_TRAY && number != SPACE_REFUSAL_BAD_PAIR)
+        fail("number", returned);
+    read_records(answers, records);
+    for (size_t i = SPACE_RECORD_BYTES * (size_t)records; fenced && i < answers_len; i++)
+        if (answers[i] != 0x5a)
+            fail("a byte after the last record", returned);
+    if (memcmp(tray, made, tray_len) != 0)
+        fail("the tray was changed", returned);
+    release(tray);
+    release(answers);
+}
+
+/* The longest step: eight transactions that hold sixteen entries end together, all sixteen parties wait for them, and
+ * the last of the 25 records ends with the area. */
+static void run_longest_step(void)
+{
+    static uint32_t fresh[SPACE_WORDS];
+    uint8_t frame[28];
+    uint64_t returned = 0;
+    space_empty(fresh);
+    for (int i = 0; i < 57; i++) {
+        size_t frame_len = i < 16   ? put_frame(frame, SPACE_OP_WRITE, 1, 0, SPACE_FOREVER)
+                           : i < 24 ? put_frame(frame, SPACE_OP_CREATE, i - 15, 0, 1)
+                           : i < 40 ? put_frame(frame, SPACE_OP_TAKE, (i - 22) / 2, (uint32_t)(i - 22) / 2, 0)
+                           : i < 56 ? put_frame(frame, SPACE_OP_TAKE, i - 39, 0, SPACE_FOREVER)
+                                    : put_frame(frame, SPACE_OP_TICK, 0, 0, 0);
+        uint8_t *answers = buffer(2, SPACE_STEP_BYTES);
+        returned = space_step(fresh, frame, frame_len, answers, SPACE_STEP_BYTES);
+        read_records(answers, space_step_records(returned));
+        release(answers);
+    }
+    if (returned != 25)
+        fail("the longest step", returned);
+}
+
+static void run_steps(void)
+{
+    uint32_t *space = (uint32_t *)(void *)buffer(0, 4 * SPACE_WORDS);
+    space_empty(space);
+    if (!below(3)) /* words that frames did not make */
+        for (int i = 0; i < SPACE_WORDS; i++)
+            space[i] = below(2) ? below(20) : odd_number();
+    for (int i = 0; i < 100; i++) {
+        uint8_t made[28];
+        size_t frame_len = make_frame(made);
+        size_t answers_len = below(5) ? SPACE_STEP_BYTES : below(SPACE_STEP_BYTES + 60);
+        uint8_t *frame = buffer(1, frame_len), *answers = buffer(2, answers_len);
+        memcpy(frame, made, frame_len);
+        uint64_t returned = space_step(space, frame, frame_len, answers, answers_len);
+        if (space_step_records(returned) > 25 || space_step_number(returned) > SPACE_REFUSAL_WAITING_FULL)
+            fail("a step", returned);
+        read_records(answers, space_step_records(returned));
+        release(frame);
+        release(answers);
+    }
+    release((uint8_t *)space);
+}
+
+int main(int count, char **arguments)
+{
+    if (count < 3) {
+        fprintf(stderr, "usage: damaged COUNT SEED [fence]\n");
+        return 2;
+    }
+    long trays = atol(arguments[1]);
+    state = 2 * strtoull(arguments[2], NULL, 10) + 1;
+    fenced = count > 3 && strcmp(arguments[3], "fence") == 0;
+    for (long i = 0; i < trays; i++) {
+        run_one_tray();
+        if (i % 10 == 0) {
+            run_steps();
+            run_longest_step();
+        }
+    }
+    printf("%ld trays and %ld spaces, no error\n", trays, (trays + 9) / 10);
+    return 0;
+}

@@ -1,0 +1,148 @@
+//! How often each thing that can occur has occurred.
+
+use reference::answer::{Kind, Record};
+use reference::frame::{look_up_kind, LOOK_UPS, NONE};
+use reference::space::{Entry, Space, MOST_ENTRIES, MOST_TRANSACTIONS, MOST_WAITING};
+use std::collections::BTreeMap;
+
+const KINDS: [(Kind, &str); 10] = [
+    (Kind::Written, "written"),
+    (Kind::Found, "found"),
+    (Kind::Nothing, "nothing"),
+    (Kind::Waiting, "waiting"),
+    (Kind::Created, "created"),
+    (Kind::Committed, "committed"),
+    (Kind::Aborted, "aborted"),
+    (Kind::Exception, "exception"),
+    (Kind::Ticked, "ticked"),
+    (Kind::Refused, "refused"),
+];
+
+/// On a space that frames made, a look-up that must wait finds a free place: there are 16 parties, and 6 stops a
+/// party that waits already.
+const CANNOT_OCCUR: usize = 14;
+
+const SITUATIONS: [&str; 16] = [
+    "64 entries stored",
+    "8 transactions live",
+    "16 look-ups waiting",
+    "25 records in a step",
+    "found later",
+    "nothing later",
+    "found in the tick of the deadline",
+    "look-up closed by an exception",
+    "lease ended under a take hold",
+    "lease ended under a read hold",
+    "private entry's lease ended",
+    "entry back after abort or exception",
+    "take over the own read hold",
+    "take of the own private entry",
+    "IfExists look-up waits",
+    "entry with three read holds",
+];
+
+#[derive(Default)]
+pub struct Coverage {
+    pub trays: u64,
+    pub histories: u64,
+    pub frames: u64,
+    kinds: [u64; 16],
+    refusals: [u64; 17],
+    situations: BTreeMap<&'static str, u64>,
+}
+
+impl Coverage {
+    pub fn number(&mut self, number: u8) {
+        self.refusals[usize::from(number)] += 1;
+    }
+
+    fn note(&mut self, situation: &'static str, times: usize) {
+        debug_assert!(SITUATIONS.contains(&situation));
+        *self.situations.entry(situation).or_default() += times as u64;
+    }
+
+    /// A frame has been compared.
+    pub fn step(&mut self, before: &Space, frame: &[u8], records: &[Record], after: &Space) {
+        self.frames += 1;
+        for record in records {
+            self.kinds[usize::from(record.kind)] += 1;
+            self.refusals[usize::from(record.refusal)] += 1;
+        }
+        let refused = records.first().is_none_or(|own| own.is(Kind::Refused));
+        if refused {
+            return;
+        }
+        self.note("64 entries stored", usize::from(after.entries.len() == MOST_ENTRIES));
+        self.note("8 transactions live", usize::from(after.transactions.len() == MOST_TRANSACTIONS));
+        self.note("16 look-ups waiting", usize::from(after.waiting.len() == MOST_WAITING));
+        self.note("25 records in a step", usize::from(records.len() == 25));
+        self.note("entry with three read holds", after.entries.iter().filter(|e| e.read_by.len() > 2).count());
+
+        let later = &records[1..];
+        let count = |kind| later.iter().filter(|record| record.is(kind)).count();
+        self.note("found later", count(Kind::Found));
+        self.note("nothing later", count(Kind::Nothing));
+        let back = |entry: &&Entry| {
+            let now = after.entries.iter().find(|e| e.number == entry.number);
+            entry.taken_by != NONE && now.is_some_and(|e| e.taken_by == NONE)
+        };
+        self.note("entry back after abort or exception", before.entries.iter().filter(back).count());
+        if records[0].is(Kind::Ticked) {
+            self.tick(before, later, after);
+        }
+        if LOOK_UPS.contains(&frame[0]) {
+            self.look_up(before, frame, records[0]);
+        }
+    }
+
+    fn tick(&mut self, before: &Space, later: &[Record], after: &Space) {
+        let clock = after.clock;
+        let served = later.iter().filter(|r| r.is(Kind::Found) || r.is(Kind::Nothing)).count();
+        self.note("look-up closed by an exception", before.waiting.len() - after.waiting.len() - served);
+        let at_deadline = before.waiting.iter().filter(|look_up| {
+            look_up.deadline.reached(clock) && later.iter().any(|r| r.is(Kind::Found) && r.party == look_up.party)
+        });
+        self.note("found in the tick of the deadline", at_deadline.count());
+        let ended = || before.entries.iter().filter(|entry| entry.end.reached(clock));
+        self.note("lease ended under a take hold", ended().filter(|entry| entry.taken_by != NONE).count());
+        self.note("lease ended under a read hold", ended().filter(|entry| !entry.read_by.is_empty()).count());
+        self.note("private entry's lease ended", ended().filter(|entry| entry.private_to != NONE).count());
+    }
+
+    fn look_up(&mut self, before: &Space, frame: &[u8], own: Record) {
+        let kind = look_up_kind(frame[0]);
+        self.note("IfExists look-up waits", usize::from(kind.if_exists && own.is(Kind::Waiting)));
+        if own.is(Kind::Found) && kind.takes && own.transaction != NONE {
+            let Some(entry) = before.entries.iter().find(|e| e.number == own.entry) else { return };
+            self.note("take over the own read hold", usize::from(entry.read_by.contains(&own.transaction)));
+            self.note("take of the own private entry", usize::from(entry.private_to == own.transaction));
+        }
+    }
+
+    /// What can occur and did not.
+    pub fn missing(&self) -> Vec<String> {
+        let kinds = KINDS.iter().filter(|(kind, _)| self.kinds[*kind as usize] == 0);
+        let refusals = (1..=16).filter(|&number| number != CANNOT_OCCUR && self.refusals[number] == 0);
+        let situations = SITUATIONS.iter().filter(|name| self.situations.get(**name).is_none_or(|&n| n == 0));
+        let mut missing: Vec<String> = kinds.map(|(_, name)| format!("record {name}")).collect();
+        missing.extend(refusals.map(|number| format!("number {number}")));
+        missing.extend(situations.map(|name| name.to_string()));
+        missing
+    }
+
+    pub fn print(&self) {
+        println!("records:");
+        for (kind, name) in KINDS {
+            println!("  {:>2} {name:<10} {:>10}", kind as u8, self.kinds[kind as usize]);
+        }
+        println!("numbers (1 also as the end of a tray's run; 15 and 16 of trays):");
+        for number in 1..=16 {
+            let remark = if number == CANNOT_OCCUR { "  cannot occur on a space that frames made" } else { "" };
+            println!("  {number:>2} {:>10}{remark}", self.refusals[number]);
+        }
+        println!("situations:");
+        for name in SITUATIONS {
+            println!("  {name:<36} {:>10}", self.situations.get(name).copied().unwrap_or(0));
+        }
+    }
+}

@@ -1,0 +1,138 @@
+//! Entries, templates, the frame layout, and the refusals that a frame's bytes alone decide.
+
+pub const FOREVER: u32 = 4294967295;
+/// The clock never passes this.
+pub const LAST_CLOCK: u32 = FOREVER - 1;
+
+/// Transaction 0 means none.
+pub const NONE: u32 = 0;
+
+/// kind, side, image, place
+pub type Fields = [u32; 4];
+
+/// Document 01's table of refusals.
+#[derive(Clone, Copy, PartialEq, Eq, Debug)]
+pub enum Refusal {
+    AreaTooSmall = 1,
+    Operation = 2,
+    Length = 3,
+    Form = 4,
+    Party = 5,
+    PartyWaits = 6,
+    NotLive = 7,
+    AnothersTransaction = 8,
+    CreateWithoutLease = 9,
+    TooLate = 10,
+    EntriesFull = 11,
+    TransactionsFull = 12,
+    NumbersUsedUp = 13,
+    WaitingFull = 14,
+    TraySize = 15,
+    TrayPair = 16,
+}
+
+#[derive(Clone, Copy, PartialEq, Eq, Debug)]
+pub struct Template {
+    /// Whether the field's mask bit is 1.
+    wanted: [bool; 4],
+    fields: Fields,
+}
+
+impl Template {
+    pub fn new(mask: u8, fields: Fields) -> Template {
+        let wanted = std::array::from_fn(|i| mask >> i & 1 == 1);
+        Template { wanted, fields }
+    }
+
+    /// Every field whose bit is 1 is equal. `&` and `|` make no branches, so that a search over all entries is fast.
+    pub fn matches(&self, entry: &Fields) -> bool {
+        let agrees = |i: usize| (entry[i] == self.fields[i]) | !self.wanted[i];
+        agrees(0) & agrees(1) & agrees(2) & agrees(3)
+    }
+}
+
+#[derive(Clone, Copy, PartialEq, Eq, Debug)]
+pub struct LookUpKind {
+    pub takes: bool,
+    pub if_exists: bool,
+}
+
+#[derive(Clone, Copy, PartialEq, Eq, Debug)]
+pub enum Request {
+    Write { party: u8, transaction: u32, lease: u32, fields: Fields },
+    LookUp { party: u8, transaction: u32, timeout: u32, kind: LookUpKind, template: Template },
+    Create { party: u8, lease: u32 },
+    Commit { party: u8, transaction: u32 },
+    Abort { party: u8, transaction: u32 },
+    Tick,
+}
+
+pub const LOOK_UPS: std::ops::RangeInclusive<u8> = 2..=5;
+
+pub fn look_up_kind(operation: u8) -> LookUpKind {
+    LookUpKind { takes: operation == 3 || operation == 5, if_exists: operation >= 4 }
+}
+
+/// The length of a frame of this operation; none if the operation is not 1-9.
+pub fn length_of(operation: u8) -> Option<usize> {
+    match operation {
+        1..=5 => Some(28),
+        6 => Some(12),
+        7 | 8 => Some(8),
+        9 => Some(4),
+        _ => None,
+    }
+}
+
+#[inline]
+pub fn word(bytes: &[u8], at: usize) -> u32 {
+    u32::from_le_bytes(bytes[at..at + 4].try_into().unwrap())
+}
+
+/// The four fields of a frame of 28 bytes.
+#[inline]
+pub fn fields_of(frame: &[u8]) -> Fields {
+    [word(frame, 12), word(frame, 16), word(frame, 20), word(frame, 24)]
+}
+
+/// Refusals 2 to 5, in document 01's order.
+#[inline]
+pub fn decode(frame: &[u8]) -> Result<Request, Refusal> {
+    let Some(&operation) = frame.first() else { return Err(Refusal::Operation) };
+    let Some(length) = length_of(operation) else { return Err(Refusal::Operation) };
+    if frame.len() != length {
+        return Err(Refusal::Length);
+    }
+
+    let (party, mask) = (frame[1], frame[2]);
+    let transaction = if length >= 8 { word(frame, 4) } else { NONE };
+    let duration = if length >= 12 { word(frame, 8) } else { 0 };
+    let fields = if length == 28 { fields_of(frame) } else { [0; 4] };
+
+    let is_look_up = LOOK_UPS.contains(&operation);
+    let ill_formed = frame[3] != 0
+        || mask > 15
+        || mask != 0 && !is_look_up
+        || is_look_up && (0..4).any(|i| mask >> i & 1 == 0 && fields[i] != 0)
+        || operation == 6 && transaction != NONE;
+    if ill_formed {
+        return Err(Refusal::Form);
+    }
+
+    let party_fits = if operation == 9 { party == 0 } else { (1..=16).contains(&party) };
+    if !party_fits {
+        return Err(Refusal::Party);
+    }
+
+    Ok(match operation {
+        1 => Request::Write { party, transaction, lease: duration, fields },
+        2..=5 => {
+            let (kind, template) = (look_up_kind(operation), Template::new(mask, fields));
+            Request::LookUp { party, transaction, timeout: duration, kind, template }
+        }
+        6 => Request::Create { party, lease: duration },
+        7 => Request::Commit { party, transaction },
+        8 => Request::Abort { party, transaction },
+        _ => Request::Tick,
+    })
+}

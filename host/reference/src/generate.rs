@@ -1,0 +1,350 @@
+//! Seeded random frames and trays that make deep histories: several panes, few distinct kinds, short leases,
+//! ticks anywhere, full tables, garbled frames, damaged trays, answers areas of odd lengths.
+
+use crate::answer::{RECORD, STEP};
+use crate::frame::{Fields, FOREVER, LAST_CLOCK, NONE};
+use crate::random::Random;
+use crate::space::{oldest, End, Space};
+use crate::text::{create_frame, ending_frame, long_frame, tick_frame};
+use crate::tray::{build, LONGEST_TRAY, MOST_FRAMES};
+
+/// What a history leans to.
+#[derive(Clone, Copy)]
+struct Lean {
+    parties: u32,
+    kinds: u32,
+    longest: u32,
+    /// Percentages.
+    forever: usize,
+    inside: usize,
+    timeout_0: usize,
+    if_exists: usize,
+    takes: usize,
+    commits: usize,
+    stray: usize,
+    garbled: usize,
+    /// Shares of write, look-up, create, commit or abort, tick.
+    shares: [usize; 5],
+}
+
+impl Lean {
+    fn draw(random: &mut Random) -> Lean {
+        let mixed = Lean {
+            parties: random.pick(&[2, 4, 6, 16]),
+            kinds: random.pick(&[1, 2, 4]),
+            longest: random.pick(&[2, 5, 20]),
+            forever: random.pick(&[0, 10, 40]),
+            inside: random.pick(&[0, 40, 80]),
+            timeout_0: random.pick(&[10, 40, 80]),
+            if_exists: random.pick(&[20, 50, 90]),
+            takes: random.pick(&[20, 50, 80]),
+            commits: random.pick(&[30, 60]),
+            stray: random.pick(&[0, 2, 10]),
+            garbled: random.pick(&[0, 2, 15]),
+            shares: [random.between(2, 8) as usize, random.between(2, 8) as usize, 2, 2, random.between(1, 4) as usize],
+        };
+        match random.below(5) {
+            // many entries stored
+            0 => Lean { forever: 80, takes: 15, timeout_0: 90, shares: [10, 4, 1, 1, 1], ..mixed },
+            // many transactions live, with holds
+            1 => Lean { parties: 16, longest: 40, inside: 80, timeout_0: 60, shares: [4, 8, 4, 1, 1], ..mixed },
+            // many look-ups waiting
+            2 => {
+                Lean { parties: 16, kinds: 4, forever: 60, timeout_0: 3, takes: 80, shares: [1, 10, 1, 1, 1], ..mixed }
+            }
+            _ => mixed,
+        }
+    }
+}
+
+pub struct Generator {
+    pub random: Random,
+    lean: Lean,
+    /// Frames that come first, last one first.
+    script: Vec<Vec<u8>>,
+}
+
+impl Generator {
+    pub fn new(seed: u64) -> Generator {
+        let mut random = Random::new(seed);
+        let lean = Lean::draw(&mut random);
+        let script = if random.percent(4) { longest_step(&mut random) } else { Vec::new() };
+        Generator { random, lean, script }
+    }
+
+    /// The next frame; `guide` is a space that has been fed the frames before it.
+    pub fn frame(&mut self, guide: &Space) -> Vec<u8> {
+        if let Some(frame) = self.script.pop() {
+            return frame;
+        }
+        let frame = self.sound_frame(guide);
+        if self.random.percent(self.lean.garbled) {
+            self.garble(frame)
+        } else {
+            frame
+        }
+    }
+
+    fn sound_frame(&mut self, guide: &Space) -> Vec<u8> {
+        let Lean { shares, if_exists, takes, commits, .. } = self.lean;
+        let Some(party) = self.party(guide) else { return tick_frame() };
+        let mut draw = self.random.below(shares.iter().sum());
+        let mut operation = 0;
+        while draw >= shares[operation] {
+            draw -= shares[operation];
+            operation += 1;
+        }
+        match operation {
+            0 => {
+                let (transaction, lease) = (self.transaction(guide, party), self.duration(guide));
+                long_frame(1, party, 0, transaction, lease, self.fields())
+            }
+            1 => {
+                let look_up = 2 + u8::from(self.random.percent(takes)) + 2 * u8::from(self.random.percent(if_exists));
+                let transaction = self.transaction(guide, party);
+                let timeout = self.timeout(guide);
+                let mask = if self.random.percent(60) { 1 } else { self.random.below(16) as u8 };
+                let mut fields = match guide.entries.len() {
+                    0 => self.fields(),
+                    _ if self.random.percent(40) => self.fields(),
+                    stored => guide.entries[self.random.below(stored)].fields,
+                };
+                for (i, field) in fields.iter_mut().enumerate() {
+                    if mask >> i & 1 == 0 {
+                        *field = 0;
+                    }
+                }
+                long_frame(look_up, party, mask, transaction, timeout, fields)
+            }
+            2 => create_frame(party, self.duration(guide)),
+            3 => {
+                let ending = if self.random.percent(commits) { 7 } else { 8 };
+                let live = guide.transactions.len();
+                if live == 0 || self.random.percent(self.lean.stray) {
+                    return ending_frame(ending, party, self.stray_transaction(guide));
+                }
+                let chosen = &guide.transactions[self.random.below(live)];
+                ending_frame(ending, chosen.owner, chosen.number)
+            }
+            _ => tick_frame(),
+        }
+    }
+
+    /// A party that does not wait, or a stray one; none if all wait.
+    fn party(&mut self, guide: &Space) -> Option<u8> {
+        if self.random.percent(self.lean.stray) {
+            return Some(self.random.between(1, 16) as u8);
+        }
+        let waits = |party: &u8| guide.waiting.iter().any(|look_up| look_up.party == *party);
+        let free: Vec<u8> = (1..=self.lean.parties as u8).filter(|party| !waits(party)).collect();
+        if free.is_empty() {
+            return None;
+        }
+        Some(self.random.pick(&free))
+    }
+
+    fn transaction(&mut self, guide: &Space, party: u8) -> u32 {
+        if self.random.percent(self.lean.stray) {
+            return self.stray_transaction(guide);
+        }
+        let own: Vec<u32> =
+            guide.transactions.iter().filter(|live| live.owner == party).map(|live| live.number).collect();
+        if own.is_empty() || !self.random.percent(self.lean.inside) {
+            return NONE;
+        }
+        self.random.pick(&own)
+    }
+
+    /// Perhaps another party's, ended, not made yet, or none.
+    fn stray_transaction(&mut self, guide: &Space) -> u32 {
+        match self.random.below(4) {
+            0 => self.random.number() as u32,
+            1 => NONE,
+            2 if !guide.transactions.is_empty() => {
+                guide.transactions[self.random.below(guide.transactions.len())].number
+            }
+            _ => self.random.between(0, guide.next_transaction.min(40)),
+        }
+    }
+
+    /// A lease or a timeout.
+    fn duration(&mut self, guide: &Space) -> u32 {
+        if self.random.percent(self.lean.forever) {
+            return FOREVER;
+        }
+        match self.random.below(60) {
+            0 | 1 => 0,
+            // about the latest end that is allowed
+            2 => (LAST_CLOCK - guide.clock).saturating_add(2).saturating_sub(self.random.below(4) as u32),
+            _ => self.random.between(1, self.lean.longest),
+        }
+    }
+
+    /// The last party that does not wait forever does not begin to, so that histories go on.
+    fn timeout(&mut self, guide: &Space) -> u32 {
+        if self.random.percent(self.lean.timeout_0) {
+            return 0;
+        }
+        let forever = guide.waiting.iter().filter(|look_up| look_up.deadline == End::Never).count();
+        match self.duration(guide) {
+            FOREVER if forever + 1 >= self.lean.parties as usize => self.random.between(1, self.lean.longest),
+            timeout => timeout,
+        }
+    }
+
+    fn fields(&mut self) -> Fields {
+        [
+            self.random.between(1, self.lean.kinds),
+            self.random.below(2) as u32,
+            self.random.pick(&[0, 0, 1]),
+            self.random.pick(&[0, 0, 0, u32::MAX]),
+        ]
+    }
+
+    fn garble(&mut self, mut frame: Vec<u8>) -> Vec<u8> {
+        let random = &mut self.random;
+        match random.below(10) {
+            0 => frame.truncate(random.below(frame.len() + 1)),
+            1 => frame.extend((0..random.between(1, 3)).map(|_| 0)),
+            2 => frame[0] = random.pick(&[0, 10, 11, 255]),
+            3 => frame[3] = random.byte(),
+            4 => frame[2] = random.byte(),
+            5 => frame[2] = random.below(16) as u8,
+            6 => frame[1] = random.pick(&[0, 1, 16, 17, 255]),
+            7 => frame = (0..random.below(40)).map(|_| random.byte()).collect(),
+            8 if frame.len() > 4 => {
+                let at = random.between(4, 7) as usize;
+                frame[at] = random.byte();
+            }
+            _ => {
+                let at = random.below(frame.len());
+                frame[at] = random.byte();
+            }
+        }
+        frame
+    }
+
+    /// A tray of at most so many frames, its bytes as document 01 wants them.
+    pub fn sound_tray(&mut self, most: usize) -> Vec<u8> {
+        let mut guide = Space::new();
+        let mut scratch = vec![0; STEP];
+        let mut frames: Vec<Vec<u8>> = Vec::new();
+        let mut bytes = 4;
+        while frames.len() < most {
+            let frame = self.frame(&guide);
+            bytes += 8 + frame.len();
+            if bytes > LONGEST_TRAY {
+                break;
+            }
+            guide.step(&frame, &mut scratch, oldest);
+            frames.push(frame);
+        }
+        if self.random.percent(80) {
+            return build(&frames);
+        }
+        self.with_gaps(&frames)
+    }
+
+    /// Bytes of no frame stand before some of the frames and behind the last.
+    fn with_gaps(&mut self, frames: &[Vec<u8>]) -> Vec<u8> {
+        let mut tray = build(frames);
+        let mut room = LONGEST_TRAY - tray.len();
+        let mut offset = 4 + 8 * frames.len();
+        let pairs_end = offset;
+        let mut body = Vec::new();
+        for (i, frame) in frames.iter().enumerate() {
+            let gap = if self.random.percent(30) { self.random.below(9).min(room) } else { 0 };
+            room -= gap;
+            body.extend((0..gap).map(|_| self.random.byte()));
+            offset += gap;
+            tray[4 + 8 * i..8 + 8 * i].copy_from_slice(&(offset as u32).to_le_bytes());
+            body.extend(frame);
+            offset += frame.len();
+        }
+        tray.truncate(pairs_end);
+        tray.extend(body);
+        tray.extend((0..self.random.below(4).min(room)).map(|_| 0));
+        tray
+    }
+
+    /// A tray, damaged in some cases; a damaged one may happen to be sound.
+    pub fn tray(&mut self) -> Vec<u8> {
+        let most = self.random.pick(&[0, 1, 4, 30, 200, 700, 2000, 2000]);
+        let tray = self.sound_tray(most);
+        if self.random.percent(30) {
+            self.damage(tray)
+        } else {
+            tray
+        }
+    }
+
+    pub fn damage(&mut self, mut tray: Vec<u8>) -> Vec<u8> {
+        let random = &mut self.random;
+        let count = u32::from_le_bytes([tray[0], tray[1], tray[2], tray[3]]) as usize;
+        let odd = [random.number() as u32 % 65536, u32::MAX, random.number() as u32, 4, 0];
+        match random.below(11) {
+            0 => tray.truncate(random.below(tray.len() + 1)),
+            1 => tray.truncate(random.below(4)),
+            2 => tray.resize(LONGEST_TRAY + random.below(3), 0),
+            3 => {
+                let wrong = random.pick(&[count as u32 + 1, (count as u32).saturating_sub(1), u32::MAX, 2001, 8191]);
+                tray[0..4].copy_from_slice(&wrong.to_le_bytes());
+            }
+            4 => {
+                let ticks = MOST_FRAMES as usize + random.below(2);
+                tray = build(&vec![tick_frame(); ticks]);
+            }
+            5 | 6 if count > 0 => {
+                let at = 4 + 4 * random.below(2 * count);
+                tray[at..at + 4].copy_from_slice(&random.pick(&odd).to_le_bytes());
+            }
+            7 | 8 if count > 0 => {
+                let at = 4 + 4 * random.below(2 * count);
+                let old = u32::from_le_bytes([tray[at], tray[at + 1], tray[at + 2], tray[at + 3]]);
+                let new = if random.percent(50) { old.wrapping_add(1) } else { old.wrapping_sub(1) };
+                tray[at..at + 4].copy_from_slice(&new.to_le_bytes());
+            }
+            9 if count > 1 => {
+                let at = 4 + 8 * random.below(count - 1);
+                let (first, second) = tray[at..at + 16].split_at_mut(8);
+                first.swap_with_slice(second);
+            }
+            _ => {
+                let at = random.below(tray.len());
+                tray[at] = random.byte();
+            }
+        }
+        tray
+    }
+
+    /// A length for the answers area of a tray of so many frames.
+    pub fn area_length(&mut self, frames: usize) -> usize {
+        let random = &mut self.random;
+        match random.below(8) {
+            0 => random.below(STEP + 2),
+            1 => random.pick(&[0, 27, 28, STEP - 1, STEP, STEP + 1, STEP + RECORD - 1, STEP + RECORD]),
+            2 | 3 => STEP + random.below(RECORD * (frames + 2)),
+            4 => LONGEST_TRAY,
+            5 => random.below(LONGEST_TRAY),
+            _ => 3 * LONGEST_TRAY,
+        }
+    }
+}
+
+/// The frames of a history, last one first, whose last step writes 25 records: eight transactions hold sixteen
+/// entries that all sixteen parties wait for, and end together.
+fn longest_step(random: &mut Random) -> Vec<Vec<u8>> {
+    let lease = random.between(1, 3);
+    let kind = [77, 0, 0, 0];
+    let mut frames: Vec<Vec<u8>> = (0..16).map(|_| long_frame(1, 1, 0, NONE, FOREVER, kind)).collect();
+    frames.extend((1..=8).map(|party| create_frame(party, lease)));
+    for party in 1..=8 {
+        frames.push(long_frame(3, party, 1, u32::from(party), 0, kind));
+        frames.push(long_frame(5, party, 1, u32::from(party), 0, kind));
+    }
+    let timeout = random.pick(&[lease, lease + 1, FOREVER]);
+    frames.extend((1..=16).map(|party| long_frame(3 + party % 2 * 2, party, 1, NONE, timeout, kind)));
+    frames.extend((0..lease).map(|_| tick_frame()));
+    frames.reverse();
+    frames
+}

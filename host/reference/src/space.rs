@@ -1,0 +1,385 @@
+//! The space: who holds what, what each frame does, and the refusals that depend on the space.
+
+use crate::answer::{Answers, Kind, Record, STEP};
+use crate::frame::{decode, Fields, LookUpKind, Refusal, Request, Template, FOREVER, LAST_CLOCK, NONE};
+
+pub const MOST_ENTRIES: usize = 64;
+pub const MOST_TRANSACTIONS: usize = 8;
+pub const MOST_WAITING: usize = 16;
+
+/// When a lease or a wait is over.
+#[derive(Clone, Copy, PartialEq, Eq, Debug)]
+pub enum End {
+    At(u32),
+    Never,
+}
+
+impl End {
+    pub fn after(clock: u32, duration: u32) -> End {
+        if duration == FOREVER {
+            End::Never
+        } else {
+            End::At(clock + duration)
+        }
+    }
+
+    pub fn reached(self, clock: u32) -> bool {
+        match self {
+            End::At(end) => end <= clock,
+            End::Never => false,
+        }
+    }
+}
+
+#[derive(Clone, PartialEq, Eq, Debug)]
+pub struct Entry {
+    pub number: u32,
+    pub fields: Fields,
+    pub end: End,
+    /// The transaction it is private to, or NONE for a committed entry.
+    pub private_to: u32,
+    /// The transaction with a take hold on it, or NONE.
+    pub taken_by: u32,
+    /// The transactions with a read hold on it.
+    pub read_by: Vec<u32>,
+}
+
+#[derive(Clone, PartialEq, Eq, Debug)]
+pub struct Transaction {
+    pub number: u32,
+    pub owner: u8,
+    pub end: End,
+}
+
+#[derive(Clone, PartialEq, Eq, Debug)]
+pub struct LookUp {
+    pub party: u8,
+    pub transaction: u32,
+    pub kind: LookUpKind,
+    pub template: Template,
+    pub deadline: End,
+}
+
+impl Entry {
+    fn read_by_other(&self, transaction: u32) -> bool {
+        self.read_by.iter().any(|&reader| reader != transaction)
+    }
+
+    fn private_to_other(&self, transaction: u32) -> bool {
+        self.private_to != NONE && self.private_to != transaction
+    }
+
+    pub fn available(&self, look_up: &LookUp) -> bool {
+        look_up.template.matches(&self.fields)
+            && self.taken_by == NONE
+            && !self.private_to_other(look_up.transaction)
+            && !(look_up.kind.takes && self.read_by_other(look_up.transaction))
+    }
+
+    pub fn conflicts(&self, look_up: &LookUp) -> bool {
+        let own_take_hold = self.taken_by != NONE && self.taken_by == look_up.transaction;
+        look_up.template.matches(&self.fields)
+            && !self.available(look_up)
+            && !own_take_hold
+            && (self.private_to_other(look_up.transaction)
+                || self.taken_by != NONE
+                || look_up.kind.takes && self.read_by_other(look_up.transaction))
+    }
+}
+
+/// What a step returns: records written, and the refusal's number or 0.
+#[derive(Clone, Copy, PartialEq, Eq, Debug)]
+pub struct Outcome {
+    pub records: usize,
+    pub number: u8,
+}
+
+#[derive(Clone, PartialEq, Eq, Debug)]
+pub struct Space {
+    pub clock: u32,
+    pub next_entry: u32,
+    pub next_transaction: u32,
+    /// By number.
+    pub entries: Vec<Entry>,
+    /// By number.
+    pub transactions: Vec<Transaction>,
+    /// By arrival.
+    pub waiting: Vec<LookUp>,
+}
+
+/// Any available entry may be handed out. A choice tells, for the record with this place in the step,
+/// which entry number to hand out if that entry is available; otherwise the oldest is.
+pub trait Choice: Fn(usize) -> Option<u32> {}
+impl<F: Fn(usize) -> Option<u32>> Choice for F {}
+
+pub fn oldest(_record: usize) -> Option<u32> {
+    None
+}
+
+impl Default for Space {
+    fn default() -> Space {
+        Space::new()
+    }
+}
+
+impl Space {
+    pub fn new() -> Space {
+        Space {
+            clock: 0,
+            next_entry: 1,
+            next_transaction: 1,
+            entries: Vec::with_capacity(MOST_ENTRIES),
+            transactions: Vec::with_capacity(MOST_TRANSACTIONS),
+            waiting: Vec::with_capacity(MOST_WAITING),
+        }
+    }
+
+    pub fn step(&mut self, frame: &[u8], area: &mut [u8], choice: impl Choice) -> Outcome {
+        if area.len() < STEP {
+            return Outcome { records: 0, number: Refusal::AreaTooSmall as u8 };
+        }
+        let mut answers = Answers::new(area);
+        let number = match decode(frame).and_then(|request| self.perform(request, &mut answers, choice)) {
+            Ok(()) => 0,
+            Err(refusal) => {
+                let party = frame.get(1).copied().unwrap_or(0);
+                let number = refusal as u8;
+                answers.put(Record { refusal: number, ..Record::new(Kind::Refused, party, NONE) });
+                number
+            }
+        };
+        Outcome { records: answers.records, number }
+    }
+
+    /// Carries out the request, or gives the first of refusals 6 to 14 that applies and changes nothing.
+    fn perform(&mut self, request: Request, answers: &mut Answers, choice: impl Choice) -> Result<(), Refusal> {
+        match request {
+            Request::Write { party, transaction, lease, fields } => {
+                self.check_party(party)?;
+                self.check_transaction(party, transaction)?;
+                self.check_duration(lease)?;
+                if lease != 0 && self.entries.len() >= MOST_ENTRIES {
+                    return Err(Refusal::EntriesFull);
+                }
+                if self.next_entry == FOREVER {
+                    return Err(Refusal::NumbersUsedUp);
+                }
+                self.write(party, transaction, lease, fields, answers, choice);
+            }
+            Request::LookUp { party, transaction, timeout, kind, template } => {
+                self.check_party(party)?;
+                self.check_transaction(party, transaction)?;
+                self.check_duration(timeout)?;
+                let deadline = End::after(self.clock, timeout);
+                let look_up = LookUp { party, transaction, kind, template, deadline };
+                self.look_up(look_up, timeout, answers, choice)?;
+            }
+            Request::Create { party, lease } => {
+                self.check_party(party)?;
+                if lease == 0 {
+                    return Err(Refusal::CreateWithoutLease);
+                }
+                self.check_duration(lease)?;
+                if self.transactions.len() >= MOST_TRANSACTIONS {
+                    return Err(Refusal::TransactionsFull);
+                }
+                if self.next_transaction == FOREVER {
+                    return Err(Refusal::NumbersUsedUp);
+                }
+                self.create(party, lease, answers);
+            }
+            Request::Commit { party, transaction } => {
+                self.check_party(party)?;
+                self.check_ending(party, transaction)?;
+                answers.put(Record::new(Kind::Committed, party, transaction));
+                self.commit(transaction);
+                self.serve(answers, choice);
+            }
+            Request::Abort { party, transaction } => {
+                self.check_party(party)?;
+                self.check_ending(party, transaction)?;
+                answers.put(Record::new(Kind::Aborted, party, transaction));
+                self.abort(transaction);
+                self.serve(answers, choice);
+            }
+            Request::Tick => {
+                if self.clock >= LAST_CLOCK {
+                    return Err(Refusal::TooLate);
+                }
+                self.tick(answers, choice);
+            }
+        }
+        Ok(())
+    }
+
+    /// 6
+    fn check_party(&self, party: u8) -> Result<(), Refusal> {
+        if self.waiting.iter().any(|look_up| look_up.party == party) {
+            return Err(Refusal::PartyWaits);
+        }
+        Ok(())
+    }
+
+    /// 7 and 8, for a frame that may name no transaction
+    fn check_transaction(&self, party: u8, transaction: u32) -> Result<(), Refusal> {
+        if transaction == NONE {
+            return Ok(());
+        }
+        self.check_ending(party, transaction)
+    }
+
+    /// 7 and 8, for commit and abort
+    fn check_ending(&self, party: u8, transaction: u32) -> Result<(), Refusal> {
+        match self.transactions.iter().find(|live| live.number == transaction) {
+            None => Err(Refusal::NotLive),
+            Some(live) if live.owner != party => Err(Refusal::AnothersTransaction),
+            Some(_) => Ok(()),
+        }
+    }
+
+    /// 10, for a lease or a timeout
+    fn check_duration(&self, duration: u32) -> Result<(), Refusal> {
+        if duration != FOREVER && u64::from(self.clock) + u64::from(duration) > u64::from(LAST_CLOCK) {
+            return Err(Refusal::TooLate);
+        }
+        Ok(())
+    }
+
+    fn write(
+        &mut self,
+        party: u8,
+        transaction: u32,
+        lease: u32,
+        fields: Fields,
+        answers: &mut Answers,
+        choice: impl Choice,
+    ) {
+        let number = self.next_entry;
+        self.next_entry += 1;
+        if lease != 0 {
+            let end = End::after(self.clock, lease);
+            let read_by = Vec::new();
+            self.entries.push(Entry { number, fields, end, private_to: transaction, taken_by: NONE, read_by });
+        }
+        answers.put(Record { entry: number, ..Record::new(Kind::Written, party, transaction) });
+        if transaction == NONE {
+            self.serve(answers, choice);
+        }
+    }
+
+    fn look_up(
+        &mut self,
+        look_up: LookUp,
+        timeout: u32,
+        answers: &mut Answers,
+        choice: impl Choice,
+    ) -> Result<(), Refusal> {
+        if let Some(place) = self.choose(&look_up, choice(answers.records)) {
+            self.hand_out(&look_up, place, answers);
+            return Ok(());
+        }
+        let waits = timeout != 0 && (!look_up.kind.if_exists || self.entries.iter().any(|e| e.conflicts(&look_up)));
+        if !waits {
+            answers.put(Record::new(Kind::Nothing, look_up.party, look_up.transaction));
+            return Ok(());
+        }
+        if self.waiting.len() >= MOST_WAITING {
+            return Err(Refusal::WaitingFull);
+        }
+        answers.put(Record::new(Kind::Waiting, look_up.party, look_up.transaction));
+        self.waiting.push(look_up);
+        Ok(())
+    }
+
+    /// The place of an available entry: the wanted one if it is available, else the oldest.
+    fn choose(&self, look_up: &LookUp, wanted: Option<u32>) -> Option<usize> {
+        let chosen =
+            wanted.and_then(|number| self.entries.iter().position(|e| e.number == number && e.available(look_up)));
+        chosen.or_else(|| self.entries.iter().position(|e| e.available(look_up)))
+    }
+
+    /// Answers found with the entry at this place, and does to it what the look-up does.
+    fn hand_out(&mut self, look_up: &LookUp, place: usize, answers: &mut Answers) {
+        let entry = &mut self.entries[place];
+        answers.put(Record {
+            entry: entry.number,
+            fields: entry.fields,
+            ..Record::new(Kind::Found, look_up.party, look_up.transaction)
+        });
+        let committed = entry.private_to == NONE;
+        if look_up.kind.takes {
+            if look_up.transaction != NONE && committed {
+                entry.taken_by = look_up.transaction;
+                entry.read_by.retain(|&reader| reader != look_up.transaction);
+            } else {
+                self.entries.remove(place);
+            }
+        } else if look_up.transaction != NONE && committed && !entry.read_by.contains(&look_up.transaction) {
+            entry.read_by.push(look_up.transaction);
+        }
+    }
+
+    fn create(&mut self, party: u8, lease: u32, answers: &mut Answers) {
+        let number = self.next_transaction;
+        self.next_transaction += 1;
+        self.transactions.push(Transaction { number, owner: party, end: End::after(self.clock, lease) });
+        answers.put(Record::new(Kind::Created, party, number));
+    }
+
+    fn commit(&mut self, transaction: u32) {
+        self.transactions.retain(|live| live.number != transaction);
+        self.entries.retain_mut(|entry| {
+            if entry.private_to == transaction {
+                entry.private_to = NONE;
+            }
+            entry.read_by.retain(|&reader| reader != transaction);
+            entry.taken_by != transaction
+        });
+    }
+
+    fn abort(&mut self, transaction: u32) {
+        self.transactions.retain(|live| live.number != transaction);
+        self.entries.retain_mut(|entry| {
+            if entry.taken_by == transaction {
+                entry.taken_by = NONE;
+            }
+            entry.read_by.retain(|&reader| reader != transaction);
+            entry.private_to != transaction
+        });
+    }
+
+    /// The waiting look-ups once, in order of arrival; each with an available entry is answered found.
+    fn serve(&mut self, answers: &mut Answers, choice: impl Choice) {
+        let mut at = 0;
+        while at < self.waiting.len() {
+            match self.choose(&self.waiting[at], choice(answers.records)) {
+                Some(place) => {
+                    let look_up = self.waiting.remove(at);
+                    self.hand_out(&look_up, place, answers);
+                }
+                None => at += 1,
+            }
+        }
+    }
+
+    fn tick(&mut self, answers: &mut Answers, choice: impl Choice) {
+        self.clock += 1;
+        let clock = self.clock;
+        answers.put(Record::new(Kind::Ticked, 0, NONE));
+
+        while let Some(ended) = self.transactions.iter().find(|live| live.end.reached(clock)).cloned() {
+            self.abort(ended.number);
+            self.waiting.retain(|look_up| look_up.transaction != ended.number);
+            answers.put(Record::new(Kind::Exception, ended.owner, ended.number));
+        }
+        self.entries.retain(|entry| !entry.end.reached(clock));
+        self.serve(answers, choice);
+        self.waiting.retain(|look_up| {
+            let over = look_up.deadline.reached(clock);
+            if over {
+                answers.put(Record::new(Kind::Nothing, look_up.party, look_up.transaction));
+            }
+            !over
+        });
+    }
+}

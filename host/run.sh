@@ -1,0 +1,14 @@
+#!/usr/bin/env bash
+# Runs a tray that is given as text, and prints its answers: host/run.sh examples/sample.txt
+set -euo pipefail
+text=$(realpath "$1")
+cd "$(dirname "$0")/.."
+. host/build.sh
+find_program
+build_rust --bin tray
+if [ -z "$program" ]; then
+    find_archive
+    build_c run_tray
+    program=$out/run_tray
+fi
+"$out/cargo/release/tray" assemble < "$text" | "$program"

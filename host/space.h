@@ -1,0 +1,130 @@
+/* The shared space, for hosts in C. Link with target/staticlib/libtray.a (x86-64).
+ *
+ * All numbers in frames, records and trays are little-endian and unsigned. No function keeps a pointer, allocates,
+ * or uses memory besides its buffers and the stack. The buffers of a call must not overlap. A pointer may be null
+ * if its length is 0. No content of a frame, a tray or a space is an error: each gets its answer. */
+#ifndef SPACE_H
+#define SPACE_H
+
+#include <stddef.h>
+#include <stdint.h>
+
+#ifdef __cplusplus
+extern "C" {
+#endif
+
+#define SPACE_WORDS 758              /* words of a space */
+#define SPACE_RECORD_BYTES 28        /* bytes of a record */
+#define SPACE_STEP_BYTES 700         /* room that a frame needs in the answers area: 25 records */
+#define SPACE_MAX_TRAY_BYTES 65536   /* bytes of a tray at most */
+#define SPACE_MAX_TRAY_FRAMES 2000   /* frames of a tray at most */
+#define SPACE_MAX_ENTRIES 64         /* entries stored at most */
+#define SPACE_MAX_TRANSACTIONS 8     /* transactions live at most */
+#define SPACE_MAX_WAITING 16         /* look-ups waiting at most */
+#define SPACE_MAX_PARTY 16           /* parties are 1 to 16 */
+#define SPACE_FOREVER 4294967295u
+
+/* Frame: byte 0 operation, 1 party (0 for tick), 2 mask, 3 zero, then words at these offsets. */
+#define SPACE_FRAME_AT_TRANSACTION 4
+#define SPACE_FRAME_AT_DURATION 8    /* lease or timeout */
+#define SPACE_FRAME_AT_FIELDS 12     /* kind, side, image, place */
+
+enum space_operation {               /* and the frame's length */
+    SPACE_OP_WRITE = 1,              /* 28 */
+    SPACE_OP_READ = 2,               /* 28 */
+    SPACE_OP_TAKE = 3,               /* 28 */
+    SPACE_OP_READ_IF_EXISTS = 4,     /* 28 */
+    SPACE_OP_TAKE_IF_EXISTS = 5,     /* 28 */
+    SPACE_OP_CREATE = 6,             /* 12 */
+    SPACE_OP_COMMIT = 7,             /* 8 */
+    SPACE_OP_ABORT = 8,              /* 8 */
+    SPACE_OP_TICK = 9                /* 4 */
+};
+
+/* Mask bits of a template. */
+#define SPACE_MASK_KIND 1
+#define SPACE_MASK_SIDE 2
+#define SPACE_MASK_IMAGE 4
+#define SPACE_MASK_PLACE 8
+
+/* Record: byte 0 kind, 1 party, 2 refusal number, 3 zero, then words at these offsets. */
+#define SPACE_RECORD_AT_TRANSACTION 4
+#define SPACE_RECORD_AT_ENTRY 8
+#define SPACE_RECORD_AT_FIELDS 12
+
+enum space_record_kind {
+    SPACE_RECORD_WRITTEN = 1,
+    SPACE_RECORD_FOUND = 2,
+    SPACE_RECORD_NOTHING = 3,
+    SPACE_RECORD_WAITING = 4,
+    SPACE_RECORD_CREATED = 5,
+    SPACE_RECORD_COMMITTED = 6,
+    SPACE_RECORD_ABORTED = 7,
+    SPACE_RECORD_EXCEPTION = 8,
+    SPACE_RECORD_TICKED = 9,
+    SPACE_RECORD_REFUSED = 15
+};
+
+/* Numbers 1 to 14 are of a frame, 15 and 16 of a tray; 0 is no refusal. docs/MANUAL.md says what to do about each. */
+enum space_refusal {
+    SPACE_REFUSAL_AREA_TOO_SMALL = 1,
+    SPACE_REFUSAL_BAD_OPERATION = 2,
+    SPACE_REFUSAL_BAD_LENGTH = 3,
+    SPACE_REFUSAL_BAD_FORM = 4,
+    SPACE_REFUSAL_BAD_PARTY = 5,
+    SPACE_REFUSAL_PARTY_WAITS = 6,
+    SPACE_REFUSAL_NOT_LIVE = 7,
+    SPACE_REFUSAL_NOT_OWNER = 8,
+    SPACE_REFUSAL_CREATE_WITHOUT_LEASE = 9,
+    SPACE_REFUSAL_TOO_LATE = 10,
+    SPACE_REFUSAL_ENTRIES_FULL = 11,
+    SPACE_REFUSAL_TRANSACTIONS_FULL = 12,
+    SPACE_REFUSAL_NUMBERS_USED_UP = 13,
+    SPACE_REFUSAL_WAITING_FULL = 14,
+    SPACE_REFUSAL_BAD_TRAY = 15,
+    SPACE_REFUSAL_BAD_PAIR = 16
+};
+
+/* Makes `space` the empty space: clock 0, nothing stored, live or waiting, 1 as both next numbers.
+ * What the words held before does not matter. */
+void space_empty(uint32_t space[SPACE_WORDS]);
+
+/* Carries out one frame on a space that space_empty and space_step alone have written.
+ * Returns records + 65536 * number: the records written to `answers`, one behind the other from its beginning, and
+ * the refusal's number or 0. A refused frame leaves every word of `space` as it was; it writes one record, or none
+ * for number 1 (answers_len under 700). Bytes of `answers` after the last record keep their contents. `frame` is only
+ * read. On words made in any other way the call still ends and keeps to its buffers; nothing more is promised. */
+uint64_t space_step(uint32_t space[SPACE_WORDS], const uint8_t *frame, size_t frame_len,
+                    uint8_t *answers, size_t answers_len);
+
+/* Runs a whole tray from an empty space of its own.
+ * Returns frames + 65536 * records + 4294967296 * number: frames done (refused ones count), records written to
+ * `answers` one behind the other from its beginning, and a number: 0 at the tray's end; 1 if it stopped before a frame
+ * for which under 700 bytes were left; 15 or 16 if the tray is refused, and then nothing was done. Bytes of `answers`
+ * after the last record keep their contents. `tray` is only read. */
+uint64_t space_run_tray(const uint8_t *tray, size_t tray_len, uint8_t *answers, size_t answers_len);
+
+/* The parts of what the two functions return. */
+static inline uint32_t space_step_records(uint64_t returned) { return (uint32_t)(returned % 65536u); }
+static inline uint32_t space_step_number(uint64_t returned) { return (uint32_t)(returned / 65536u); }
+static inline uint32_t space_run_frames(uint64_t returned) { return (uint32_t)(returned % 65536u); }
+static inline uint32_t space_run_records(uint64_t returned) { return (uint32_t)(returned / 65536u % 65536u); }
+static inline uint32_t space_run_number(uint64_t returned) { return (uint32_t)(returned / 4294967296u); }
+
+/* The word that begins at `at`, and the writing of one. */
+static inline uint32_t space_get_word(const uint8_t *at)
+{
+    return at[0] | (uint32_t)at[1] << 8 | (uint32_t)at[2] << 16 | (uint32_t)at[3] << 24;
+}
+
+static inline void space_put_word(uint8_t *at, uint32_t word)
+{
+    for (int i = 0; i < 4; i++)
+        at[i] = (uint8_t)(word >> 8 * i);
+}
+
+#ifdef __cplusplus
+}
+#endif
+
+#endif
