@@ -2,3 +2,5 @@
 pub mod RunLaws
 pub mod PairLaws
 pub mod RunningLaws
+pub mod JudgeLaws
+pub mod TrayLaws

@@ -27,7 +27,7 @@ number-drop n bs j =
     (ap₂ (λ x y. x + 65536 * y) (ap₂ (λ x y. x + 256 * y) first (byte-drop n bs j 1)) (byte-drop n bs j 2))
     (byte-drop n bs j 3)
 
-pair-drop : (n : ℕ) (bs : List ℕ) (j : ℕ) → pairFrom (drop n bs) j ≡ pairFrom bs (n + j)
+pub pair-drop : (n : ℕ) (bs : List ℕ) (j : ℕ) → pairFrom (drop n bs) j ≡ pairFrom bs (n + j)
 pair-drop n bs j =
     ap₂ (λ (x y : ℕ). record { offset = x; size = y }) (number-drop n bs j) (number-drop n bs (j + 4) ∙ ap (numberAt bs) (omega arith))
 

@@ -57,6 +57,9 @@ running-none tray a ws e =
       few = omega arith;
     }
 
+pub running-length : (tray a₀ ws a : List ℕ) (k n : ℕ) → Running tray a₀ ws a k n → length a ≡ length a₀
+running-length tray a₀ ws a k n r = ap length (r .area) ∙ area-length (r .records) a₀ (omega (arith, r .room, r .counts))
+
 -- one frame more, run in the part of the area behind the records
 pub running-more : (tray a₀ ws a ws′ a′ frame part part′ : List ℕ) (k n returned : ℕ) → Running tray a₀ ws a k n → k < frameCount tray
     → 28 * n + 700 ≤ length a₀
@@ -94,11 +97,8 @@ running-more tray a₀ ws a ws′ a′ frame part part′ k n returned r h room 
     left : ℕ
     left = length a₀ - 28 * length rs
 
-    same-area : length a ≡ length a₀
-    same-area = ap length (r .area) ∙ area-length rs a₀ (omega (arith, r .room, r .counts))
-
     size : length part ≡ left
-    size = ap length p ∙ length-drop (28 * n) a ∙ ap₂ (λ x y. x - 28 * y) same-area (r .counts)
+    size = ap length p ∙ length-drop (28 * n) a ∙ ap₂ (λ x y. x - 28 * y) (running-length tray a₀ ws a k n r) (r .counts)
 
     same : step (al .choice) (view ws) frame (length part) ≡ step (al .choice) (view ws) f left
     same = ap₂ (λ l j. step (al .choice) (view ws) l j) q size

@@ -1,0 +1,2 @@
+-- What the printer writes, by definitions that its contracts cite.
+pub mod Text
