@@ -37,7 +37,8 @@ fn is_bad_tray(tray: &[u8]) -> bool
 // 16: a pair out of order, or past the tray.
 fn has_bad_pairs(tray: &[u8]) -> bool
     requires { ⌜ badTray (now tray) ≡ false ⌝ }
-    ensures { λ r. ⌜ r ≡ badPairs (pairsEnd (now (tray .entry))) (length (now (tray .entry))) (pairs (now (tray .entry))) ⌝ }
+    ensures { λ r. ⌜ r
+        ≡ badPairs (pairsEnd (now (tray .entry))) (length (now (tray .entry))) (pairs (now (tray .entry))) ⌝ }
 {
     let len = tray.len();
     let count = size_at(tray, 0);

@@ -22,7 +22,8 @@ pub extern "C" fn space_empty(space: &mut [u32; 758])
 // What a frame does to the space: records + 65,536 × number. A refused frame gives the very same words back.
 #[no_mangle]
 pub extern "C" fn space_step(space: &mut [u32; 758], frame: &[u8], answers: &mut [u8]) -> u64
-    ensures { λ r. ⌜ Stepped (now (space .entry)) (now (frame .entry)) (now (answers .entry)) (now (space .exit)) r (now (answers .exit)) ⌝ }
+    ensures { λ r. ⌜ Stepped (now (space .entry)) (now (frame .entry)) (now (answers .entry))
+        (now (space .exit)) r (now (answers .exit)) ⌝ }
 {
     space::space_step(space, frame, answers)
 }
