@@ -1,6 +1,6 @@
 // Frames read from bytes, and answer records written as bytes.
-pub mod bytes;
-pub mod frames;
+mod bytes;
+mod frames;
 pub mod numbers;
 pub mod records;
 

@@ -83,7 +83,8 @@ module _ (ns old new : List ℕ) (at next i : ℕ) (l : Lining ns old new at nex
         let before : at + length (l .text) ≤ length old = omega (arith, fits) in
         record {
           text = l .text ++ (decimal n ++ (s ∷ []));
-          puts = puts-then (l .text) (decimal n ++ (s ∷ [])) old new (set mid to s) at next (to + 1) (l .puts) before more;
+          puts =
+              puts-then (l .text) (decimal n ++ (s ∷ [])) old new (set mid to s) at next (to + 1) (l .puts) before more;
           few = simp length-append (omega (arith, l .few));
           rest =
               l .rest

@@ -1,16 +1,19 @@
 -- A pass over the entries, row by row.
 use Prim.Native.Nat.{ℕ, zero, suc, _+_, _*_, _≤_, _<_}
-use mathlib.Core.Bool.{Bool, true, false, cond}
+use mathlib.Core.Bool.{Bool, true, false, cond, not}
 use mathlib.Core.Logic.{⊎-elim}
 use mathlib.Core.Path.{_≡_, refl, sym, ap, ap₂, _∙_, subst}
 use mathlib.Core.List.{List, [], _∷_, _++_, map, map-append, append-nil}
 use native.Mathlib.Omega.{arith}
 use native.Mathlib.Numerals.{add-one}
+use native.Mathlib.Decide.{decLt}
 use borrow.Author.Tests.{eqb-false}
 use lib.Dec.{eqb, lit<, lit≤}
 use lib.ListN.{length, getD, set}
 use lib.Seq.{getD-set-same, getD-set-other}
 use Rattle.rules.specs.declared.Entry.{Entry}
+use Rattle.rules.specs.declared.EntryId.{EntryId}
+use Rattle.rules.specs.declared.TxnId.{TxnId}
 use Rattle.rules.specs.Lists.{filterb}
 use Rattle.rules.proofs.ListLaws.{filter-append}
 use Rattle.rules.proofs.StepCases.{cond-cases}
@@ -22,7 +25,7 @@ use Rattle.space.specs.declared.sweep.Sweep.{Sweep}
 use Rattle.space.specs.declared.sweep.Sweep.the-variants.{Expire, Commit, Abort, Remove, Mark}
 use Rattle.rules.specs.Words.{before, from, row, untilOf, untilWord, entryOf, entryFrom, entryCount, entries, view}
 use Rattle.space.specs.Rows.{putEntry, entryWords}
-use Rattle.space.specs.Sweep.{dropAt, releasedAt, heldAt, markedAt, keeps, changes, KeptAt, swept, sweepModel}
+use Rattle.space.specs.Sweep.{dropAt, releasedAt, heldAt, markedAt, keeps, changes, KeptAt, OthersBefore, Still, swept, sweepModel}
 use Rattle.space.proofs.RowLaws.{over, over-length, over-before, over-from, over-row, set9-over, row-from, from-more, word-before}
 use Rattle.space.proofs.CompactLaws.{Compacting, compact-start, compact-passed, compact-same, compact-kept}
 use Rattle.space.proofs.ViewLaws.{until-back, entry-row, entries-more, Storable, entry-back}
@@ -83,6 +86,32 @@ module _ (s : Sweep) (ws₀ ws : List ℕ) (i n : ℕ) (w : Sweeping s ws₀ ws 
       (compact-kept entryOf 6 9 (keeps s) (changes s) ws₀ ws i n w (entryWords (changes s e)) refl (omega arith)
       (entry-back (changes s e) (storable s ws (6 + 9 * i) e (changes s e) r refl (a .0)) ∙ ap (changes s) (sym read-is)) (ap (keeps s) read-is ∙ t)))
       k
+
+-- the rows that stay as they are are gone through
+pub sweep-still : (s : Sweep) (ws : List ℕ) (r : ℕ) → Still s ws r → Sweeping s ws ws r r
+sweep-still s ws zero h = sweep-start s ws
+sweep-still s ws (suc r) h =
+    let w = sweep-still s ws r (λ k l. h k (omega arith)) in
+    let a = h r (omega arith) in
+    let e = entry-row ws r in
+    rw (sym (add-one r))
+    (compact-same entryOf 6 9 (keeps s) (changes s) ws ws r r w refl (ap (changes s) e ∙ a .1 ∙ sym e) (ap (keeps s) e ∙ a .0))
+
+-- one more row has another number
+pub others-more : (n : ℕ) (ws : List ℕ) (i : ℕ) → OthersBefore n ws i → eqb (entryFrom ws (6 + 9 * i) .id .0) n ≡ false → OthersBefore n ws (i + 1)
+others-more n ws i h t k l = go (decLt k i)
+  where
+    go : Dec (k < i) → eqb (entryFrom ws (6 + 9 * k) .id .0) n ≡ false
+    go (yes b) = h k b
+    go (no b) = let s : k ≡ i = omega arith in ap (λ j. eqb (entryFrom ws (6 + 9 * j) .id .0) n) s ∙ t
+
+-- a pass by number leaves the rows with other numbers as they are
+pub still-remove : (n : EntryId) (ws : List ℕ) (r : ℕ) → OthersBefore (n .0) ws r → Still (Remove n) ws r
+still-remove n ws r h k l = (ap not (h k l), refl)
+
+pub still-mark : (n : EntryId) (takes : Bool) (t : TxnId) (p : ℕ) (ws : List ℕ) (r : ℕ) → OthersBefore (n .0) ws r → Still (Mark n takes t p) ws r
+still-mark n takes t p ws r h k l =
+    (refl, ap (λ b. cond b (markedAt takes t p (entryFrom ws (6 + 9 * k))) (entryFrom ws (6 + 9 * k))) (h k l))
 
 -- the count is set, and the pass is done
 pub sweep-done : (s : Sweep) (ws₀ ws : List ℕ) (i n : ℕ) → length ws₀ ≡ 758 → i ≡ entryCount ws₀ → Sweeping s ws₀ ws i n → view (set ws 3 n) ≡ sweepModel s (view ws₀)

@@ -1,6 +1,6 @@
 -- What a pass over the entries does: which it keeps, and how it changes those.
 use Prim.Native.Nat.{ℕ, _+_, _*_, _<_}
-use mathlib.Core.Bool.{Bool, true, not, cond}
+use mathlib.Core.Bool.{Bool, true, false, not, cond}
 use mathlib.Core.Logic.{_⊎_}
 use mathlib.Core.Path.{_≡_}
 use mathlib.Core.List.{List, map}
@@ -12,6 +12,7 @@ use Rattle.rules.specs.Time.{reached}
 use Rattle.rules.specs.State.{Model, withEntries}
 use Rattle.rules.specs.Holds.{addReader, dropReader}
 use Rattle.rules.specs.Transactions.{noTxn, privateTo, takenBy}
+use Rattle.rules.specs.Words.{entryFrom}
 use Rattle.space.specs.Rows.{putEntry}
 use Rattle.space.specs.declared.sweep.Sweep.{Sweep}
 use Rattle.space.specs.declared.sweep.Sweep.the-variants.{Expire, Commit, Abort, Remove, Mark}
@@ -79,6 +80,15 @@ abbrev pub KeptAt : Sweep → Entry → ℕ → ℕ → List ℕ → List ℕ �
 KeptAt s e i n ws ws′ =
     ((n ≡ i) × (changes s e ≡ e) × (ws′ ≡ ws))
     ⊎ ((changes s e .readers < 256) × (ws′ ≡ putEntry ws (6 + 9 * n) (changes s e)))
+
+-- no row before r has an entry with the number
+abbrev pub OthersBefore : ℕ → List ℕ → ℕ → Type 0
+OthersBefore n ws r = (k : ℕ) → k < r → eqb (entryFrom ws (6 + 9 * k) .id .0) n ≡ false
+
+-- every row before r is kept, as it is
+abbrev pub Still : Sweep → List ℕ → ℕ → Type 0
+Still s ws r =
+    (k : ℕ) → k < r → (keeps s (entryFrom ws (6 + 9 * k)) ≡ true) × (changes s (entryFrom ws (6 + 9 * k)) ≡ entryFrom ws (6 + 9 * k))
 
 abbrev pub swept : Sweep → List Entry → List Entry
 swept s es = map (changes s) (filterb (keeps s) es)

@@ -67,6 +67,14 @@ pub(crate) fn entry_at(space: &Words, i: usize) -> Entry
     }
 }
 
+// The number of the entry in row i: the one word that a search by number reads.
+pub(crate) fn entry_id(space: &Words, i: usize) -> u32
+    requires { ⌜ i < 64 ⌝ }
+    ensures { λ r. ⌜ r ≡ entryFrom (now (space .entry)) (6 + 9 * i) .id .0 ⌝ }
+{
+    space[6 + 9 * i]
+}
+
 pub(crate) fn put_entry(space: &mut Words, i: usize, e: Entry)
     requires { ⌜ i < 64 ⌝ }
     ensures { λ _. ⌜ now (space .exit) ≡ putEntry (now (space .entry)) (6 + 9 * i) e ⌝ }

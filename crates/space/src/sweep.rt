@@ -11,13 +11,14 @@ ghost use mathlib.Core.Bool.{true, not, cond, _&&_, _||_};
 ghost use lib.Dec.{eqb};
 ghost use Rattle.rules.specs.Transactions.{noTxn};
 ghost use Rattle.rules.specs.Time.{reached};
-ghost use Rattle.space.specs.Sweep.{releasedAt, markedAt, keeps, changes, slotIn, KeptAt, sweepModel};
+ghost use Rattle.space.specs.Sweep.{releasedAt, markedAt, keeps, changes, slotIn, KeptAt, OthersBefore, Still, sweepModel};
 use crate::holds::add_reader;
 use crate::holds::drop_reader;
 use crate::holds::has_bit;
 use crate::rows::Words;
 use crate::rows::entry_at;
 use crate::rows::entry_count;
+use crate::rows::entry_id;
 use crate::rows::put_entry;
 use rules::Entry;
 use rules::EntryId;
@@ -193,14 +194,44 @@ pub(crate) fn keep_entry(space: &mut Words, s: Sweep, e: Entry, i: usize, n: usi
     put_entry(space, n, x);
 }
 
+// The first of the rows whose entry has the number, or else their count.
+pub(crate) fn row_of(space: &Words, id: EntryId, count: usize) -> usize
+    requires { ⌜ count ≤ 64 ⌝ }
+    ensures { λ r. ⌜ (r ≤ count) × OthersBefore (id .0) (now (space .entry)) r ⌝ }
+{
+    let mut i: usize = 0;
+    while i < count {
+        if entry_id(space, i) == id.0 {
+            return i;
+        }
+        i += 1;
+    }
+    count
+}
+
+// A row before which the pass leaves every row as it is.
+pub(crate) fn first_touched(space: &Words, s: Sweep, count: usize) -> usize
+    requires { ⌜ count ≤ 64 ⌝ }
+    ensures { λ r. ⌜ (r ≤ count) × Still s (now (space .entry)) r ⌝ }
+{
+    match s {
+        Sweep::Expire(_) => 0,
+        Sweep::Commit(_, _) => 0,
+        Sweep::Abort(_, _) => 0,
+        Sweep::Remove(n) => row_of(space, n, count),
+        Sweep::Mark(n, _, _, _) => row_of(space, n, count),
+    }
+}
+
 // One pass over the entries, in place.
 pub(crate) fn pass_over(space: &mut Words, s: Sweep)
     requires { ⌜ slotIn s ≤ 8 ⌝ }
     ensures { λ _. ⌜ (view (now (space .exit)) ≡ sweepModel s (view (now (space .entry)))) × (length (now (space .exit)) ≡ 758) ⌝ }
 {
     let count = entry_count(space);
-    let mut i: usize = 0;
-    let mut n: usize = 0;
+    let first = first_touched(space, s, count);
+    let mut i = first;
+    let mut n = first;
     while i < count {
         let e = entry_at(space, i);
         if keeps_entry(s, e) {

@@ -10,7 +10,12 @@ returns c = (refused _ _ (c .before .form-refusal .ensures) (c .if1 .taken), ref
 
 returns-2 : tie.Need-returns-2
 returns-2 c =
-    (rw (c .before .party-of .ensures, c .number-at .ensures) (create-asks _ (sym (c .before .before .before .form-refusal .ensures) ∙ c .before .before .if1 .left) (c .before .before .before .before .before .pre)), refl)
+    let clear = c .before .before in (
+      rw (c .before .party-of .ensures, c .number-at .ensures)
+          (create-asks _ (sym (clear .before .form-refusal .ensures) ∙ clear .if1 .left)
+          (clear .before .before .before .pre)),
+      refl,
+    )
 
 pub decode-create-spec : {M : Type 1} → statement M
 decode-create-spec =

@@ -11,12 +11,21 @@ returns c = (refused _ _ (c .before .form-refusal .ensures) (c .if1 .taken), ref
 
 returns-2 : tie.Need-returns-2
 returns-2 c =
-    (rw (c .before .before .party-of .ensures, c .before .number-at .ensures) (commit-asks _ (sym (c .before .before .before .before .form-refusal .ensures) ∙ c .before .before .before .if1 .left) (sym (c .before .before .before .before .before .before .pre .0) ∙ c .if2 .taken)), refl)
+    let clear = c .before .before .before in
+    let p = clear .before .before .before .pre in (
+      rw (c .before .before .party-of .ensures, c .before .number-at .ensures)
+          (commit-asks _ (sym (clear .before .form-refusal .ensures) ∙ clear .if1 .left) (sym (p .0) ∙ c .if2 .taken)),
+      refl,
+    )
 
 returns-3 : tie.Need-returns-3
 returns-3 c =
-    let p = c .before .before .before .before .before .before .pre in
-    (rw (c .before .before .party-of .ensures, c .before .number-at .ensures) (abort-asks _ (sym (c .before .before .before .before .form-refusal .ensures) ∙ c .before .before .before .if1 .left) (omega (arith, c .if2 .left))), refl)
+    let clear = c .before .before .before in
+    let p = clear .before .before .before .pre in (
+      rw (c .before .before .party-of .ensures, c .before .number-at .ensures)
+          (abort-asks _ (sym (clear .before .form-refusal .ensures) ∙ clear .if1 .left) (omega (arith, c .if2 .left))),
+      refl,
+    )
 
 pub decode-ending-spec : {M : Type 1} → statement M
 decode-ending-spec =

@@ -11,9 +11,20 @@ returns c = (refused _ _ (c .before .form-refusal .ensures) (c .if1 .taken), ref
 
 returns-2 : tie.Need-returns-2
 returns-2 c =
-    let p = c .before .before .before .before .before .before .before .before .pre in (
-      rw (c .before .before .party-of .ensures, c .before .byte-at .ensures, c .before .before .before .before .number-at .ensures, c .number-at2 .ensures, c .before .before .before .fields-at .ensures)
-          (find-asks _ (sym (c .before .before .before .before .before .before .form-refusal .ensures) ∙ c .before .before .before .before .before .if1 .left) _ (p .0) (p .1) (p .2)),
+    let mask = c .before in
+    let party = mask .before in
+    let fields = party .before in
+    let txn = fields .before in
+    let clear = txn .before in
+    let p = clear .before .before .before .pre in (
+      rw (
+        party .party-of .ensures,
+        mask .byte-at .ensures,
+        txn .number-at .ensures,
+        c .number-at2 .ensures,
+        fields .fields-at .ensures,
+      )
+          (find-asks _ (sym (clear .before .form-refusal .ensures) ∙ clear .if1 .left) _ (p .0) (p .1) (p .2)),
       rw (le-leb _ _ (p .1), le-leb _ _ (p .2)),
     )
 

@@ -9,11 +9,16 @@ returns : tie.Need-returns
 returns c = (refused _ _ (c .before .form-refusal .ensures) (c .if1 .taken), refl)
 
 returns-2 : tie.Need-returns-2
-returns-2 c = (
-  rw (c .before .party-of .ensures, c .before .before .before .number-at .ensures, c .number-at2 .ensures, c .before .before .fields-at .ensures)
-      (write-asks _ (sym (c .before .before .before .before .before .form-refusal .ensures) ∙ c .before .before .before .before .if1 .left) (c .before .before .before .before .before .before .before .pre)),
-  refl,
-)
+returns-2 c =
+    let party = c .before in
+    let fields = party .before in
+    let txn = fields .before in
+    let clear = txn .before in (
+      rw (party .party-of .ensures, txn .number-at .ensures, c .number-at2 .ensures, fields .fields-at .ensures)
+          (write-asks _ (sym (clear .before .form-refusal .ensures) ∙ clear .if1 .left)
+          (clear .before .before .before .pre)),
+      refl,
+    )
 
 pub decode-write-spec : {M : Type 1} → statement M
 decode-write-spec =

@@ -18,8 +18,9 @@ returns c =
     sym (form-is _ _ 3 (p .0) (p .1) (p .2) (rw (ne-eqb _ _ (λ e. c .if1 .taken (e ∙ sym (s .length-of .ensures))))))
 
 -- the length is the operation's; the form is in order
-long : (c : tie.Else1)
-    → eqb (length (c .before .before .before .args .frame .now)) (frameLength (c .before .before .before .args .op)) ≡ true
+long : (c : tie.Else1) → eqb (length (c .before .before .before .args .frame .now))
+    (frameLength (c .before .before .before .args .op))
+    ≡ true
 long c = eq-eqb _ _ (c .if1 .left ∙ c .before .length-of .ensures)
 
 formed : (c : tie.Else2) → malformed (decode (c .before .before .before .before .before .args .frame .now)) ≡ false

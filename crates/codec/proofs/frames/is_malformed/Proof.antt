@@ -32,7 +32,8 @@ returns-3 c =
     rw (byte3 .byte-at .ensures, c .before .before .byte-at2 .ensures)
     (sym
     (plain-form (decode (start .args .frame .now))
-    (⊎-elim (λ w. find-below op (omega (arith, start .pre))) (λ w. find-above op (omega (arith, start .pre))) (c .if1 .came))
+    (⊎-elim (λ w. find-below op (omega (arith, start .pre))) (λ w. find-above op (omega (arith, start .pre)))
+    (c .if1 .came))
     (ne-eqb op 6 (λ e. omega (arith, start .pre, c .before .match .rest)))))
 
 pub is-malformed-spec : {M : Type 1} → statement M

@@ -5,27 +5,29 @@ use mathlib.Core.Path.{sym, _∙_, subst₂}
 use native.Mathlib.Omega.{arith}
 use lib.ListN.{length-set}
 use borrow.Author.Needs.{needs}
-use Rattle.space.proofs.SweepLaws.{Sweeping, sweep-start, sweep-kept, sweep-passed, sweep-done}
+use Rattle.space.proofs.SweepLaws.{Sweeping, sweep-still, sweep-kept, sweep-passed, sweep-done}
 use Rattle.space.proofs.sweep.pass_over.Statement.{statement}
 use Rattle.space.proofs.sweep.pass_over.Tie as tie
 
 abbrev Inv-loop : tie.InvT-loop
-Inv-loop space₀ s count i₀ n₀ space i n = (i ≤ count) × Sweeping s space₀ space i n
+Inv-loop space₀ s count first i₀ n₀ space i n = (i ≤ count) × Sweeping s space₀ space i n
 
 abbrev μ-loop : tie.MeasureT-loop
-μ-loop space₀ s count i₀ n₀ space i n = count - i
+μ-loop space₀ s count first i₀ n₀ space i n = count - i
 
 loop-holds : tie.Need-loop-holds Inv-loop μ-loop
-loop-holds c = (omega arith, sweep-start (c .before .before .args .s) (c .before .before .args .space .now))
+loop-holds c =
+    let a = c .before .before .before .before .args in
+    (c .first-touched .ensures .0, sweep-still (a .s) (a .space .now) _ (c .first-touched .ensures .1))
 
 keep-entry-requires : tie.Need-keep-entry-requires Inv-loop μ-loop
-keep-entry-requires c κs = (c .before .before .before .before .before .before .before .before .before .pre, omega (arith, c .before .before .before .before .before .before .loop .inv .1 .behind))
+keep-entry-requires c κs = (c .before .before .before .before .before .before .before .before .before .before .before .pre, omega (arith, c .before .before .before .before .before .before .loop .inv .1 .behind))
 
 loop-again : tie.Need-loop-again Inv-loop μ-loop
 loop-again c =
-    let a = c .before .before .before .before .before .before .before .before .args in
+    let a = c .before .before .before .before .before .before .before .before .before .before .args in
     let l = c .before .before .before .before .before .loop in
-    let long = c .before .before .before .before .before .before .entry-count .ensures .1 in
+    let long = c .before .before .before .before .before .before .before .before .entry-count .ensures .1 in
     let r = c .before .before .entry-at .ensures in
     let k = c .before .keeps-entry .ensures in (
       omega arith,
@@ -39,8 +41,10 @@ loop-again c =
 
 returns : tie.Need-returns Inv-loop μ-loop
 returns c =
+    let a = c .before .before .before .before .before .before .args in
+    let long = c .before .before .before .before .entry-count .ensures .1 in
     let w = c .before .loop .inv .1 in
-    (sweep-done (c .before .before .before .before .args .s) _ _ (c .before .loop .i) _ (c .before .before .entry-count .ensures .1) (omega arith) w, simp length-set (w .long ∙ c .before .before .entry-count .ensures .1))
+    (sweep-done (a .s) _ _ (c .before .loop .i) _ long (omega arith) w, simp length-set (w .long ∙ long))
 
 pub pass-over-spec : {M : Type 1} → statement M
 pass-over-spec =
@@ -49,6 +53,7 @@ pass-over-spec =
     Inv-loop
     μ-loop
     (λ c κs. tt)
+    (λ c κs. omega arith)
     loop-holds
     (λ c κs. omega arith)
     (λ c κs. tt)
