@@ -7,6 +7,7 @@ ghost use mathlib.Core.Path.{_≡_};
 ghost use Rattle.rules.specs.Allowed.{Stepped, TrayRan};
 ghost use Rattle.rules.specs.State.{empty};
 ghost use Rattle.rules.specs.Words.{view};
+ghost use Rattle.space.specs.Empty.{emptyWords};
 use judge::judge;
 use run::packed;
 use run::run_frames;
@@ -14,7 +15,7 @@ use run::run_frames;
 // An empty space.
 #[no_mangle]
 pub extern "C" fn space_empty(space: &mut [u32; 758])
-    ensures { λ _. ⌜ view (now (space .exit)) ≡ empty ⌝ }
+    ensures { λ _. ⌜ (view (now (space .exit)) ≡ empty) × (now (space .exit) ≡ emptyWords) ⌝ }
 {
     space::space_empty(space);
 }
