@@ -68,11 +68,9 @@ pub(crate) fn field_agrees(mask: u8, p: u8, want: u32, have: u32) -> bool
     requires { ⌜ p ≤ 8 ⌝ }
     ensures { λ r. ⌜ r ≡ agrees (bit p mask) want have ⌝ }
 {
-    let asked = has_bit(mask, p);
-    !asked | (want == have)
+    if has_bit(mask, p) { want == have } else { true }
 }
 
-// Without branches: each row of a search takes the same way.
 pub(crate) fn fields_match(mask: u8, want: Fields, have: Fields) -> bool
     ensures { λ r. ⌜ r ≡ matches mask want have ⌝ }
 {
@@ -80,7 +78,11 @@ pub(crate) fn fields_match(mask: u8, want: Fields, have: Fields) -> bool
     let b = field_agrees(mask, 1, want.side, have.side);
     let c = field_agrees(mask, 2, want.image, have.image);
     let d = field_agrees(mask, 3, want.place, have.place);
-    a & b & c & d
+    if a {
+        if b { if c { d } else { false } } else { false }
+    } else {
+        false
+    }
 }
 
 // Whether no live transaction but the one at place p holds a read: no bit is 1, or one, at p.
