@@ -1,24 +1,20 @@
 -- The four look-ups together: what a look-up frame that is not refused is answered.
 use Prim.Native.Nat.{ℕ, _≤_}
-use mathlib.Core.Bool.{true, false, cond}
-use mathlib.Core.Logic.{_⊎_, inl, inr}
+use mathlib.Core.Bool.{true, false}
 use mathlib.Core.Path.{_≡_, ap, _∙_}
-use mathlib.Core.List.{List, [], _∷_, map}
+use mathlib.Core.List.{List, []}
 use native.Mathlib.Omega.{arith}
 use borrow.Author.Tests.{leb-true, ne-eqb}
 use lib.Dec.{leb}
-use Rattle.rules.specs.declared.Record.{Record}
-use Rattle.rules.specs.declared.LookUp.{LookUp}
-use Rattle.rules.specs.Records.{found, nothing, waiting}
 use Rattle.rules.specs.State.{Model}
-use Rattle.rules.specs.Holds.{available, someAvailable}
+use Rattle.rules.specs.Holds.{available}
 use Rattle.rules.specs.Frame.{Frame, decode, isLookUp, isWrite}
-use Rattle.rules.specs.LookUp.{lookUpOf, givesNothing, answerFound, answerNothing, answerWaiting, answer, lookUp}
+use Rattle.rules.specs.LookUp.{lookUpOf, answerFound, answerNothing, answerWaiting, answer, lookUp}
 use Rattle.rules.specs.Refusals.{refusal}
 use Rattle.rules.specs.Step.{step, accepted, carriedOut}
 use Rattle.demands.specs.Answers.{AnsweredNow}
 use Rattle.rules.proofs.ListLaws.{any-filter, any-pick}
-use Rattle.rules.proofs.StepCases.{and-left, bool-cases}
+use Rattle.rules.proofs.StepCases.{and-left}
 
 not-write : (op : ℕ) → isLookUp op ≡ true → isWrite op ≡ false
 not-write op e = ne-eqb op 1 (λ q. let h : 2 ≤ op = leb-true 2 op (and-left (leb 2 op) (leb op 5) e) in omega arith)
@@ -53,26 +49,3 @@ pub answered-now : (choice : ℕ → ℕ) (m : Model) (bs : List ℕ) (area : �
     → AnsweredNow m (lookUpOf m (decode bs)) (decode bs .leaseOrTimeout) (step choice m bs area .records) (step choice m bs area .model)
 unfolding accepted
 answered-now choice m bs area n l = rw (step-lookUp choice m bs area n l) (look-up-answered choice m (decode bs))
-
--- the kind of its record, for all four together: 2 found, 3 nothing, 4 waiting
-abbrev pub kindsOf : List Record → List ℕ
-kindsOf rs = map (λ r. r .kind) rs
-
-pub look-up-kind : (choice : ℕ → ℕ) (m : Model) (bs : List ℕ) (area : ℕ) → refusal m bs area ≡ 0 → isLookUp (decode bs .op) ≡ true
-    → kindsOf (step choice m bs area .records)
-    ≡ cond (someAvailable (m .txns) (lookUpOf m (decode bs)) (m .entries)) 2 (cond (givesNothing m (lookUpOf m (decode bs)) (decode bs .leaseOrTimeout)) 3 4) ∷ []
-unfolding found nothing waiting
-look-up-kind choice m bs area n l = go (bool-cases _) (bool-cases _)
-  where
-    w : LookUp
-    w = lookUpOf m (decode bs)
-
-    a : AnsweredNow m w (decode bs .leaseOrTimeout) (step choice m bs area .records) (step choice m bs area .model)
-    a = answered-now choice m bs area n l
-
-    go : (someAvailable (m .txns) w (m .entries) ≡ true) ⊎ (someAvailable (m .txns) w (m .entries) ≡ false)
-        → (givesNothing m w (decode bs .leaseOrTimeout) ≡ true) ⊎ (givesNothing m w (decode bs .leaseOrTimeout) ≡ false)
-        → kindsOf (step choice m bs area .records) ≡ cond (someAvailable (m .txns) w (m .entries)) 2 (cond (givesNothing m w (decode bs .leaseOrTimeout)) 3 4) ∷ []
-    go (inl t) g = let r = a .found-case t in rw (r .2, t)
-    go (inr t) (inl g) = rw (a .nothing-case t g, t, g)
-    go (inr t) (inr g) = rw (a .waiting-case t g .0, t, g)
