@@ -30,8 +30,8 @@ use Rattle.demands.specs.Bounds.{ByNumber}
 use Rattle.demands.specs.Answers.{ofParty, asked}
 use Rattle.demands.specs.Book.{LiveTold, Book, newBook, names, enters, entersAll, withAsked, arrives, keepBook}
 use Rattle.demands.specs.Book.{bookOf, Booked}
-use Rattle.demands.specs.Moments.{Out, here, there, Event, writes, is-found, is-nothing, is-waiting, creates}
-use Rattle.demands.specs.Moments.{commits, aborts, ticks, excepts, Moments, expires, says, over}
+use Rattle.demands.proofs.Moments.{Out, here, there, Event, writes, is-found, is-nothing, is-waiting, creates}
+use Rattle.demands.proofs.Moments.{commits, aborts, ticks, excepts, Moments, expires, says, over}
 use Rattle.rules.proofs.ListLaws.{count, count-cons, length-filter, filter-all, mem-filter, any-filter, all-false}
 use Rattle.rules.proofs.StepCases.{cond-cases, step-cases}
 use Rattle.rules.proofs.RefusalLaws.{Clear, clear}
@@ -64,7 +64,7 @@ one-passes {A} p (there {y} {xs} {ys} o) t h = go (p y) refl (one-passes p o t (
     go true e r = absurd (let n : count p (y ∷ xs) ≡ 1 + count p xs = count-cons p y xs ∙ ap (λ b. cond b 1 0 + count p xs) e in let q = r .1 in omega arith)
     go false e r = (ap {B = List A} (λ l. y ∷ l) (r .0), r .1)
 
-filter-map : {A B : Type 0} (p : B → Bool) (g : A → B) (xs : List A) → filterb p (map g xs) ≡ map g (filterb (λ x. p (g x)) xs)
+pub filter-map : {A B : Type 0} (p : B → Bool) (g : A → B) (xs : List A) → filterb p (map g xs) ≡ map g (filterb (λ x. p (g x)) xs)
 filter-map p g [] = refl
 filter-map {A} {B} p g (x ∷ xs) = go (p (g x)) (filter-map p g xs)
   where

@@ -30,14 +30,14 @@ use Rattle.demands.specs.Bounds.{ReadByLive, OwnTakeHold}
 use Rattle.demands.proofs.Runs.{Input, made}
 use Rattle.demands.proofs.Trace.{Silent, expires, leaves, Event, writes, finds, gives-nothing, waits, creates}
 use Rattle.demands.proofs.Trace.{commits, aborts, excepts, ticks}
-use Rattle.demands.proofs.Sound.{Sound, sound, made-has, available-visible, available-unread, visible-free}
+use Rattle.demands.proofs.Sound.{TxnsOk, Sound, sound, made-has, available-visible, available-unread, visible-free}
 use Rattle.demands.proofs.HandOut.{after-cases}
 use Rattle.demands.proofs.Finding.{mk-plain, mk-take-readers, mk-read-taker}
 use Rattle.demands.proofs.ReadersLive.{ReadersLive, live-is, missing, drop-live, readers-live}
 
 -- ---- "no live transaction other than its own holds a read on it"
 
-module _ (m : Model) (s : Sound m) (live : ReadersLive (m .entries) (m .txns)) (e : Entry) (t : ℕ) (i : List·Memᴰ e (m .entries)) where
+module _ (m : Model) {n : ℕ} (s : TxnsOk n (m .txns)) (live : ReadersLive (m .entries) (m .txns)) (e : Entry) (t : ℕ) (i : List·Memᴰ e (m .entries)) where
   others : Txn → Bool
   others x = not (eqb (x .id .0) t) && bit (x .slot) (e .readers)
 
@@ -50,7 +50,7 @@ module _ (m : Model) (s : Sound m) (live : ReadersLive (m .entries) (m .txns)) (
       own x j a b none r = absurd (eqb-false (x .id .0) t (missing m t x j r) b)
       own x j a b (some y) r =
           let l = live-is t (m .txns) y r in
-          ap (λ k. bit k (dropReaderOf (some y) (e .readers))) (sym a ∙ ap (λ (z : Txn). z .slot) (s .txns-ok .unique x y j (l .0) (b ∙ sym (l .1)))) ∙ dropped (y .slot) (e .readers)
+          ap (λ k. bit k (dropReaderOf (some y) (e .readers))) (sym a ∙ ap (λ (z : Txn). z .slot) (s .unique x y j (l .0) (b ∙ sym (l .1)))) ∙ dropped (y .slot) (e .readers)
 
       go : (bit p (dropReaderOf o (e .readers)) ≡ true) ⊎ (bit p (dropReaderOf o (e .readers)) ≡ false) → bit p (dropReaderOf o (e .readers)) ≡ false
       go (inr z) = z
@@ -60,7 +60,7 @@ module _ (m : Model) (s : Sound m) (live : ReadersLive (m .entries) (m .txns)) (
           ⊎-elim (λ r. own (x .0) (x .1) (x .2) (eqb-true (x .0 .id .0) t r) o q)
           (λ r. absurd (true≢false (sym (ap₂ (λ a c. not a && c) r (ap (λ k. bit k (e .readers)) (x .2) ∙ b)) ∙ none-mem others h (x .1)))) (bool-cases (eqb (x .0 .id .0) t))
 
-  read-by-live : (readByOther (m .txns) t e ≡ true) ↔ ((x : Txn) × List·Memᴰ x (m .txns) × (x .id .0 ≡ t → ⊥) × (bit (x .slot) (e .readers) ≡ true))
+  pub read-by-live : (readByOther (m .txns) t e ≡ true) ↔ ((x : Txn) × List·Memᴰ x (m .txns) × (x .id .0 ≡ t → ⊥) × (bit (x .slot) (e .readers) ≡ true))
   unfolding readByOther others
   read-by-live = (forth, back)
     where
@@ -91,11 +91,11 @@ module _ (m : Model) (s : Sound m) (live : ReadersLive (m .entries) (m .txns)) (
           stays (some y) q =
               let l = live-is t (m .txns) y q in
               dropped-other (x .0 .slot) (y .slot) (e .readers)
-              (λ r. x .2 (ap (λ (z : Txn). z .id .0) (s .txns-ok .slot (x .0) y (x .1) (l .0) r) ∙ l .1))
+              (λ r. x .2 (ap (λ (z : Txn). z .id .0) (s .slot (x .0) y (x .1) (l .0) r) ∙ l .1))
               ∙ x .3
 
 pub readers-are-live : (is : List Input) → ReadByLive (made is)
-readers-are-live is e t i = read-by-live (made is) (sound is) (readers-live is) e t i
+readers-are-live is e t i = read-by-live (made is) (sound is .txns-ok) (readers-live is) e t i
 
 -- ---- what is taken nobody reads
 

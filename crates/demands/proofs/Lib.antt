@@ -23,7 +23,10 @@ pub mod LookUpLaws
 pub mod WaitingStep
 pub mod InTime
 pub mod NothingLeft
+pub mod Moments
 pub mod Momentary
+pub mod Saying
+pub mod Alike
 pub mod Booking
 pub mod Tied
 pub mod Telling
@@ -44,4 +47,5 @@ pub mod Ranges
 pub mod Computed
 pub mod Course
 pub mod Theorems
+pub mod Determining
 pub mod RuledOut

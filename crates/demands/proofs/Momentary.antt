@@ -9,7 +9,6 @@ use mathlib.Core.List.{Memᴰ·append-right, Memᴰ·map}
 use native.Mathlib.Omega.{arith}
 use borrow.Author.Tests.{eqb-true, eqb-false, ne-eqb, le-leb, not-true, not-false}
 use lib.Dec.{eqb}
-use Rattle.rules.specs.Refusals.{refusal}
 use Rattle.rules.specs.declared.Entry.{Entry}
 use Rattle.rules.specs.declared.Record.{Record}
 use Rattle.rules.specs.declared.Txn.{Txn}
@@ -20,26 +19,25 @@ use Rattle.rules.specs.Time.{until, reached}
 use Rattle.rules.specs.Numbers.{forever}
 use Rattle.rules.specs.State.{Model, withEntries, withWaits, withClock}
 use Rattle.rules.specs.Holds.{availableTo, someAvailable, someConflicts}
-use Rattle.rules.specs.Frame.{Frame, decode, isLookUp}
+use Rattle.rules.specs.Frame.{Frame, isLookUp}
 use Rattle.rules.specs.Records.{exception, nothing}
 use Rattle.rules.specs.LookUp.{Done, lookUpOf, givesNothing, answer, answerFound, answerNothing, answerWaiting, lookUp}
 use Rattle.rules.specs.Transactions.{create, withoutTxn, commit, abort}
 use Rattle.rules.specs.Service.{serve, service}
 use Rattle.rules.specs.Tick.{endedTxns, abortAll, dropEnded, closeWaits, tick}
-use Rattle.rules.specs.Step.{step, Outcome, stored, write, commitFrame, abortFrame, carriedOut, accepted}
-use Rattle.demands.proofs.Runs.{made, Input}
+use Rattle.rules.specs.Step.{stored, write, commitFrame, abortFrame, carriedOut}
 use Rattle.demands.specs.Bounds.{Ascending, ByNumber}
-use Rattle.demands.specs.Moments.{Out, here, there, writes, is-found, is-nothing, is-waiting, creates, commits}
-use Rattle.demands.specs.Moments.{aborts, ticks, excepts, Moments, expires, says, over}
+use Rattle.demands.proofs.Moments.{Out, here, there, writes, is-found, is-nothing, is-waiting, creates, commits}
+use Rattle.demands.proofs.Moments.{aborts, ticks, excepts, Moments, expires, says, over}
 use Rattle.demands.specs.Answers.{asked}
 use Rattle.rules.proofs.ListLaws.{mem-filter, filter-mem}
-use Rattle.demands.proofs.Numbers.{ascend-filter, numbers-ascend}
+use Rattle.demands.proofs.Numbers.{ascend-filter}
 use Rattle.rules.proofs.StepCases.{cond-cases, done-cases, serve-ind, or-cases, or-left, or-right, and-left, and-right}
 use Rattle.rules.proofs.StepCases.{and-false-right}
 use Rattle.demands.proofs.Deadlines.{until-later}
 use Rattle.demands.proofs.Unavailable.{pick-nothing, serve-settled}
 use Rattle.demands.proofs.Trace.{picked}
-use Rattle.demands.proofs.LookUpLaws.{step-accepted, carriedOut-lookUp}
+use Rattle.demands.proofs.LookUpLaws.{carriedOut-lookUp}
 
 join : {f : Frame} {m n o : Model} {rs qs : List Record} → Moments f m rs n → Moments f n qs o → Moments f m (rs ++ qs) o
 join (over m) u = u
@@ -169,11 +167,3 @@ carried-moments choice m f b =
     (λ t. says (commits m t) (service-moments f choice (commit (f .txn) m)))
     (λ t. says (aborts m t) (service-moments f choice (abort (f .txn) m)))
     (tick-moments f choice m b))
-
--- every record of a step that is not refused is written at a moment that allows it
-pub step-moments : (choice : ℕ → ℕ) (m : Model) (bs : List ℕ) (area : ℕ) → ByNumber m → refusal m bs area ≡ 0
-    → Moments (decode bs) (asked m (decode bs)) (step choice m bs area .records) (step choice m bs area .model)
-unfolding accepted
-step-moments choice m bs area b n =
-    subst⁻¹ (λ (o : Outcome). Moments (decode bs) (asked m (decode bs)) (o .records) (o .model)) (step-accepted choice m bs area n)
-    (carried-moments choice m (decode bs) b)

@@ -32,8 +32,8 @@ use Rattle.demands.proofs.Runs.{Input, runs}
 use Rattle.demands.specs.Bounds.{ByNumber, InRange, AllInRange, AreBytes}
 use Rattle.demands.specs.History.{recordsOf}
 use Rattle.demands.proofs.Runs.{answersTo}
-use Rattle.demands.specs.Moments.{Out, here, there, Event, writes, is-found, is-nothing, is-waiting, creates}
-use Rattle.demands.specs.Moments.{commits, aborts, ticks, excepts, Moments, expires, says, over}
+use Rattle.demands.proofs.Moments.{Out, here, there, Event, writes, is-found, is-nothing, is-waiting, creates}
+use Rattle.demands.proofs.Moments.{commits, aborts, ticks, excepts, Moments, expires, says, over}
 use Rattle.rules.proofs.ListLaws.{mem-filter}
 use Rattle.rules.proofs.StepCases.{cond-cases, done-cases, or-left, or-right, and-false-right}
 use Rattle.rules.proofs.RefusalLaws.{clear}

@@ -27,7 +27,7 @@ use Rattle.rules.proofs.StepCases.{bool-cases, cond-cases}
 use Rattle.rules.proofs.ReaderLaws.{added-other, dropped, dropped-other, bit-of-zero}
 use Rattle.demands.proofs.Trace.{Silent, expires, leaves, Event, writes, finds, gives-nothing, waits, creates}
 use Rattle.demands.proofs.Trace.{commits, aborts, excepts, ticks}
-use Rattle.demands.proofs.Sound.{Sound, step-keeps, made-has}
+use Rattle.demands.proofs.Sound.{TxnsOk, Sound, step-keeps, made-has}
 use Rattle.demands.proofs.HandOut.{after-cases}
 use Rattle.demands.proofs.Finding.{mk-plain, mk-read-readers, mk-take-readers}
 
@@ -53,7 +53,7 @@ drop-live n p none h = h
 drop-live n p (some y) h =
     ⊎-elim (λ e. absurd (true≢false (sym h ∙ ap (λ k. bit k (dropReaderOf (some y) n)) (eqb-true p (y .slot) e) ∙ dropped (y .slot) n))) (λ e. sym (dropped-other p (y .slot) n (eqb-false p (y .slot) e)) ∙ h) (bool-cases (eqb p (y .slot)))
 
-marked-live : (ts : List Txn) (w : LookUp) (e : Entry) → ((p : ℕ) → bit p (e .readers) ≡ true → At p ts) → (p : ℕ) → bit p (marked ts w e .readers) ≡ true → At p ts
+pub marked-live : (ts : List Txn) (w : LookUp) (e : Entry) → ((p : ℕ) → bit p (e .readers) ≡ true → At p ts) → (p : ℕ) → bit p (marked ts w e .readers) ≡ true → At p ts
 marked-live ts w e h p q = go (bool-cases (eqb (e .«private_to» .0) (w .txn .0))) (bool-cases (w .takes))
   where
     go : (eqb (e .«private_to» .0) (w .txn .0) ≡ true) ⊎ (eqb (e .«private_to» .0) (w .txn .0) ≡ false) → (w .takes ≡ true) ⊎ (w .takes ≡ false) → At p ts
@@ -67,7 +67,7 @@ unfolding liveTxn
 missing m t x j r = find-none (λ (z : Txn). eqb (z .id .0) t) r j
 
 -- a transaction that ends drops its bit
-released-live : (m : Model) → Sound m → (t : ℕ) (k : Entry → Bool) → ReadersLive (m .entries) (m .txns)
+pub released-live : (m : Model) {n : ℕ} → TxnsOk n (m .txns) → (t : ℕ) (k : Entry → Bool) → ReadersLive (m .entries) (m .txns)
     → ReadersLive (map (released (m .txns) t) (filterb k (m .entries))) (withoutTxn t (m .txns))
 unfolding released withoutTxn
 released-live m s t k h f i p q = go (Memᴰ·of-map (released (m .txns) t) (filterb k (m .entries)) i)
@@ -76,7 +76,7 @@ released-live m s t k h f i p q = go (Memᴰ·of-map (released (m .txns) t) (fil
     gone n x j a b none r u = eqb-false (x .id .0) t (missing m t x j r) b
     gone n x j a b (some y) r u =
         let l = live-is t (m .txns) y r in
-        true≢false (sym u ∙ ap (λ c. bit c (dropReaderOf (some y) n)) (sym a ∙ ap (λ (z : Txn). z .slot) (s .txns-ok .unique x y j (l .0) (b ∙ sym (l .1)))) ∙ dropped (y .slot) n)
+        true≢false (sym u ∙ ap (λ c. bit c (dropReaderOf (some y) n)) (sym a ∙ ap (λ (z : Txn). z .slot) (s .unique x y j (l .0) (b ∙ sym (l .1)))) ∙ dropped (y .slot) n)
 
     go : ((e : Entry) × List·Memᴰ e (filterb k (m .entries)) × (released (m .txns) t e ≡ f)) → At p (filterb (λ x. not (eqb (x .id .0) t)) (m .txns))
     go r =
@@ -92,7 +92,7 @@ unfolding dropEnded
 live-silent (expires m) h = λ e i. h e (mem-filter _ (m .entries) i .0)
 live-silent (leaves m ws k) h = h
 
-stored-live : (m : Model) (f : Frame) → LiveIn m → LiveIn (stored m f)
+pub stored-live : (m : Model) (f : Frame) → LiveIn m → LiveIn (stored m f)
 unfolding stored newEntry
 stored-live m f h =
     cond-cases (λ (l : List Entry). ReadersLive l (m .txns)) (eqb (f .leaseOrTimeout) 0) (λ q. h)
@@ -107,9 +107,9 @@ live-event {f} (finds m w e k i av) s h =
 live-event {f} (gives-nothing m w) s h = h
 live-event {f} (waits m w k free) s h = h
 live-event {f} (creates m l) s h = λ e i p q. let x = h e i p q in (x .0, Memᴰ·append-left _ (x .1), x .2)
-live-event {f} (commits m l) s h = released-live m s (f .txn) _ h
-live-event {f} (aborts m l) s h = released-live m s (f .txn) _ h
-live-event {f} (excepts m t z) s h = released-live m s (t .id .0) _ h
+live-event {f} (commits m l) s h = released-live m (s .txns-ok) (f .txn) _ h
+live-event {f} (aborts m l) s h = released-live m (s .txns-ok) (f .txn) _ h
+live-event {f} (excepts m t z) s h = released-live m (s .txns-ok) (t .id .0) _ h
 live-event {f} (ticks m) s h = h
 
 pub live-step : (i : Input) (m : Model) → Sound m × LiveIn m → Sound (step (i .choice) m (i .frame) (i .area) .model) × LiveIn (step (i .choice) m (i .frame) (i .area) .model)

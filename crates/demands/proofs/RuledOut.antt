@@ -12,7 +12,7 @@ use Rattle.rules.specs.State.{Model, empty}
 use Rattle.rules.specs.Frame.{decode, isLookUp}
 use Rattle.rules.specs.LookUp.{lookUpOf}
 use Rattle.rules.specs.Refusals.{refusal}
-use Rattle.rules.specs.Step.{step}
+use Rattle.rules.specs.Step.{step, carriedOut}
 use Rattle.rules.specs.Allowed.{Answered}
 use Rattle.demands.specs.Machine.{Handed, Machine, Stepper, Stepped, answeredBy, spaceOf}
 use Rattle.demands.specs.History.{Logged, logged, History, begun, handed, Made}
@@ -25,7 +25,9 @@ use Rattle.demands.specs.Frames.{F, E, write-by, read-by, take-by, creat
 use Rattle.demands.specs.Answers.{AnsweredNow, asked}
 use Rattle.demands.specs.Wrong.{saysNothing, saysWaiting, refusesAll, sameRecord, storesNothing, firstFrameOnly}
 use Rattle.demands.specs.Wrong.{oneMore, inventedCount, losesCommit, putsBackLate, ownReadBars, nothingFirst}
-use Rattle.demands.specs.Wrong.{showsPrivate, RuledOut}
+use Rattle.demands.specs.Wrong.{showsPrivate, ignoresWrites, writesTwice, ticksAtWrites, neverExpires}
+use Rattle.demands.specs.Wrong.{lastExceptionFirst, lastServedFirst, servesEnded, RuledOut}
+use Rattle.demands.proofs.Saying.{said-given}
 use Rattle.demands.proofs.Computed.{all-rules}
 
 -- the frames of a history are handed in with areas of 700 bytes, and the first choice is made
@@ -180,6 +182,69 @@ shows-private d =
     let fs = take-by 2 0 9 7 ∷ create-by 1 9 ∷ write-by 1 1 9 E ∷ [] in
     true≢false (sym (d (logOf showsPrivate empty fs) (lastOf showsPrivate empty fs) (from-empty showsPrivate fs) .succeeds))
 
+-- what any other frame after some frames says, the rules say with some choice
+module _ (does : Stepper) (d : Demand2 (spaceOf does)) (fs : List (List ℕ)) (f : List ℕ) where
+  said-of : refusal (lastOf does empty fs) f 700 ≡ 0 → isLookUp (decode f .op) ≡ false
+      → (c : ℕ → ℕ) × (carriedOut c (lastOf does empty fs) (decode f) .records ≡ does choice (lastOf does empty fs) f 700 .records)
+  unfolding answeredBy
+  said-of n l =
+      said-given (decode f) (lastOf does empty fs) (d .one-each (logOf does empty fs) (lastOf does empty fs) (from-empty does fs))
+      (d .said (logOf does empty fs) (lastOf does empty fs) (does choice (lastOf does empty fs) f 700 .model) (handIn f) (answerTo does (lastOf does empty fs) f) (from-empty does fs) (one-step does (lastOf does empty fs) f) n l)
+
+ignores-writes : Demand2 (spaceOf ignoresWrites) → ⊥
+unfolding all-rules lastOf logOf ignoresWrites
+ignores-writes d =
+    let q : _≡_ {A = ℕ} 1 0 = ap length (said-of ignoresWrites d [] (write-by 1 0 9 E) refl refl .1) in
+    omega arith
+
+writes-twice : Demand2 (spaceOf writesTwice) → ⊥
+unfolding all-rules lastOf logOf writesTwice
+writes-twice d =
+    let q : _≡_ {A = ℕ} 1 2 = ap length (said-of writesTwice d [] (write-by 1 0 9 E) refl refl .1) in
+    omega arith
+
+ticks-at-writes : Demand2 (spaceOf ticksAtWrites) → ⊥
+unfolding all-rules lastOf logOf ticksAtWrites
+ticks-at-writes d =
+    let q : _≡_ {A = ℕ} 1 2 = ap length (said-of ticksAtWrites d [] (write-by 1 0 9 E) refl refl .1) in
+    omega arith
+
+-- the transaction's exception is missing
+never-expires : Demand2 (spaceOf neverExpires) → ⊥
+unfolding all-rules lastOf logOf neverExpires
+never-expires d =
+    let q : _≡_ {A = ℕ} 2 1 = ap length (said-of neverExpires d (create-by 1 1 ∷ []) a-tick refl refl .1) in
+    omega arith
+
+-- the party of the second record
+secondParty : List Record → ℕ
+secondParty [] = 0
+secondParty (r ∷ rs) = headParty rs
+  where
+    headParty : List Record → ℕ
+    headParty [] = 0
+    headParty (q ∷ qs) = q .party
+
+last-exception-first : Demand2 (spaceOf lastExceptionFirst) → ⊥
+unfolding all-rules lastOf logOf lastExceptionFirst secondParty
+last-exception-first d =
+    let q : _≡_ {A = ℕ} 1 2 = ap secondParty (said-of lastExceptionFirst d (create-by 1 1 ∷ create-by 2 1 ∷ []) a-tick refl refl .1) in
+    omega arith
+
+last-served-first : Demand2 (spaceOf lastServedFirst) → ⊥
+unfolding all-rules lastOf logOf lastServedFirst secondParty
+last-served-first d =
+    let q : _≡_ {A = ℕ} 2 3 = ap secondParty (said-of lastServedFirst d (take-by 2 0 9 7 ∷ take-by 3 0 9 7 ∷ []) (write-by 1 0 9 E) refl refl .1) in
+    omega arith
+
+-- E is given back in the tick of its end, and found
+serves-ended : Demand2 (spaceOf servesEnded) → ⊥
+unfolding all-rules lastOf logOf servesEnded
+serves-ended d =
+    let fs = write-by 1 0 1 E ∷ create-by 1 1 ∷ take-by 1 1 0 7 ∷ take-by 2 0 9 7 ∷ [] in
+    let q : _≡_ {A = ℕ} 2 3 = ap length (said-of servesEnded d fs a-tick refl refl .1) in
+    omega arith
+
 pub ruled-out : RuledOut
 ruled-out =
     record {
@@ -195,4 +260,11 @@ ruled-out =
       own-read-bars = own-read-bars;
       nothing-first = nothing-first;
       shows-private = shows-private;
+      ignores-writes = ignores-writes;
+      writes-twice = writes-twice;
+      ticks-at-writes = ticks-at-writes;
+      never-expires = never-expires;
+      last-exception-first = last-exception-first;
+      last-served-first = last-served-first;
+      serves-ended = serves-ended;
     }

@@ -163,26 +163,26 @@ released-ok n ts t es h = entries-map n (released ts t) es (λ e i. (refl, ⊎-e
     private e p =
         inr (cond-cases (λ (o : TxnId). o .0 ≡ 0) (takenBy t e) (λ q. refl) (λ q. p .0), ap (dropReaderOf (liveTxn t ts)) (p .1) ∙ undrop (liveTxn t ts))
 
--- eight places that are all in use are of eight transactions at least
-cover : (ps : List ℕ) (ts : List Txn) → distinct ps ≡ true → ((p : ℕ) → List·Memᴰ p ps → anyb (λ (t : Txn). eqb (t .slot) p) ts ≡ true)
-    → length ps ≤ length ts
+-- numbers that are all in use are of as many elements at least
+pub cover : {A : Type 0} (number : A → ℕ) (ps : List ℕ) (xs : List A) → distinct ps ≡ true
+    → ((p : ℕ) → List·Memᴰ p ps → anyb (λ x. eqb (number x) p) xs ≡ true) → length ps ≤ length xs
 unfolding distinct
-cover [] ts d h = zero-le
-cover (p ∷ ps) ts d h =
-    let other : Txn → Bool = λ t. not (eqb (t .slot) p) in
-    let rest = cover ps (filterb other ts) (and-right (not (anyb (eqb p) ps)) (distinct ps) d) (λ q i. again q i (any-mem _ ts (h q (List·Memᴰ·tail i)))) in
-    let r = any-mem _ ts (h p (List·Memᴰ·head refl)) in
-    let one = count-mem (λ (t : Txn). eqb (t .slot) p) (r .1) (r .2) in
-    omega (arith, length-split (λ (t : Txn). eqb (t .slot) p) ts)
+cover number [] xs d h = zero-le
+cover {A} number (p ∷ ps) xs d h =
+    let other : A → Bool = λ x. not (eqb (number x) p) in
+    let rest = cover number ps (filterb other xs) (and-right (not (anyb (eqb p) ps)) (distinct ps) d) (λ q i. again q i (any-mem _ xs (h q (List·Memᴰ·tail i)))) in
+    let r = any-mem _ xs (h p (List·Memᴰ·head refl)) in
+    let one = count-mem (λ x. eqb (number x) p) (r .1) (r .2) in
+    omega (arith, length-split (λ x. eqb (number x) p) xs)
   where
     apart : (q : ℕ) → List·Memᴰ q ps → q ≡ p → ⊥
     apart q i e = eqb-false p q (none-mem (eqb p) (not-true _ (and-left (not (anyb (eqb p) ps)) (distinct ps) d)) i) (sym e)
 
-    again : (q : ℕ) → List·Memᴰ q ps → ((t : Txn) × List·Memᴰ t ts × (eqb (t .slot) q ≡ true))
-        → anyb (λ (t : Txn). eqb (t .slot) q) (filterb (λ (t : Txn). not (eqb (t .slot) p)) ts) ≡ true
+    again : (q : ℕ) → List·Memᴰ q ps → ((x : A) × List·Memᴰ x xs × (eqb (number x) q ≡ true))
+        → anyb (λ x. eqb (number x) q) (filterb (λ x. not (eqb (number x) p)) xs) ≡ true
     again q i r =
-        let e = eqb-true (r .0 .slot) q (r .2) in
-        mem-any (λ (t : Txn). eqb (t .slot) q) (filter-mem (λ (t : Txn). not (eqb (t .slot) p)) (r .1) (ap not (ne-eqb (r .0 .slot) p (λ z. apart q i (sym e ∙ z))))) (r .2)
+        let e = eqb-true (number (r .0)) q (r .2) in
+        mem-any (λ x. eqb (number x) q) (filter-mem (λ x. not (eqb (number x) p)) (r .1) (ap not (ne-eqb (number (r .0)) p (λ z. apart q i (sym e ∙ z))))) (r .2)
 
 eight : List ℕ
 eight = 0 ∷ 1 ∷ 2 ∷ 3 ∷ 4 ∷ 5 ∷ 6 ∷ 7 ∷ []
@@ -196,7 +196,7 @@ slot-free ts h t i = go (option-cases (findb used eight))
 
     go : (findb used eight ≡ none) ⊎ ((p : ℕ) × (findb used eight ≡ some p)) → t .slot ≡ orZero (findb used eight) → ⊥
     go (inl e) q =
-        let l : 8 ≤ length ts = cover eight ts refl (λ p j. not-false _ (find-none used e j)) in
+        let l : 8 ≤ length ts = cover (λ (x : Txn). x .slot) eight ts refl (λ p j. not-false _ (find-none used e j)) in
         omega arith
     go (inr r) q =
         let f : anyb (λ (x : Txn). eqb (x .slot) (r .0)) ts ≡ false = not-true _ (find-some used eight (r .1) .1) in

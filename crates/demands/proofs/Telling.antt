@@ -32,6 +32,7 @@ use Rattle.demands.proofs.SerialOps.{takesIt, after-split, survives, me
 use Rattle.demands.proofs.SerialOps.{total-carryOutAll}
 use Rattle.demands.proofs.Agreement.{Holds, takes-number}
 use Rattle.demands.proofs.Simulation.{listed, pendingAdds}
+use Rattle.demands.proofs.Numbers.{numbers-ascend, ascending-distinct}
 use Rattle.demands.proofs.Tied.{Ok, Whole, whole}
 
 reads-mentions : (n : ℕ) (o : Operation) → readsNumber n o ≡ true → mentionsIt n o ≡ true
@@ -301,4 +302,4 @@ told-demand is =
     let m = runs empty is .model in
     let r = followLog (runs empty is .log) start in
     let h = whole is in
-    record { stored-told = stored-told m r h (lasting is); told-stored = told-stored m r h (lasting is); holders-live = λ e p i b. h .readers e i p b }
+    record { stored-told = stored-told m r h (lasting is); told-stored = told-stored m r h (lasting is); holders-live = λ e p i b. h .readers e i p b; once = ascending-distinct _ (numbers-ascend is .entries); own-slot = sound m r h .txns-ok .slot }

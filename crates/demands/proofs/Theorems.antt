@@ -24,7 +24,7 @@ use Rattle.demands.specs.Machine.{Handed, Machine, theSpace, theRules}
 use Rattle.demands.specs.History.{Logged, recordsOf, History, Made}
 use Rattle.demands.specs.Judged.{Judged}
 use Rattle.demands.specs.Answers.{AnsweredNow, asked, NothingLeft, Settled, OneEach, isTicked, closes}
-use Rattle.demands.specs.Moments.{Moments}
+use Rattle.demands.specs.Said.{Said}
 use Rattle.demands.specs.Book.{bookOf, Booked}
 use Rattle.demands.specs.Told.{Explained}
 use Rattle.demands.specs.SerialRun.{serialRun, Serial}
@@ -40,7 +40,7 @@ use Rattle.demands.proofs.Judging.{refusal-fits, number-is, one-is, ref
 use Rattle.rules.proofs.AreaLaws.{area-front, area-rest}
 use Rattle.demands.proofs.LookUpLaws.{answered-now}
 use Rattle.demands.proofs.Numbers.{numbers-ascend}
-use Rattle.demands.proofs.Momentary.{step-moments}
+use Rattle.demands.proofs.Saying.{step-said}
 use Rattle.demands.proofs.Settling.{Stable, stable}
 use Rattle.demands.proofs.Deadlines.{OpenIn, deadlines-above}
 use Rattle.demands.proofs.InTime.{one-each, in-time, answersTo-cons}
@@ -149,10 +149,9 @@ module _ (S : Machine) (f : Follows S) where
         now = λ log t u h a r p n l.
             let q = f .steps t h u a p in
             of-step (λ rs m. AnsweredNow (S .view t) (lookUpOf (S .view t) (decode (h .frame))) (decode (h .frame) .leaseOrTimeout) rs m) q (answered-now (q .choice) (S .view t) (h .frame) (length (h .area)) n l);
-        moments = λ log t u h a r p n.
+        said = λ log t u h a r p n l.
             let q = f .steps t h u a p in
-            of-step (λ rs m. Moments (decode (h .frame)) (asked (S .view t) (decode (h .frame))) rs m) q
-            (step-moments (q .choice) (S .view t) (h .frame) (length (h .area)) (of-made ByNumber numbers-ascend r) n);
+            of-step (λ rs m. Said (decode (h .frame)) (S .view t) rs) q (step-said (q .choice) (S .view t) (h .frame) (length (h .area)) n l);
         nothing-left = λ log t u h a r p n.
             let q = f .steps t h u a p in
             of-step (λ rs m. NothingLeft (asked (S .view t) (decode (h .frame))) rs m) q

@@ -18,7 +18,7 @@ use Rattle.demands.specs.Machine.{Handed, Machine}
 use Rattle.demands.specs.History.{Logged, recordsOf, History, Made}
 use Rattle.demands.specs.Judged.{Judged}
 use Rattle.demands.specs.Answers.{AnsweredNow, asked, NothingLeft, Settled, OneEach, isTicked, closes}
-use Rattle.demands.specs.Moments.{Moments}
+use Rattle.demands.specs.Said.{Said}
 use Rattle.demands.specs.Book.{bookOf, Booked}
 use Rattle.demands.specs.Told.{Explained}
 use Rattle.demands.specs.SerialRun.{serialRun, Serial}
@@ -49,10 +49,11 @@ pub record Demand2 (S : Machine) : Type 0 where
   -- a look-up that is not refused is answered rightly at once: one statement for the four kinds
   pub now : EveryStep S (λ t h u a. CarriedOut S t h → isLookUp (frameIn h .op) ≡ true
       → AnsweredNow (S .view t) (lookUpOf (S .view t) (frameIn h)) (frameIn h .leaseOrTimeout) (a .records) (S .view u))
-  -- every record of a step that is carried out is written at a moment that allows it
-  pub moments : EveryStep S (λ t h u a. CarriedOut S t h
-      → Moments (frameIn h) (asked (S .view t) (frameIn h)) (a .records) (S .view u))
-  -- and what is given nothing has no available entry when the step is over
+  -- any other frame that is carried out says what document 01 says, record by record: its own record first, then
+  -- exceptions, founds in the order served, nothings
+  pub said : EveryStep S (λ t h u a. CarriedOut S t h → isLookUp (frameIn h .op) ≡ false
+      → Said (frameIn h) (S .view t) (a .records))
+  -- what is given nothing has no available entry when the step is over
   pub nothing-left : EveryStep S (λ t h u a. CarriedOut S t h
       → NothingLeft (asked (S .view t) (frameIn h)) (a .records) (S .view u))
   -- the count that is returned is that of the records written, at most 25

@@ -3,11 +3,12 @@ pub mod Machine
 pub mod History
 pub mod Judged
 pub mod Answers
-pub mod Moments
+pub mod Said
 pub mod Book
 pub mod SerialRun
 pub mod Told
 pub mod Demands
+pub mod Determined
 pub mod Bounds
 pub mod Trays
 pub mod Frames

@@ -12,7 +12,7 @@ use Rattle.rules.specs.Lists.{filterb, anyb, joined}
 use Rattle.rules.specs.Time.{reached}
 use Rattle.rules.specs.State.{Model}
 use Rattle.rules.specs.Template.{bit}
-use Rattle.demands.specs.SerialRun.{Kept, Operation, adds, finds, Pending, Run, keptOf}
+use Rattle.demands.specs.SerialRun.{Kept, Operation, adds, finds, Pending, Run, keptOf, distinct}
 
 -- an entry: the transaction that it is private to (0: committed), those that have taken it, and those that have read it
 pub record Told : Type 0 where
@@ -67,3 +67,6 @@ pub record Explained (r : Run) (m : Model) : Type 0 where
   pub told-stored : (x : Told) → List·Memᴰ x (told r) → (e : Entry) × List·Memᴰ e (m .entries) × AsTold (m .txns) e x
   pub holders-live : (e : Entry) (p : ℕ) → List·Memᴰ e (m .entries) → bit p (e .readers) ≡ true
       → (t : Txn) × List·Memᴰ t (m .txns) × (t .slot ≡ p)
+  -- each entry is stored once, and each live transaction has a slot of its own
+  pub once : distinct (map (λ (e : Entry). e .id .0) (m .entries)) ≡ true
+  pub own-slot : (t u : Txn) → List·Memᴰ t (m .txns) → List·Memᴰ u (m .txns) → t .slot ≡ u .slot → t ≡ u

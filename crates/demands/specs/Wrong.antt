@@ -1,9 +1,10 @@
--- What the demands rule out: a small wrong space for each of document 01's Contracts c and for each mistake that
--- students make, and the statement that the demand named for it fails.
+-- What the demands rule out: a small wrong space for each of document 01's Contracts c, for each mistake that students
+-- make, and for silence, order and time; and the statement that the demand named for it fails. (`Determined` says that
+-- no wrong space is left.)
 use Prim.Native.Nat.{ℕ, suc, _+_}
 use mathlib.Core.Bool.{Bool, not, cond, _&&_, _||_}
 use mathlib.Core.Path.{_≡_}
-use mathlib.Core.List.{List, [], _∷_, _++_, map}
+use mathlib.Core.List.{List, [], _∷_, _++_, map, reverse}
 use lib.Dec.{eqb}
 use Rattle.rules.specs.declared.Entry.{Entry}
 use Rattle.rules.specs.declared.LookUp.{LookUp}
@@ -17,10 +18,11 @@ use Rattle.rules.specs.Frame.{Frame, decode, isWrite, isLookUp, isCommit, isTic
 use Rattle.rules.specs.Records.{written, found, committed, exception, ticked}
 use Rattle.rules.specs.LookUp.{Done, lookUpOf, handOut, answer, answerNothing, answerWaiting}
 use Rattle.rules.specs.Transactions.{abort, takenBy}
-use Rattle.rules.specs.Service.{service}
-use Rattle.rules.specs.Tick.{endedTxns, abortAll, dropEnded, closeWaits}
+use Rattle.rules.specs.Service.{serve, service}
+use Rattle.rules.specs.Tick.{endedTxns, abortAll, dropEnded, closeWaits, tick}
 use Rattle.rules.specs.Refusals.{refusal}
-use Rattle.rules.specs.Step.{Outcome, after, quiet, newEntry, stored, carriedOut, accepted, refusedWith, step}
+use Rattle.rules.specs.Step.{Outcome, after, quiet, newEntry, stored, write, carriedOut, accepted, refusedWith}
+use Rattle.rules.specs.Step.{step}
 use Rattle.rules.specs.Allowed.{Answered}
 use Rattle.demands.specs.Machine.{Handed, Machine, Stepper, Stepped, spaceOf, theRules}
 use Rattle.demands.specs.Demands.{Demand2, Demand3}
@@ -133,6 +135,51 @@ showsPrivate =
     carrying (λ f. isWrite (f .op) && not (eqb (f .txn) 0))
     (λ choice m f. after (written f (m .nextEntry)) (shown (newEntry m f) (stored m f) (m .waits)))
 
+-- Silence, order and time
+
+-- ignores writes: number 0, no record, nothing stored
+unfoldable pub ignoresWrites : Stepper
+ignoresWrites = carrying (λ f. isWrite (f .op)) (λ choice m f. quiet m)
+
+-- stores each entry twice, with two records
+unfoldable pub writesTwice : Stepper
+writesTwice =
+    carrying (λ f. isWrite (f .op))
+    (λ choice m f. after (written f (m .nextEntry)) (write choice (stored m f) f))
+
+-- ticks at each write, with all that a tick does
+unfoldable pub ticksAtWrites : Stepper
+ticksAtWrites = carrying (λ f. isWrite (f .op)) (λ choice m f. then (λ n. write choice n f) (tick choice) m)
+
+-- lets no transaction expire
+unfoldable pub neverExpires : Stepper
+neverExpires =
+    carrying (λ f. isTick (f .op))
+    (λ choice m f. after ticked (then (service choice) closeWaits (dropEnded (withClock (m .clock + 1) m))))
+
+-- gives the exceptions of a tick in another order than by number
+unfoldable pub lastExceptionFirst : Stepper
+lastExceptionFirst =
+    carrying (λ f. isTick (f .op))
+    (λ choice m f. let later = withClock (m .clock + 1) m in
+    let ended = reverse (endedTxns later) in
+    let last = then (service choice) closeWaits (dropEnded (abortAll ended later)) in
+    record { model = last .model; records = ticked ∷ map exception ended ++ last .records })
+
+-- serves the last that arrived first
+unfoldable pub lastServedFirst : Stepper
+lastServedFirst =
+    carrying (λ f. isWrite (f .op))
+    (λ choice m f. let n = stored m f in
+    let r = serve choice (n .txns) (n .entries) (reverse (n .waits)) in
+    record { model = withEntries (r .entries) (withWaits (reverse (r .waits)) n); records = written f (m .nextEntry) ∷ r .records })
+
+-- serves before it removes the entries that end now
+unfoldable pub servesEnded : Stepper
+servesEnded =
+    carrying (λ f. isTick (f .op))
+    (λ choice m f. tickWith (λ n. n) (then (service choice) (then (λ n. quiet (dropEnded n)) closeWaits)) m)
+
 -- Each of them fails the demand named for it.
 pub record RuledOut : Type 0 where
   pub says-nothing : Demand2 (spaceOf saysNothing) → ⊥
@@ -147,3 +194,10 @@ pub record RuledOut : Type 0 where
   pub own-read-bars : Demand2 (spaceOf ownReadBars) → ⊥
   pub nothing-first : Demand2 (spaceOf nothingFirst) → ⊥
   pub shows-private : Demand3 (spaceOf showsPrivate) → ⊥
+  pub ignores-writes : Demand2 (spaceOf ignoresWrites) → ⊥
+  pub writes-twice : Demand2 (spaceOf writesTwice) → ⊥
+  pub ticks-at-writes : Demand2 (spaceOf ticksAtWrites) → ⊥
+  pub never-expires : Demand2 (spaceOf neverExpires) → ⊥
+  pub last-exception-first : Demand2 (spaceOf lastExceptionFirst) → ⊥
+  pub last-served-first : Demand2 (spaceOf lastServedFirst) → ⊥
+  pub serves-ended : Demand2 (spaceOf servesEnded) → ⊥

@@ -1,4 +1,4 @@
--- Demand 2, each answer at its moment: a step that is carried out, as a list of events, each with its record.
+-- Each answer at its moment: a step that is carried out, as a list of events, each with its record.
 use Prim.Native.Nat.{ℕ, _+_}
 use mathlib.Core.Bool.{true, false}
 use mathlib.Core.Path.{_≡_}
