@@ -48,4 +48,5 @@ pub mod Computed
 pub mod Course
 pub mod Theorems
 pub mod Determining
+pub mod Answering
 pub mod RuledOut

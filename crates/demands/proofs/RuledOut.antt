@@ -26,7 +26,8 @@ use Rattle.demands.specs.Answers.{AnsweredNow, asked}
 use Rattle.demands.specs.Wrong.{saysNothing, saysWaiting, refusesAll, sameRecord, storesNothing, firstFrameOnly}
 use Rattle.demands.specs.Wrong.{oneMore, inventedCount, losesCommit, putsBackLate, ownReadBars, nothingFirst}
 use Rattle.demands.specs.Wrong.{showsPrivate, ignoresWrites, writesTwice, ticksAtWrites, neverExpires}
-use Rattle.demands.specs.Wrong.{lastExceptionFirst, lastServedFirst, servesEnded, RuledOut}
+use Rattle.demands.specs.Wrong.{lastExceptionFirst, lastServedFirst, servesEnded, mute, RuledOut}
+use Rattle.demands.specs.Answering.{Answering}
 use Rattle.demands.proofs.Saying.{said-given}
 use Rattle.demands.proofs.Computed.{all-rules}
 
@@ -245,6 +246,9 @@ serves-ended d =
     let q : _≡_ {A = ℕ} 2 3 = ap length (said-of servesEnded d fs a-tick refl refl .1) in
     omega arith
 
+answers-none : Answering mute → ⊥
+answers-none d = d .answers [] empty (empty, refl, begun empty) (handIn a-tick) .2
+
 pub ruled-out : RuledOut
 ruled-out =
     record {
@@ -267,4 +271,5 @@ ruled-out =
       last-exception-first = last-exception-first;
       last-served-first = last-served-first;
       serves-ended = serves-ended;
+      answers-none = answers-none;
     }

@@ -9,6 +9,7 @@ pub mod SerialRun
 pub mod Told
 pub mod Demands
 pub mod Determined
+pub mod Answering
 pub mod Bounds
 pub mod Trays
 pub mod Frames

@@ -1,6 +1,6 @@
 -- What the demands rule out: a small wrong space for each of document 01's Contracts c, for each mistake that students
 -- make, and for silence, order and time; and the statement that the demand named for it fails. (`Determined` says that
--- no wrong space is left.)
+-- no wrong space is left, save one that falls silent, which `Answering` rules out.)
 use Prim.Native.Nat.{ℕ, suc, _+_}
 use mathlib.Core.Bool.{Bool, not, cond, _&&_, _||_}
 use mathlib.Core.Path.{_≡_}
@@ -26,6 +26,7 @@ use Rattle.rules.specs.Step.{step}
 use Rattle.rules.specs.Allowed.{Answered}
 use Rattle.demands.specs.Machine.{Handed, Machine, Stepper, Stepped, spaceOf, theRules}
 use Rattle.demands.specs.Demands.{Demand2, Demand3}
+use Rattle.demands.specs.Answering.{Answering}
 
 -- a space that judges as the rules do, and carries some frames out in another way
 abbrev pub carrying : (Frame → Bool) → ((ℕ → ℕ) → Model → Frame → Done) → Stepper
@@ -180,6 +181,10 @@ servesEnded =
     carrying (λ f. isTick (f .op))
     (λ choice m f. tickWith (λ n. n) (then (service choice) (then (λ n. quiet (dropEnded n)) closeWaits)) m)
 
+-- answers no frame at all
+abbrev pub mute : Machine
+mute = record { State = Model; view = λ m. m; Empty = theRules .Empty; Steps = λ m h n a. ⊥ }
+
 -- Each of them fails the demand named for it.
 pub record RuledOut : Type 0 where
   pub says-nothing : Demand2 (spaceOf saysNothing) → ⊥
@@ -201,3 +206,4 @@ pub record RuledOut : Type 0 where
   pub last-exception-first : Demand2 (spaceOf lastExceptionFirst) → ⊥
   pub last-served-first : Demand2 (spaceOf lastServedFirst) → ⊥
   pub serves-ended : Demand2 (spaceOf servesEnded) → ⊥
+  pub answers-none : Answering mute → ⊥
