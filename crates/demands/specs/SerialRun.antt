@@ -44,7 +44,7 @@ pub record Run : Type 0 where
   pub kept : List Kept
   -- the lists of operations, of all transactions in one
   pub pending : List Pending
-  -- the lastClock look-up of each party that was not refused, the lastClock first
+  -- the latest look-up of each party that was not refused, the latest first
   pub asked : List Asked
   -- the numbers taken by operations carried out
   pub taken : List ℕ
@@ -60,49 +60,22 @@ sameFields x y =
 unfoldable pub isKept : ℕ → Fields → Kept → Bool
 isKept n x k = eqb (k .number) n && sameFields x (k .fields)
 
+-- the run with one of its parts replaced
+abbrev run : ℕ → List Kept → List Pending → List Asked → List ℕ → Bool → Run
+run c ks ps qs ns ok = record { clock = c; kept = ks; pending = ps; asked = qs; taken = ns; succeeds = ok }
+
 abbrev pub withKept : List Kept → Run → Run
-withKept ks r =
-    record {
-      clock = r .clock;
-      kept = ks;
-      pending = r .pending;
-      asked = r .asked;
-      taken = r .taken;
-      succeeds = r .succeeds;
-    }
+withKept ks r = run (r .clock) ks (r .pending) (r .asked) (r .taken) (r .succeeds)
 
 abbrev pub withPending : List Pending → Run → Run
-withPending ps r =
-    record {
-      clock = r .clock;
-      kept = r .kept;
-      pending = ps;
-      asked = r .asked;
-      taken = r .taken;
-      succeeds = r .succeeds;
-    }
+withPending ps r = run (r .clock) (r .kept) ps (r .asked) (r .taken) (r .succeeds)
 
 unfoldable pub failed : Run → Run
-failed r =
-    record {
-      clock = r .clock;
-      kept = r .kept;
-      pending = r .pending;
-      asked = r .asked;
-      taken = r .taken;
-      succeeds = false;
-    }
+failed r = run (r .clock) (r .kept) (r .pending) (r .asked) (r .taken) false
 
 unfoldable pub taking : ℕ → Fields → Run → Run
 taking n x r =
-    record {
-      clock = r .clock;
-      kept = filterb (λ k. not (isKept n x k)) (r .kept);
-      pending = r .pending;
-      asked = r .asked;
-      taken = n ∷ r .taken;
-      succeeds = r .succeeds;
-    }
+    run (r .clock) (filterb (λ k. not (isKept n x k)) (r .kept)) (r .pending) (r .asked) (n ∷ r .taken) (r .succeeds)
 
 -- an operation is carried out; one whose entry is missing changes nothing, and the run fails
 unfoldable pub carryOut : Operation → Run → Run
@@ -125,21 +98,13 @@ listOf t r = map (λ p. p .operation) (filterb (λ p. eqb (p .txn) t) (r .pendin
 unfoldable pub thrownAway : ℕ → Run → Run
 thrownAway t r = withPending (filterb (λ p. not (eqb (p .txn) t)) (r .pending)) r
 
--- whether the lastClock look-up of a party takes
+-- whether the latest look-up of a party takes
 unfoldable pub lastTakes : ℕ → List Asked → Bool
 lastTakes p [] = false
 lastTakes p (a ∷ older) = let rest = lastTakes p older in cond (eqb (a .party) p) (a .takes) rest
 
 unfoldable pub advanced : Run → Run
-advanced r =
-    record {
-      clock = r .clock + 1;
-      kept = r .kept;
-      pending = r .pending;
-      asked = r .asked;
-      taken = r .taken;
-      succeeds = r .succeeds;
-    }
+advanced r = run (r .clock + 1) (r .kept) (r .pending) (r .asked) (r .taken) (r .succeeds)
 
 -- "adds the record's number, the frame's fields and the end, which is the run's clock at this record plus the frame's
 -- lease, or never for FOREVER"

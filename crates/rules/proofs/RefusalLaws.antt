@@ -13,7 +13,7 @@ use Rattle.rules.specs.Numbers.{entriesRefused, txnsRefused, numberRefus
 use Rattle.rules.specs.State.{Model}
 use Rattle.rules.specs.Frame.{Frame, decode}
 use Rattle.rules.specs.Refusals.{noOperation, wrongLength, malformed, wrongParty, partyWaits, notLive, notOwn}
-use Rattle.rules.specs.Refusals.{noLease, tooLate, entriesFull, txnsFull, noNumber, waitsFull, refusal}
+use Rattle.rules.specs.Refusals.{noLease, tooLate, entriesFull, txnsFull, noNumber, waitsFull, refusal, formRows, admissionRows, roomRows, waitRows}
 use Rattle.rules.specs.Requests.{formRefusal, spaceRefusal}
 use Rattle.rules.proofs.StepCases.{cond-cases, and-left, and-right}
 
@@ -102,40 +102,13 @@ pub refusal-parts : (m : Model) (bs : List ℕ) (area : ℕ)
 unfolding refusal formRefusal spaceRefusal
 refusal-parts m bs area =
     let f = decode bs in
-    ap (λ n. cond (ltb area stepArea) areaRefused n)
-    (first-append
-    ((noOperation bs f, operationRefused) ∷ (wrongLength bs f, lengthRefused) ∷ (malformed f, formRefused) ∷ (wrongParty f, partyRefused) ∷ [])
-    ((partyWaits m f, waitingRefused)
-    ∷ (notLive m f, notLiveRefused)
-    ∷ (notOwn m f, notOwnRefused)
-    ∷ (noLease f, leaseRefused)
-    ∷ (tooLate m f, clockRefused)
-    ∷ (entriesFull m f, entriesRefused)
-    ∷ (txnsFull m f, txnsRefused)
-    ∷ (noNumber m f, numberRefused)
-    ∷ (waitsFull m f, waitsRefused)
-    ∷ []) refl)
+    ap (λ n. cond (ltb area stepArea) areaRefused n) (first-append (formRows bs f) (admissionRows m f ++ roomRows m f ++ waitRows m f) refl)
 
 -- no frame's bytes, and no frame against the space, are refused with 1
 pub form-not-area : (bs : List ℕ) → eqb (formRefusal bs) areaRefused ≡ false
 unfolding formRefusal
-form-not-area bs =
-    let f = decode bs in
-    first-without areaRefused
-    ((noOperation bs f, operationRefused) ∷ (wrongLength bs f, lengthRefused) ∷ (malformed f, formRefused) ∷ (wrongParty f, partyRefused) ∷ [])
-    refl refl
+form-not-area bs = first-without areaRefused (formRows bs (decode bs)) refl refl
 
 pub space-not-area : (m : Model) (f : Frame) → eqb (spaceRefusal m f) areaRefused ≡ false
 unfolding spaceRefusal
-space-not-area m f =
-    first-without areaRefused
-    ((partyWaits m f, waitingRefused)
-    ∷ (notLive m f, notLiveRefused)
-    ∷ (notOwn m f, notOwnRefused)
-    ∷ (noLease f, leaseRefused)
-    ∷ (tooLate m f, clockRefused)
-    ∷ (entriesFull m f, entriesRefused)
-    ∷ (txnsFull m f, txnsRefused)
-    ∷ (noNumber m f, numberRefused)
-    ∷ (waitsFull m f, waitsRefused)
-    ∷ []) refl refl
+space-not-area m f = first-without areaRefused (admissionRows m f ++ roomRows m f ++ waitRows m f) refl refl

@@ -2,7 +2,7 @@
 -- otherwise."
 use Prim.Native.Nat.{ℕ, _+_}
 use mathlib.Core.Bool.{Bool, false, not, cond, _&&_, _||_}
-use mathlib.Core.List.{List, [], _∷_}
+use mathlib.Core.List.{List, [], _∷_, _++_}
 use mathlib.Core.Option.{Option, none, some}
 use lib.Dec.{eqb, leb, ltb}
 use lib.ListN.{length}
@@ -98,23 +98,42 @@ noNumber m f = isWrite (f .op) && leb forever (m .nextEntry) || isCreate (f .op)
 unfoldable pub waitsFull : Model → Frame → Bool
 waitsFull m f = isLookUp (f .op) && mustWait m (lookUpOf m f) (f .leaseOrTimeout) && leb maxWaits (length (m .waits))
 
+-- The table. Each row: whether it applies, and its number.
+
+-- 2 to 5, of the frame's bytes alone
+abbrev pub formRows : List ℕ → Frame → List (Bool × ℕ)
+formRows bs f =
+    (noOperation bs f, operationRefused)
+    ∷ (wrongLength bs f, lengthRefused)
+    ∷ (malformed f, formRefused)
+    ∷ (wrongParty f, partyRefused)
+    ∷ []
+
+-- 6 to 8, of the party and its transaction
+abbrev pub admissionRows : Model → Frame → List (Bool × ℕ)
+admissionRows m f =
+    (partyWaits m f, waitingRefused)
+    ∷ (notLive m f, notLiveRefused)
+    ∷ (notOwn m f, notOwnRefused)
+    ∷ []
+
+-- 9 to 13, of time, room and numbers
+abbrev pub roomRows : Model → Frame → List (Bool × ℕ)
+roomRows m f =
+    (noLease f, leaseRefused)
+    ∷ (tooLate m f, clockRefused)
+    ∷ (entriesFull m f, entriesRefused)
+    ∷ (txnsFull m f, txnsRefused)
+    ∷ (noNumber m f, numberRefused)
+    ∷ []
+
+-- 14, of a look-up that must wait
+abbrev pub waitRows : Model → Frame → List (Bool × ℕ)
+waitRows m f = (waitsFull m f, waitsRefused) ∷ []
+
 -- the number of the first that applies, or 0
 unfoldable pub refusal : Model → List ℕ → ℕ → ℕ
 refusal m bs area =
     let f = decode bs in
     firstRow
-    ((ltb area stepArea, areaRefused)
-    ∷ (noOperation bs f, operationRefused)
-    ∷ (wrongLength bs f, lengthRefused)
-    ∷ (malformed f, formRefused)
-    ∷ (wrongParty f, partyRefused)
-    ∷ (partyWaits m f, waitingRefused)
-    ∷ (notLive m f, notLiveRefused)
-    ∷ (notOwn m f, notOwnRefused)
-    ∷ (noLease f, leaseRefused)
-    ∷ (tooLate m f, clockRefused)
-    ∷ (entriesFull m f, entriesRefused)
-    ∷ (txnsFull m f, txnsRefused)
-    ∷ (noNumber m f, numberRefused)
-    ∷ (waitsFull m f, waitsRefused)
-    ∷ [])
+    ((ltb area stepArea, areaRefused) ∷ formRows bs f ++ admissionRows m f ++ roomRows m f ++ waitRows m f)

@@ -2,7 +2,7 @@
 use Prim.Native.Nat.{ℕ}
 use mathlib.Core.Bool.{cond}
 use mathlib.Core.Path.{_≡_}
-use mathlib.Core.List.{List, [], _∷_}
+use mathlib.Core.List.{List, _++_}
 use mathlib.Core.Option.{Option, none, some}
 use lib.Dec.{eqb}
 use Rattle.rules.specs.declared.Fields.{Fields}
@@ -10,16 +10,12 @@ use Rattle.rules.specs.declared.Request.{Request}
 use Rattle.rules.specs.declared.Request.the-variants.{Write, Find, Create, Commit, Abort, Tick}
 use Rattle.rules.specs.declared.Decoded.{Decoded}
 use Rattle.rules.specs.declared.Decoded.the-variants.{Asks, Refused}
-use Rattle.rules.specs.Numbers.{opWrite, opCreate, opCommit, opAbort, opTick, operationRefused, lengthRefused}
-use Rattle.rules.specs.Numbers.{formRefused, partyRefused, waitingRefused, notLiveRefused, notOwnRefused}
-use Rattle.rules.specs.Numbers.{leaseRefused, clockRefused, entriesRefused, txnsRefused, numberRefused}
-use Rattle.rules.specs.Numbers.{waitsRefused}
+use Rattle.rules.specs.Numbers.{opWrite, opCreate, opCommit, opAbort, opTick}
 use Rattle.rules.specs.Lists.{firstRow}
 use Rattle.rules.specs.State.{Model}
 use Rattle.rules.specs.Frame.{Frame, decode}
 use Rattle.rules.specs.Records.{noFields}
-use Rattle.rules.specs.Refusals.{noOperation, wrongLength, malformed, wrongParty, partyWaits, notLive, notOwn}
-use Rattle.rules.specs.Refusals.{noLease, tooLate, entriesFull, txnsFull, noNumber, waitsFull}
+use Rattle.rules.specs.Refusals.{formRows, admissionRows, roomRows, waitRows}
 
 -- a frame without mask and fields
 abbrev pub plainFrame : ℕ → ℕ → ℕ → ℕ → Frame
@@ -48,29 +44,11 @@ numberOf (Refused n) = n
 
 -- the rows of the table that judge a frame's bytes alone: the first of 2 to 5 that applies, or 0
 unfoldable pub formRefusal : List ℕ → ℕ
-formRefusal bs =
-    let f = decode bs in
-    firstRow
-    ((noOperation bs f, operationRefused)
-    ∷ (wrongLength bs f, lengthRefused)
-    ∷ (malformed f, formRefused)
-    ∷ (wrongParty f, partyRefused)
-    ∷ [])
+formRefusal bs = firstRow (formRows bs (decode bs))
 
 -- and those that judge it against the space: the first of 6 to 14 that applies, or 0
 unfoldable pub spaceRefusal : Model → Frame → ℕ
-spaceRefusal m f =
-    firstRow
-    ((partyWaits m f, waitingRefused)
-    ∷ (notLive m f, notLiveRefused)
-    ∷ (notOwn m f, notOwnRefused)
-    ∷ (noLease f, leaseRefused)
-    ∷ (tooLate m f, clockRefused)
-    ∷ (entriesFull m f, entriesRefused)
-    ∷ (txnsFull m f, txnsRefused)
-    ∷ (noNumber m f, numberRefused)
-    ∷ (waitsFull m f, waitsRefused)
-    ∷ [])
+spaceRefusal m f = firstRow (admissionRows m f ++ roomRows m f ++ waitRows m f)
 
 -- a frame's bytes are decoded rightly: refused with the first number that applies, or asked for what they say
 pub record Decodes (bs : List ℕ) (r : Decoded) : Type 0 where

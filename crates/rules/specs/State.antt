@@ -30,68 +30,23 @@ pub record Bounded (m : Model) : Type 0 where
   pub waits-fit : length (m .waits) ≤ maxWaits
 
 -- the model with one table or number replaced
-abbrev pub withEntries : List Entry → Model → Model
-withEntries es m =
-    record {
-      clock = m .clock;
-      nextEntry = m .nextEntry;
-      nextTxn = m .nextTxn;
-      entries = es;
-      txns = m .txns;
-      waits = m .waits;
-    }
-
-abbrev pub withTxns : List Txn → Model → Model
-withTxns ts m =
-    record {
-      clock = m .clock;
-      nextEntry = m .nextEntry;
-      nextTxn = m .nextTxn;
-      entries = m .entries;
-      txns = ts;
-      waits = m .waits;
-    }
-
-abbrev pub withWaits : List LookUp → Model → Model
-withWaits ws m =
-    record {
-      clock = m .clock;
-      nextEntry = m .nextEntry;
-      nextTxn = m .nextTxn;
-      entries = m .entries;
-      txns = m .txns;
-      waits = ws;
-    }
+abbrev model : ℕ → ℕ → ℕ → List Entry → List Txn → List LookUp → Model
+model c e t es ts ws = record { clock = c; nextEntry = e; nextTxn = t; entries = es; txns = ts; waits = ws }
 
 abbrev pub withClock : ℕ → Model → Model
-withClock t m =
-    record {
-      clock = t;
-      nextEntry = m .nextEntry;
-      nextTxn = m .nextTxn;
-      entries = m .entries;
-      txns = m .txns;
-      waits = m .waits;
-    }
+withClock c m = model c (m .nextEntry) (m .nextTxn) (m .entries) (m .txns) (m .waits)
 
 abbrev pub withNextEntry : ℕ → Model → Model
-withNextEntry n m =
-    record {
-      clock = m .clock;
-      nextEntry = n;
-      nextTxn = m .nextTxn;
-      entries = m .entries;
-      txns = m .txns;
-      waits = m .waits;
-    }
+withNextEntry n m = model (m .clock) n (m .nextTxn) (m .entries) (m .txns) (m .waits)
 
 abbrev pub withNextTxn : ℕ → Model → Model
-withNextTxn n m =
-    record {
-      clock = m .clock;
-      nextEntry = m .nextEntry;
-      nextTxn = n;
-      entries = m .entries;
-      txns = m .txns;
-      waits = m .waits;
-    }
+withNextTxn n m = model (m .clock) (m .nextEntry) n (m .entries) (m .txns) (m .waits)
+
+abbrev pub withEntries : List Entry → Model → Model
+withEntries es m = model (m .clock) (m .nextEntry) (m .nextTxn) es (m .txns) (m .waits)
+
+abbrev pub withTxns : List Txn → Model → Model
+withTxns ts m = model (m .clock) (m .nextEntry) (m .nextTxn) (m .entries) ts (m .waits)
+
+abbrev pub withWaits : List LookUp → Model → Model
+withWaits ws m = model (m .clock) (m .nextEntry) (m .nextTxn) (m .entries) (m .txns) ws

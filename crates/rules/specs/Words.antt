@@ -12,7 +12,30 @@ use Rattle.rules.specs.declared.LookUp.{LookUp}
 use Rattle.rules.specs.declared.Until.{Until}
 use Rattle.rules.specs.declared.Until.the-variants.{Tick, Forever}
 use Rattle.rules.specs.Frame.{isTake, isIfExists}
+use Rattle.rules.specs.Numbers.{maxEntries, maxTxns, maxWaits}
 use Rattle.rules.specs.State.{Model}
+
+-- where the three tables begin behind the six numbers and counts, the words of a row, and the words of a space
+abbrev pub entriesAt : ℕ
+entriesAt = 6
+
+abbrev pub entryWidth : ℕ
+entryWidth = 9
+
+abbrev pub txnsAt : ℕ
+txnsAt = entriesAt + entryWidth * maxEntries
+
+abbrev pub txnWidth : ℕ
+txnWidth = 4
+
+abbrev pub waitsAt : ℕ
+waitsAt = txnsAt + txnWidth * maxTxns
+
+abbrev pub waitWidth : ℕ
+waitWidth = 9
+
+abbrev pub spaceWords : ℕ
+spaceWords = waitsAt + waitWidth * maxWaits
 
 -- the first n values of a function
 abbrev pub upTo : {A : Type 0} → (ℕ → A) → ℕ → List A
@@ -94,13 +117,13 @@ abbrev pub waitCount : List ℕ → ℕ
 waitCount ws = min (getD ws 5 0) 16
 
 unfoldable pub entries : ℕ → List ℕ → List Entry
-entries n ws = table entryOf 6 9 n ws
+entries n ws = table entryOf entriesAt entryWidth n ws
 
 unfoldable pub txns : ℕ → List ℕ → List Txn
-txns n ws = table txnOf 582 4 n ws
+txns n ws = table txnOf txnsAt txnWidth n ws
 
 unfoldable pub waits : ℕ → List ℕ → List LookUp
-waits n ws = table waitOf 614 9 n ws
+waits n ws = table waitOf waitsAt waitWidth n ws
 
 unfoldable pub view : List ℕ → Model
 view ws =

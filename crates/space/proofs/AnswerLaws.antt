@@ -11,8 +11,8 @@ use Rattle.rules.specs.Lists.{filterb}
 use Rattle.rules.specs.Words.{upTo}
 use Rattle.rules.proofs.ListLaws.{length-filter}
 use Rattle.space.specs.Does.{Adds}
-use Rattle.space.proofs.RowLaws.{length-upTo}
-use Rattle.space.proofs.CompactLaws.{compacted, more-kept, more-passed}
+use Rattle.words.proofs.RowLaws.{length-upTo}
+use Rattle.words.proofs.CompactLaws.{compacted, more-kept, more-passed}
 use Rattle.space.proofs.DoesLaws.{adds-none, adds-length, adds-then}
 
 module _ {A : Type 0} (q : A → Bool) (answer : A → Record) (f : ℕ → A) where

@@ -3,7 +3,7 @@ use Prim.Native.Nat.{ℕ, _+_, _-_, _*_, _≤_, _<_}
 use mathlib.Core.Bool.{Bool, true, false, not, cond, _||_, or-true}
 use mathlib.Core.Option.{none, some}
 use mathlib.Core.Path.{_≡_, refl, sym, ap, _∙_}
-use mathlib.Core.List.{List, [], _∷_}
+use mathlib.Core.List.{List, [], _∷_, _++_}
 use native.Mathlib.Omega.{arith}
 use native.Mathlib.Decide.{decLt}
 use native.Mathlib.Numerals.{add-one}
@@ -18,6 +18,7 @@ use Rattle.rules.specs.Numbers.{waitingRefused, notLiveRefused, notOwnRefused, 
 use Rattle.rules.specs.State.{Model}
 use Rattle.rules.specs.Frame.{Frame, isWrite, isLookUp, isCreate, isCommit, isAbort, isTick, hasLeaseOrTimeout}
 use Rattle.rules.specs.Holds.{liveTxn}
+use Rattle.rules.specs.Refusals.{admissionRows, roomRows, waitRows}
 use Rattle.rules.specs.Refusals.{inTxn, partyWaits, notLive, notOwn, noLease, tooLate, entriesFull, txnsFull, noNumber, waitsFull}
 use Rattle.rules.specs.Requests.{frameOf, spaceRefusal}
 use Rattle.rules.specs.declared.Request.the-variants.{Commit, Abort}
@@ -25,9 +26,10 @@ use Rattle.rules.proofs.StepCases.{cond-cases, and-left, and-right}
 use Rattle.rules.proofs.RefusalLaws.{first-append}
 use Rattle.rules.specs.Words.{entryOf, entryCount, waitOf, waitFrom, waitCount, row, entries, waits, view}
 use Rattle.space.specs.Judge.{partyWaiting, inTxnRefusal, admissionRefusal, earlyRefusal}
-use Rattle.space.proofs.RowLaws.{length-upTo}
-use Rattle.space.proofs.FindLaws.{any-passed, any-at, some-any, none-any}
-use Rattle.space.proofs.ViewLaws.{wait-row}
+use Rattle.words.proofs.RowLaws.{length-upTo}
+use Rattle.holds.proofs.FindLaws.{any-passed, any-at, some-any, none-any}
+use Rattle.words.proofs.ViewLaws.{wait-row}
+use Rattle.rules.specs.Words.{entriesAt, entryWidth, waitsAt, waitWidth}
 
 -- ---- 6: the search for a waiting look-up of the party
 abbrev isOfParty : ℕ → LookUp → Bool
@@ -42,17 +44,17 @@ module _ (ws : List ℕ) (party : ℕ) where
   unfolding waits
   none-waits-none = refl
 
-  module _ (i : ℕ) (w : LookUp) (r : w ≡ waitFrom ws (614 + 9 * i)) where
+  module _ (i : ℕ) (w : LookUp) (r : w ≡ waitFrom ws (waitsAt + waitWidth * i)) where
     pub none-waits-more : NoneWaits i → (w .party ≡ party → ⊥) → NoneWaits (i + 1)
     unfolding waits
     none-waits-more h t =
         rw add-one
-        (any-passed (isOfParty party) (λ k. waitOf (row 614 9 ws k)) i h (ap (isOfParty party) (wait-row ws i ∙ sym r) ∙ ne-eqb (w .party) party t))
+        (any-passed (isOfParty party) (λ k. waitOf (row waitsAt waitWidth ws k)) i h (ap (isOfParty party) (wait-row ws i ∙ sym r) ∙ ne-eqb (w .party) party t))
 
     pub party-waits : i < waitCount ws → w .party ≡ party → partyWaiting party (view ws .waits) ≡ true
     unfolding waits view
     party-waits l t =
-        any-at (isOfParty party) (λ k. waitOf (row 614 9 ws k)) i (waitCount ws) l (ap (isOfParty party) (wait-row ws i ∙ sym r) ∙ eq-eqb (w .party) party t)
+        any-at (isOfParty party) (λ k. waitOf (row waitsAt waitWidth ws k)) i (waitCount ws) l (ap (isOfParty party) (wait-row ws i ∙ sym r) ∙ eq-eqb (w .party) party t)
 
   pub none-waits : (i : ℕ) → i ≡ waitCount ws → NoneWaits i → partyWaiting party (view ws .waits) ≡ false
   unfolding view
@@ -79,27 +81,13 @@ module _ (party t : ℕ) (ts : List Txn) (n : eqb t 0 ≡ false) where
 -- ---- the table in parts
 -- 9 to 13
 abbrev pub restRefusal : Model → Frame → ℕ
-restRefusal m f =
-    firstRow
-    ((noLease f, leaseRefused)
-    ∷ (tooLate m f, clockRefused)
-    ∷ (entriesFull m f, entriesRefused)
-    ∷ (txnsFull m f, txnsRefused)
-    ∷ (noNumber m f, numberRefused)
-    ∷ [])
+restRefusal m f = firstRow (roomRows m f)
 
 module _ (m : Model) (f : Frame) where
   parts : earlyRefusal m f
       ≡ cond (eqb (admissionRefusal (inTxn f) (f .party) (f .txn) m) 0) (restRefusal m f) (admissionRefusal (inTxn f) (f .party) (f .txn) m)
   unfolding earlyRefusal admissionRefusal inTxnRefusal partyWaits notLive notOwn
-  parts =
-      first-append ((partyWaits m f, waitingRefused) ∷ (notLive m f, notLiveRefused) ∷ (notOwn m f, notOwnRefused) ∷ [])
-      ((noLease f, leaseRefused)
-      ∷ (tooLate m f, clockRefused)
-      ∷ (entriesFull m f, entriesRefused)
-      ∷ (txnsFull m f, txnsRefused)
-      ∷ (noNumber m f, numberRefused)
-      ∷ []) refl
+  parts = first-append (admissionRows m f) (roomRows m f) refl
 
   module _ (inside : Bool) (i : inTxn f ≡ inside) (n : ℕ) (a : n ≡ admissionRefusal inside (f .party) (f .txn) m) where
     by : earlyRefusal m f ≡ cond (eqb n 0) (restRefusal m f) n
@@ -149,7 +137,7 @@ plain-inside t = go (not (eqb t 0))
 
 pub length-entries : (ws : List ℕ) → length (view ws .entries) ≡ entryCount ws
 unfolding view entries
-length-entries ws = length-upTo (λ k. entryOf (row 6 9 ws k)) (entryCount ws)
+length-entries ws = length-upTo (λ k. entryOf (row entriesAt entryWidth ws k)) (entryCount ws)
 
 -- the operation of a look-up is none of the others
 pub record LooksUp (op : ℕ) : Type 0 where
@@ -180,17 +168,7 @@ look-up-inside op e t = let k = looks-up op e in rw (k .commit, k .abort) (plain
 pub space-parts : (m : Model) (f : Frame)
     → spaceRefusal m f ≡ cond (eqb (earlyRefusal m f) 0) (cond (waitsFull m f) waitsRefused 0) (earlyRefusal m f)
 unfolding spaceRefusal earlyRefusal
-space-parts m f =
-    first-append
-    ((partyWaits m f, waitingRefused)
-    ∷ (notLive m f, notLiveRefused)
-    ∷ (notOwn m f, notOwnRefused)
-    ∷ (noLease f, leaseRefused)
-    ∷ (tooLate m f, clockRefused)
-    ∷ (entriesFull m f, entriesRefused)
-    ∷ (txnsFull m f, txnsRefused)
-    ∷ (noNumber m f, numberRefused)
-    ∷ []) ((waitsFull m f, waitsRefused) ∷ []) refl
+space-parts m f = first-append (admissionRows m f ++ roomRows m f) (waitRows m f) refl
 
 pub early-refused : (m : Model) (f : Frame) (n : ℕ) → n ≡ earlyRefusal m f → (n ≡ 0 → ⊥) → spaceRefusal m f ≡ n
 early-refused m f n e h =

@@ -16,7 +16,7 @@ use Rattle.rules.specs.Requests.{frameOf}
 use Rattle.rules.proofs.StepCases.{and-false-right, or-left}
 use Rattle.rules.proofs.RefusalLaws.{row}
 use Rattle.space.specs.Judge.{late, earlyRefusal}
-use Rattle.space.specs.Time.{InTime}
+use Rattle.words.specs.Time.{InTime}
 use Rattle.space.proofs.JudgeLaws.{looks-up}
 
 -- none of 10 to 13 applies

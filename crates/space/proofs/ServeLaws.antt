@@ -20,7 +20,7 @@ use Rattle.rules.specs.Records.{found}
 use Rattle.rules.specs.LookUp.{Done, handOut}
 use Rattle.rules.specs.Service.{Served, serve, service, foundFirst, waitsFirst}
 use Rattle.rules.proofs.StepCases.{serve-none, serve-some}
-use Rattle.space.specs.HandOut.{handedOut}
+use Rattle.holds.specs.HandOut.{handedOut}
 use Rattle.space.specs.Does.{first}
 
 -- those that wait on and the founds of the look-ups gone through, before what the rest gives

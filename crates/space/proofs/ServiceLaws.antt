@@ -14,24 +14,25 @@ use Rattle.rules.specs.Records.{found, recordBytes}
 use Rattle.rules.specs.LookUp.{Done}
 use Rattle.rules.specs.Records.{areaAfter}
 use Rattle.rules.specs.Holds.{liveTxn}
-use Rattle.space.specs.Live.{slotOf}
-use Rattle.space.proofs.SearchLaws.{NoneFor}
+use Rattle.holds.specs.Live.{slotOf}
+use Rattle.holds.proofs.SearchLaws.{NoneFor}
 use Rattle.rules.specs.Words.{entryCount, waitCount, waitFrom, view}
-use Rattle.space.specs.Rows.{moveRow}
-use Rattle.space.specs.HandOut.{handedOut}
+use Rattle.words.specs.Rows.{moveRow}
+use Rattle.holds.specs.HandOut.{handedOut}
 use Rattle.rules.specs.Service.{service}
 use Rattle.space.specs.Does.{Does, first}
-use Rattle.space.proofs.MoveLaws.{move-view, close-view, next-wait, length-waits}
+use Rattle.words.proofs.MoveLaws.{move-view, close-view, next-wait, length-waits}
 use Rattle.space.proofs.RecordLaws.{front-length, Area, area-none, area-more, area-done}
 use Rattle.space.proofs.ServeLaws.{Serving, serving-none, serving-found, serving-waits, serving-done}
+use Rattle.rules.specs.Words.{waitsAt, waitWidth, spaceWords}
 
 pub record Turns (ws₀ ws a₀ a : List ℕ) (count done i n : ℕ) : Type 0 where
-  pub long : length ws ≡ 758
+  pub long : length ws ≡ spaceWords
   pub records : List Record
   pub serving : Serving (view ws₀) (view ws) i n records
   pub area : Area count a₀ a records done
 
-pub turns-none : (ws a : List ℕ) (count : ℕ) → length ws ≡ 758 → 28 * count ≤ length a → Turns ws ws a a count count 0 0
+pub turns-none : (ws a : List ℕ) (count : ℕ) → length ws ≡ spaceWords → 28 * count ≤ length a → Turns ws ws a a count count 0 0
 turns-none ws a count l h = record { long = l; records = []; serving = serving-none (view ws); area = area-none count a h }
 
 pub turns-at : (ws₀ ws ws′ a₀ a a′ : List ℕ) (count done done′ i i′ n : ℕ) → Turns ws₀ ws a₀ a count done i n
@@ -40,7 +41,7 @@ turns-at ws₀ ws ws′ a₀ a a′ count done done′ i i′ n t p q r s = rw (
 
 -- what is known in the search for an entry
 pub record Looking (ws : List ℕ) (w : LookUp) (p count i j : ℕ) : Type 0 where
-  pub is-wait : w ≡ waitFrom ws (614 + 9 * i)
+  pub is-wait : w ≡ waitFrom ws (waitsAt + waitWidth * i)
   pub slot : p ≡ slotOf (liveTxn (w .txn .0) (view ws .txns))
   pub all : count ≡ entryCount ws
   pub none-yet : NoneFor ws w j
@@ -56,9 +57,9 @@ module _ (ws₀ ws a₀ a : List ℕ) (count done i n : ℕ) (t : Turns ws₀ ws
   pub turn-room : i < 16 → 28 * (count + 16) ≤ length a₀ → 28 * (done + 1) ≤ length a
   turn-room h r = omega (arith, t .area .counts, t .serving .few, turn-length)
 
-  pub turn-found : (ws′ a′ : List ℕ) (w : LookUp) (e : Entry) (at k : ℕ) → i < waitCount ws₀ → w ≡ waitFrom ws (614 + 9 * i)
+  pub turn-found : (ws′ a′ : List ℕ) (w : LookUp) (e : Entry) (at k : ℕ) → i < waitCount ws₀ → w ≡ waitFrom ws (waitsAt + waitWidth * i)
       → pick 0 (availableTo (view ws .txns) w (view ws .entries)) ≡ some e
-      → view ws′ ≡ handedOut w e (view ws) → length ws′ ≡ 758
+      → view ws′ ≡ handedOut w e (view ws) → length ws′ ≡ spaceWords
       → 28 * (done + 1) ≤ length a → at ≡ 28 * done → length a ≤ at + k
       → a′ ≡ take at a ++ ((recordBytes (found w e) ++ drop 28 (take k (drop at a))) ++ drop k (drop at a))
       → Turns ws₀ ws′ a₀ a′ count (done + 1) (i + 1) n
@@ -72,10 +73,10 @@ module _ (ws₀ ws a₀ a : List ℕ) (count done i n : ℕ) (t : Turns ws₀ ws
         area = area-more count a₀ a a′ (t .records) done at k (found w e) (t .area) (omega (arith, turn-length)) o z b;
       }
 
-  pub turn-waits : (w : LookUp) → i < waitCount ws₀ → w ≡ waitFrom ws (614 + 9 * i)
+  pub turn-waits : (w : LookUp) → i < waitCount ws₀ → w ≡ waitFrom ws (waitsAt + waitWidth * i)
       → pick 0 (availableTo (view ws .txns) w (view ws .entries)) ≡ none
-      → length (moveRow ws (614 + 9 * i) (614 + 9 * n)) ≡ 758
-      → Turns ws₀ (moveRow ws (614 + 9 * i) (614 + 9 * n)) a₀ a count done (i + 1) (n + 1)
+      → length (moveRow ws (waitsAt + waitWidth * i) (waitsAt + waitWidth * n)) ≡ spaceWords
+      → Turns ws₀ (moveRow ws (waitsAt + waitWidth * i) (waitsAt + waitWidth * n)) a₀ a count done (i + 1) (n + 1)
   turn-waits w h q p l =
       record {
         long = l;

@@ -20,17 +20,18 @@ use Rattle.rules.proofs.ListLaws.{find-some, length-filter}
 use Rattle.rules.proofs.ServeLength.{serve-length}
 use Rattle.rules.proofs.AbortLaws.{abort-first, abort-fewer}
 use Rattle.rules.specs.Words.{row, txnCount, waitCount, txnOf, txnFrom, waitOf, waitFrom, txns, waits, view}
-use Rattle.space.specs.Rows.{moveRow}
+use Rattle.words.specs.Rows.{moveRow}
 use Rattle.space.specs.Does.{Adds, Does, first}
 use Rattle.space.specs.Tick.{expired}
-use Rattle.space.proofs.FindLaws.{first-pick, pick-first, pick-none}
-use Rattle.space.proofs.ViewLaws.{txn-row, wait-row}
-use Rattle.space.proofs.MoveLaws.{length-waits}
-use Rattle.space.proofs.CompactLaws.{same-row}
-use Rattle.space.proofs.LeaveLaws.{Leaving, leaving-none, leaving-passed, leaving-kept, leaving-done}
+use Rattle.holds.proofs.FindLaws.{first-pick, pick-first, pick-none}
+use Rattle.words.proofs.ViewLaws.{txn-row, wait-row}
+use Rattle.words.proofs.MoveLaws.{length-waits}
+use Rattle.words.proofs.CompactLaws.{same-row}
+use Rattle.holds.proofs.LeaveLaws.{Leaving, leaving-none, leaving-passed, leaving-kept, leaving-done}
 use Rattle.space.proofs.AnswerLaws.{Answered, answered-none, answered-room, answered-length, answered-passed, answered-more}
 use Rattle.space.proofs.DoesLaws.{does-adds, does-as, does-then}
-use Rattle.space.proofs.TxnLaws.{length-txns}
+use Rattle.words.proofs.TxnLaws.{length-txns}
+use Rattle.rules.specs.Words.{txnsAt, txnWidth, waitsAt, waitWidth, spaceWords}
 
 -- whether the clock has reached a transaction's end, or a look-up's deadline
 abbrev pub ends : ℕ → Txn → Bool
@@ -40,10 +41,10 @@ abbrev pub due : ℕ → LookUp → Bool
 due clock w = reached clock (w .deadline)
 
 abbrev pub txnRow : List ℕ → ℕ → Txn
-txnRow ws k = txnOf (row 582 4 ws k)
+txnRow ws k = txnOf (row txnsAt txnWidth ws k)
 
 abbrev pub waitRow : List ℕ → ℕ → LookUp
-waitRow ws k = waitOf (row 614 9 ws k)
+waitRow ws k = waitOf (row waitsAt waitWidth ws k)
 
 -- ---- an exception for each of the first i transactions that end now
 abbrev pub Excepted : ℕ → List ℕ → ℕ → List ℕ → List ℕ → ℕ → ℕ → Type 0
@@ -61,7 +62,7 @@ module _ (clock : ℕ) (ws : List ℕ) (i : ℕ) (a₀ a : List ℕ) (c d : ℕ)
   pub excepted-length : i ≤ 8 → length a ≡ length a₀
   excepted-length l = answered-length (ends clock) exception (txnRow ws) i a₀ a c d h (omega arith)
 
-  module _ (t : Txn) (e : t ≡ txnFrom ws (582 + 4 * i)) where
+  module _ (t : Txn) (e : t ≡ txnFrom ws (txnsAt + txnWidth * i)) where
     tested : ends clock (txnRow ws i) ≡ reached clock (t .end)
     tested = ap (ends clock) (txn-row ws i ∙ sym e)
 
@@ -126,9 +127,9 @@ module _ (clock : ℕ) (ws₀ ws a₀ a : List ℕ) (c d i n : ℕ) (t : Closing
   pub closing-length : i ≤ waitCount ws₀ → length a ≡ length a₀
   closing-length l = answered-length (due clock) nothing (waitRow ws₀) i a₀ a c d (t .answered) (omega (arith, length-waits ws₀))
 
-  module _ (long : length ws₀ ≡ 758) (l : i < 16) (w : LookUp) (e : w ≡ waitFrom ws (614 + 9 * i)) where
+  module _ (long : length ws₀ ≡ spaceWords) (l : i < 16) (w : LookUp) (e : w ≡ waitFrom ws (waitsAt + waitWidth * i)) where
     is-row : waitRow ws₀ i ≡ w
-    is-row = ap waitOf (sym (same-row waitOf 614 9 (stays clock) (λ x. x) ws₀ ws i n (t .leaving))) ∙ wait-row ws i ∙ sym e
+    is-row = ap waitOf (sym (same-row waitOf waitsAt waitWidth (stays clock) (λ x. x) ws₀ ws i n (t .leaving))) ∙ wait-row ws i ∙ sym e
 
     -- the next look-up gets nothing
     pub closing-nothing : (a′ : List ℕ) (d′ : ℕ) (r : Record) → reached clock (w .deadline) ≡ true → r ≡ nothing w
@@ -144,14 +145,14 @@ module _ (clock : ℕ) (ws₀ ws a₀ a : List ℕ) (c d i n : ℕ) (t : Closing
 
     -- it waits on
     pub closing-waits : reached clock (w .deadline) ≡ false
-        → Closing clock ws₀ (moveRow ws (614 + 9 * i) (614 + 9 * n)) a₀ a c d (i + 1) (n + 1)
+        → Closing clock ws₀ (moveRow ws (waitsAt + waitWidth * i) (waitsAt + waitWidth * n)) a₀ a c d (i + 1) (n + 1)
     closing-waits s =
         record {
           leaving = leaving-kept (stays clock) ws₀ ws i n (t .leaving) long l w e (ap not s);
           answered = answered-passed (due clock) nothing (waitRow ws₀) i a₀ a c d (t .answered) (ap (due clock) is-row ∙ s);
         }
 
-pub closing-done : (ws₀ ws a₀ a : List ℕ) (c d i n : ℕ) → Closing (view ws₀ .clock) ws₀ ws a₀ a c d i n → length ws₀ ≡ 758
+pub closing-done : (ws₀ ws a₀ a : List ℕ) (c d i n : ℕ) → Closing (view ws₀ .clock) ws₀ ws a₀ a c d i n → length ws₀ ≡ spaceWords
     → i ≡ waitCount ws₀
     → Does (closeWaits (view ws₀)) (set ws 5 n) a₀ a c d
 unfolding closeWaits view waits

@@ -2,7 +2,7 @@
 -- about to wait.)
 use Prim.Native.Nat.{ℕ, _+_}
 use mathlib.Core.Bool.{Bool, not, cond, _&&_, _||_}
-use mathlib.Core.List.{List, [], _∷_}
+use mathlib.Core.List.{List, [], _∷_, _++_}
 use lib.Dec.{eqb, leb, ltb}
 use lib.ListN.{length}
 use Rattle.rules.specs.declared.Entry.{Entry}
@@ -15,7 +15,7 @@ use Rattle.rules.specs.State.{Model}
 use Rattle.rules.specs.Holds.{liveTxn}
 use Rattle.rules.specs.Frame.{Frame}
 use Rattle.rules.specs.LookUp.{givesNothing}
-use Rattle.rules.specs.Refusals.{isOf, partyWaits, notLive, notOwn, noLease, tooLate, entriesFull, txnsFull, noNumber, waitsFull}
+use Rattle.rules.specs.Refusals.{isOf, waitsFull, admissionRows, roomRows}
 
 -- 6, of a party
 abbrev pub partyWaiting : ℕ → List LookUp → Bool
@@ -43,17 +43,7 @@ admissionRefusal inside party t m = cond (partyWaiting party (m .waits)) waiting
 
 -- the first of 6 to 13 that applies, or 0
 unfoldable pub earlyRefusal : Model → Frame → ℕ
-earlyRefusal m f =
-    firstRow
-    ((partyWaits m f, waitingRefused)
-    ∷ (notLive m f, notLiveRefused)
-    ∷ (notOwn m f, notOwnRefused)
-    ∷ (noLease f, leaseRefused)
-    ∷ (tooLate m f, clockRefused)
-    ∷ (entriesFull m f, entriesRefused)
-    ∷ (txnsFull m f, txnsRefused)
-    ∷ (noNumber m f, numberRefused)
-    ∷ [])
+earlyRefusal m f = firstRow (admissionRows m f ++ roomRows m f)
 
 -- 14, or 0
 abbrev pub lateRefusal : Model → Frame → ℕ

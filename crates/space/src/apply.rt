@@ -15,28 +15,31 @@ ghost use Rattle.rules.specs.Transactions.{create as createFrame};
 ghost use Rattle.rules.specs.Words.{view};
 ghost use Rattle.space.specs.Does.{Does, first};
 ghost use Rattle.space.specs.Judge.{earlyRefusal, lateRefusal, noWaitLeft};
-ghost use Rattle.space.specs.Live.{slotOf};
+ghost use Rattle.holds.specs.Live.{slotOf};
 ghost use Rattle.space.specs.Outcome.{Ends};
-ghost use Rattle.space.specs.Rows.{Holds};
-ghost use Rattle.space.specs.Time.{InTime};
+ghost use Rattle.words.specs.Rows.{Holds};
+ghost use Rattle.words.specs.Time.{InTime};
+use words::rows::MAX_WAITS;
+use words::rows::NEXT_ENTRY;
+use words::rows::CLOCK;
 use crate::answers::add_record;
-use crate::endings::abort_txn;
-use crate::endings::commit_txn;
-use crate::find::Match;
-use crate::find::any_conflict;
-use crate::find::find_available;
-use crate::live::slot_of;
-use crate::rows::Words;
-use crate::rows::add_entry;
-use crate::rows::add_wait;
-use crate::rows::is_if_exists;
-use crate::rows::is_take;
-use crate::rows::set_next_entry;
-use crate::rows::wait_count;
+use holds::endings::abort_txn;
+use holds::endings::commit_txn;
+use holds::find::Match;
+use holds::find::any_conflict;
+use holds::find::find_available;
+use holds::live::slot_of;
+use words::rows::Words;
+use words::rows::add_entry;
+use words::rows::add_wait;
+use words::rows::is_if_exists;
+use words::rows::is_take;
+use words::rows::set_next_entry;
+use words::rows::wait_count;
 use crate::service::serve_waits;
-use crate::sweep::hand_out;
-use crate::time::end_of;
-use crate::txns::create_txn;
+use holds::sweep::hand_out;
+use words::time::end_of;
+use holds::txns::create_txn;
 use codec::numbers::KIND_ABORTED;
 use codec::numbers::KIND_COMMITTED;
 use codec::numbers::KIND_CREATED;
@@ -107,13 +110,13 @@ pub(crate) fn store(space: &mut Words, w: WriteRequest)
     requires { ⌜ earlyRefusal (view (now space)) (frameOf (Request.Write w)) ≡ 0 ⌝ }
     ensures { λ _. ⌜ view (now (space .exit)) ≡ stored (view (now (space .entry))) (frameOf (Request.Write w)) ⌝ }
 {
-    let n = space[1];
+    let n = space[NEXT_ENTRY];
     let lease = w.lease;
     if lease == 0 {
         set_next_entry(space, n + 1);
         return;
     }
-    let end = end_of(space[0], lease);
+    let end = end_of(space[CLOCK], lease);
     let fields = w.fields;
     let private_to = w.txn;
     add_entry(
@@ -136,7 +139,7 @@ pub(crate) fn write(space: &mut Words, answers: &mut [u8], w: WriteRequest) -> u
     ensures { λ n. ⌜ Does (writeFrame first (view (now (space .entry))) (frameOf (Request.Write w)))
         (now (space .exit)) (now (answers .entry)) (now (answers .exit)) 0 n ⌝ }
 {
-    let id = EntryId(space[1]);
+    let id = EntryId(space[NEXT_ENTRY]);
     store(space, w);
     let r = written_record(w, id);
     if w.txn.0 == 0 {
@@ -154,7 +157,7 @@ pub(crate) fn look_up_of(space: &Words, l: FindRequest) -> LookUp
     let op = l.op as u32;
     let takes = is_take(op);
     let if_exists = is_if_exists(op);
-    let deadline = end_of(space[0], l.timeout);
+    let deadline = end_of(space[CLOCK], l.timeout);
     let fields = l.fields;
     let txn = l.txn;
     LookUp {
@@ -203,7 +206,7 @@ pub(crate) fn wait_or_nothing(
         let r = plain_record(KIND_NOTHING, party, txn);
         return Outcome::Carried(add_record(answers, 0, r));
     }
-    if 16 <= wait_count(space) {
+    if MAX_WAITS <= wait_count(space) {
         return Outcome::Refused(WAITS_REFUSED);
     }
     add_wait(space, w);

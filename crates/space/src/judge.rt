@@ -6,13 +6,20 @@ ghost use Rattle.rules.specs.Requests.{frameOf};
 ghost use Rattle.rules.specs.Words.{view};
 ghost use Rattle.codec.specs.Kinds.{ofItsKind};
 ghost use Rattle.space.specs.Judge.{partyWaiting, late, noRoom, inTxnRefusal, admissionRefusal, earlyRefusal};
-use crate::live::Live;
-use crate::live::find_txn;
-use crate::rows::Words;
-use crate::rows::entry_count;
-use crate::rows::txn_count;
-use crate::rows::wait_at;
-use crate::rows::wait_count;
+use words::rows::MAX_TXNS;
+use words::rows::MAX_ENTRIES;
+use words::rows::LAST_CLOCK;
+use words::rows::FOREVER;
+use words::rows::NEXT_TXN;
+use words::rows::NEXT_ENTRY;
+use words::rows::CLOCK;
+use holds::live::Live;
+use holds::live::find_txn;
+use words::rows::Words;
+use words::rows::entry_count;
+use words::rows::txn_count;
+use words::rows::wait_at;
+use words::rows::wait_count;
 use codec::numbers::CLOCK_REFUSED;
 use codec::numbers::ENTRIES_REFUSED;
 use codec::numbers::LEASE_REFUSED;
@@ -46,10 +53,10 @@ pub(crate) fn waits_already(space: &Words, party: u8) -> bool
 pub(crate) fn too_late(clock: u32, amount: u32) -> bool
     ensures { λ r. ⌜ r ≡ late clock amount ⌝ }
 {
-    if amount == 4294967295 {
+    if amount == FOREVER {
         false
     } else {
-        4294967294 - amount < clock
+        LAST_CLOCK - amount < clock
     }
 }
 
@@ -87,7 +94,7 @@ pub(crate) fn lacks_room(space: &Words, lease: u32) -> bool
     if lease == 0 {
         false
     } else {
-        64 <= entry_count(space)
+        MAX_ENTRIES <= entry_count(space)
     }
 }
 
@@ -98,13 +105,13 @@ pub(crate) fn judge_write(space: &Words, w: WriteRequest) -> u8
     if n != 0 {
         return n;
     }
-    if too_late(space[0], w.lease) {
+    if too_late(space[CLOCK], w.lease) {
         return CLOCK_REFUSED;
     }
     if lacks_room(space, w.lease) {
         return ENTRIES_REFUSED;
     }
-    if 4294967295 <= space[1] {
+    if FOREVER <= space[NEXT_ENTRY] {
         NUMBER_REFUSED
     } else {
         0
@@ -119,7 +126,7 @@ pub(crate) fn judge_find(space: &Words, l: FindRequest) -> u8
     if n != 0 {
         return n;
     }
-    if too_late(space[0], l.timeout) {
+    if too_late(space[CLOCK], l.timeout) {
         CLOCK_REFUSED
     } else {
         0
@@ -135,13 +142,13 @@ pub(crate) fn judge_create(space: &Words, party: u8, lease: u32) -> u8
     if lease == 0 {
         return LEASE_REFUSED;
     }
-    if too_late(space[0], lease) {
+    if too_late(space[CLOCK], lease) {
         return CLOCK_REFUSED;
     }
-    if 8 <= txn_count(space) {
+    if MAX_TXNS <= txn_count(space) {
         return TXNS_REFUSED;
     }
-    if 4294967295 <= space[2] {
+    if FOREVER <= space[NEXT_TXN] {
         NUMBER_REFUSED
     } else {
         0
@@ -154,7 +161,7 @@ pub(crate) fn judge_tick(space: &Words) -> u8
     if waits_already(space, 0) {
         return WAITING_REFUSED;
     }
-    if 4294967294 <= space[0] {
+    if LAST_CLOCK <= space[CLOCK] {
         CLOCK_REFUSED
     } else {
         0

@@ -1,41 +1,37 @@
 // The space: one lent array of words, and what each frame does to it.
 mod answers;
 mod apply;
-mod endings;
-mod find;
-mod holds;
 mod judge;
-mod live;
-pub mod rows;
 mod service;
 mod step;
-mod sweep;
 mod tick;
-mod time;
-mod txns;
 
 ghost use mathlib.Core.Path.{_≡_};
 ghost use Rattle.rules.specs.State.{empty};
 ghost use Rattle.rules.specs.Words.{view};
 ghost use Rattle.rules.specs.Allowed.{Stepped};
 ghost use Rattle.space.specs.Empty.{emptyWords};
+use words::rows::NEXT_TXN;
+use words::rows::NEXT_ENTRY;
 use crate::apply::Outcome;
+use words::rows::WORDS;
+use words::rows::Words;
 use crate::step::refuse;
 use crate::step::take_frame;
 
 // An empty space: clock 0, nothing stored, live or waiting, and 1 as both next numbers.
 #[no_mangle]
-pub extern "C" fn space_empty(space: &mut [u32; 758])
+pub extern "C" fn space_empty(space: &mut Words)
     ensures { λ _. ⌜ (view (now (space .exit)) ≡ empty) × (now (space .exit) ≡ emptyWords) ⌝ }
 {
-    *space = [0; 758];
-    space[1] = 1;
-    space[2] = 1;
+    *space = [0; WORDS];
+    space[NEXT_ENTRY] = 1;
+    space[NEXT_TXN] = 1;
 }
 
 // What a frame does to the space: records + 65,536 × number. A refused frame gives the very same words back.
 #[no_mangle]
-pub extern "C" fn space_step(space: &mut [u32; 758], frame: &[u8], answers: &mut [u8]) -> u64
+pub extern "C" fn space_step(space: &mut Words, frame: &[u8], answers: &mut [u8]) -> u64
     ensures { λ r. ⌜ Stepped (now (space .entry)) (now (frame .entry)) (now (answers .entry))
         (now (space .exit)) r (now (answers .exit)) ⌝ }
 {

@@ -4,15 +4,16 @@ ghost use lib.ListN.{length};
 ghost use Rattle.rules.specs.Service.{service};
 ghost use Rattle.rules.specs.Words.{view};
 ghost use Rattle.space.specs.Does.{Does, first};
-use crate::holds::is_available;
-use crate::live::slot_of;
-use crate::rows::Words;
-use crate::rows::entry_at;
-use crate::rows::entry_count;
-use crate::rows::move_wait;
-use crate::rows::wait_at;
-use crate::rows::wait_count;
-use crate::sweep::hand_out;
+use words::rows::WAIT_COUNT;
+use holds::holds::is_available;
+use holds::live::slot_of;
+use words::rows::Words;
+use words::rows::entry_at;
+use words::rows::entry_count;
+use words::rows::move_wait;
+use words::rows::wait_at;
+use words::rows::wait_count;
+use holds::sweep::hand_out;
 use codec::put_record;
 use codec::records::found_record;
 
@@ -49,6 +50,6 @@ pub(crate) fn serve_waits(space: &mut Words, answers: &mut [u8], count: usize) -
         n += 1;
         i += 1;
     }
-    space[5] = n as u32;
+    space[WAIT_COUNT] = n as u32;
     done
 }

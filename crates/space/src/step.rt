@@ -23,7 +23,7 @@ use crate::apply::create;
 use crate::apply::find;
 use crate::apply::write;
 use crate::judge::judge;
-use crate::rows::Words;
+use words::rows::Words;
 use crate::tick::tick;
 use codec::decode;
 use codec::records::refused_record;

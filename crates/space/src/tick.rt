@@ -10,22 +10,27 @@ ghost use Rattle.rules.specs.Tick.{endedTxns, abortAll, closeWaits, tick};
 ghost use Rattle.rules.specs.Time.{reached};
 ghost use Rattle.rules.specs.Words.{view};
 ghost use Rattle.space.specs.Does.{Adds, Does, first};
-ghost use Rattle.space.specs.Live.{liveOf};
+ghost use Rattle.holds.specs.Live.{liveOf};
 ghost use Rattle.space.specs.Tick.{expired};
+use words::rows::WAIT_COUNT;
+use words::rows::CLOCK;
 use crate::answers::add_record;
 use crate::answers::plain_record;
-use crate::endings::abort_txn;
-use crate::live::Live;
-use crate::rows::Words;
-use crate::rows::move_wait;
-use crate::rows::set_clock;
-use crate::rows::txn_at;
-use crate::rows::txn_count;
-use crate::rows::wait_at;
-use crate::rows::wait_count;
+use holds::endings::abort_txn;
+use holds::live::Live;
+use words::rows::Words;
+use words::rows::move_wait;
+use words::rows::set_clock;
+use words::rows::txn_at;
+use words::rows::txn_count;
+use words::rows::wait_at;
+use words::rows::wait_count;
 use crate::service::serve_waits;
-use crate::sweep::drop_ended;
-use crate::sweep::reached_at;
+use holds::sweep::drop_ended;
+use holds::sweep::reached_at;
+use codec::numbers::KIND_EXCEPTION;
+use codec::numbers::KIND_NOTHING;
+use codec::numbers::KIND_TICKED;
 use rules::TxnId;
 
 // An exception for each transaction that ends now, by number.
@@ -33,7 +38,7 @@ pub(crate) fn put_exceptions(space: &Words, answers: &mut [u8], count: usize) ->
     requires { ⌜ 28 * (count + 8) ≤ length (now answers) ⌝ }
     ensures { λ r. ⌜ Adds (map exception (endedTxns (view (now (space .entry))))) (now (answers .entry)) (now (answers .exit)) count r ⌝ }
 {
-    let clock = space[0];
+    let clock = space[CLOCK];
     let n = txn_count(space);
     let mut done = count;
     let mut i: usize = 0;
@@ -41,7 +46,7 @@ pub(crate) fn put_exceptions(space: &Words, answers: &mut [u8], count: usize) ->
         let t = txn_at(space, i);
         let end = t.end;
         if reached_at(clock, end) {
-            let r = plain_record(8, t.party, t.id);
+            let r = plain_record(KIND_EXCEPTION, t.party, t.id);
             done = add_record(answers, done, r);
         }
         i += 1;
@@ -53,7 +58,7 @@ pub(crate) fn put_exceptions(space: &Words, answers: &mut [u8], count: usize) ->
 pub(crate) fn first_ended(space: &Words) -> Live
     ensures { λ r. ⌜ liveOf r ≡ findb (λ t. reached (view (now (space .entry)) .clock) (t .end)) (view (now (space .entry)) .txns) ⌝ }
 {
-    let clock = space[0];
+    let clock = space[CLOCK];
     let n = txn_count(space);
     let mut i: usize = 0;
     while i < n {
@@ -95,7 +100,7 @@ pub(crate) fn time_out(space: &mut Words, answers: &mut [u8], count: usize) -> u
     requires { ⌜ 28 * (count + length (view (now space) .waits)) ≤ length (now answers) ⌝ }
     ensures { λ r. ⌜ Does (closeWaits (view (now (space .entry)))) (now (space .exit)) (now (answers .entry)) (now (answers .exit)) count r ⌝ }
 {
-    let clock = space[0];
+    let clock = space[CLOCK];
     let waits = wait_count(space);
     let mut done = count;
     let mut i: usize = 0;
@@ -104,7 +109,7 @@ pub(crate) fn time_out(space: &mut Words, answers: &mut [u8], count: usize) -> u
         let w = wait_at(space, i);
         let deadline = w.deadline;
         if reached_at(clock, deadline) {
-            let r = plain_record(3, w.party, w.txn);
+            let r = plain_record(KIND_NOTHING, w.party, w.txn);
             done = add_record(answers, done, r);
         } else {
             move_wait(space, i, n);
@@ -112,7 +117,7 @@ pub(crate) fn time_out(space: &mut Words, answers: &mut [u8], count: usize) -> u
         }
         i += 1;
     }
-    space[5] = n as u32;
+    space[WAIT_COUNT] = n as u32;
     done
 }
 
@@ -122,9 +127,9 @@ pub(crate) fn tick(space: &mut Words, answers: &mut [u8]) -> usize
     requires { ⌜ (view (now space) .clock < lastClock) × (stepArea ≤ length (now answers)) ⌝ }
     ensures { λ r. ⌜ Does (tick first (view (now (space .entry)))) (now (space .exit)) (now (answers .entry)) (now (answers .exit)) 0 r ⌝ }
 {
-    let clock = space[0];
+    let clock = space[CLOCK];
     set_clock(space, clock + 1);
-    let own = plain_record(9, 0, TxnId(0));
+    let own = plain_record(KIND_TICKED, 0, TxnId(0));
     let count = add_record(answers, 0, own);
     let count = expire(space, answers, count);
     drop_ended(space);

@@ -9,8 +9,8 @@ use Rattle.rules.specs.State.{Model}
 use Rattle.rules.specs.LookUp.{answerFound}
 use Rattle.rules.specs.Requests.{frameOf}
 use Rattle.rules.specs.Words.{view}
-use Rattle.space.specs.Find.{matchOf}
-use Rattle.space.specs.HandOut.{handedOut}
+use Rattle.holds.specs.Find.{matchOf}
+use Rattle.holds.specs.HandOut.{handedOut}
 use Rattle.space.proofs.DoesLaws.{does-adds, does-as}
 use Rattle.space.proofs.LookUpLaws.{ends-as, missing-number, missing-answer, found-number, found-answer}
 use Rattle.space.proofs.PassedLaws.{find-in-time}

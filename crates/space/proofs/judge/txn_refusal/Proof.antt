@@ -4,7 +4,7 @@ use mathlib.Core.Path.{sym, ap, _∙_}
 use borrow.Author.Tests.{not-true, not-false, eq-eqb, ne-eqb}
 use Rattle.rules.specs.Words.{view}
 use Rattle.space.specs.Judge.{inTxnRefusal}
-use Rattle.space.specs.Live.{liveOf}
+use Rattle.holds.specs.Live.{liveOf}
 use Rattle.space.proofs.JudgeLaws.{live-none, live-some}
 use Rattle.space.proofs.judge.txn_refusal.Statement.{statement}
 use Rattle.space.proofs.judge.txn_refusal.Tie as tie

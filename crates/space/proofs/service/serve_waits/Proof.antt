@@ -9,7 +9,7 @@ use lib.ListN.{length, take, drop, length-take, length-drop, length-set}
 use Rattle.rules.specs.Records.{recordBytes}
 use Rattle.rules.specs.Words.{waitCount}
 use Rattle.codec.proofs.FrontLaws.{put-fits}
-use Rattle.space.proofs.SearchLaws.{none-for-none, none-for-more, picked, none-picked}
+use Rattle.holds.proofs.SearchLaws.{none-for-none, none-for-more, picked, none-picked}
 use Rattle.space.proofs.ServiceLaws.{Turns, turns-none, turns-at, turn-length, turn-room, turn-found, turn-waits, turns-done, Looking}
 use Rattle.space.proofs.service.serve_waits.Statement.{statement}
 use Rattle.space.proofs.service.serve_waits.Tie as tie

@@ -3,7 +3,7 @@ use mathlib.Core.Path.{refl, sym, ap, _∙_}
 use borrow.Author.Needs.{needs}
 use lib.ListN.{length}
 use Rattle.rules.specs.Words.{view}
-use Rattle.space.specs.Live.{liveOf}
+use Rattle.holds.specs.Live.{liveOf}
 use Rattle.space.proofs.TickLaws.{Aborting, aborting-more, aborting-fewer, aborting-done}
 use Rattle.space.proofs.tick.abort_ended.Statement.{statement}
 use Rattle.space.proofs.tick.abort_ended.Tie as tie

@@ -4,7 +4,7 @@ use mathlib.Core.Path.{sym, _∙_}
 use native.Mathlib.Omega.{arith}
 use borrow.Author.Needs.{needs}
 use Rattle.rules.specs.Words.{view}
-use Rattle.space.proofs.LiveLaws.{NoneIn, none-in-none, none-more, txn-found, txn-missing}
+use Rattle.holds.proofs.LiveLaws.{NoneIn, none-in-none, none-more, txn-found, txn-missing}
 use Rattle.space.proofs.TickLaws.{ends}
 use Rattle.space.proofs.tick.first_ended.Statement.{statement}
 use Rattle.space.proofs.tick.first_ended.Tie as tie

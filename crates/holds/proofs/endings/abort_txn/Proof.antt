@@ -1,0 +1,16 @@
+-- `space::abort_txn` meets its contract. Assumes nothing.
+use borrow.Author.Needs.{needs}
+use Rattle.holds.proofs.LeaveLaws.{aborted-model}
+use Rattle.holds.proofs.endings.abort_txn.Statement.{statement}
+use Rattle.holds.proofs.endings.abort_txn.Tie as tie
+
+returns : tie.Need-returns
+returns c =
+    let a = c .before .before .before .before .before .before .before .before .args in
+    aborted-model (a .space .now) (a .id) _ _ _ _ (c .before .before .before .before .before .before .slot-of .ensures .0)
+    (c .before .before .before .before .pass-over .ensures .0) (c .before .before .drop-waits .ensures) (c .remove-txn .ensures)
+
+pub abort-txn-spec : {M : Type 1} → statement M
+abort-txn-spec =
+    tie.close
+    (tie.spec (λ c κs. search needs) (λ c κs. search needs) (λ c κs. search needs) (λ c κs. search needs) returns)

@@ -1,0 +1,14 @@
+-- `space::commit_txn` meets its contract. Assumes nothing.
+use borrow.Author.Needs.{needs}
+use Rattle.holds.proofs.HandLaws.{committed-model}
+use Rattle.holds.proofs.endings.commit_txn.Statement.{statement}
+use Rattle.holds.proofs.endings.commit_txn.Tie as tie
+
+returns : tie.Need-returns
+returns c =
+    let a = c .before .before .before .before .before .before .args in
+    committed-model (a .space .now) (a .id) _ _ _ (c .before .before .before .before .slot-of .ensures .0) (c .before .before .pass-over .ensures .0) (c .remove-txn .ensures)
+
+pub commit-txn-spec : {M : Type 1} → statement M
+commit-txn-spec =
+    tie.close (tie.spec (λ c κs. search needs) (λ c κs. search needs) (λ c κs. search needs) returns)

@@ -1,0 +1,26 @@
+-- `space::slot_of` meets its contract. Assumes nothing.
+use borrow.Author.Needs.{needs}
+use mathlib.Core.Path.{_≡_, ap, sym, _∙_, subst}
+use Prim.Native.Nat.{_≤_}
+use lib.Dec.{lit<}
+use Rattle.holds.specs.Live.{slotOf, liveOf}
+use Rattle.holds.proofs.live.slot_of.Statement.{statement}
+use Rattle.holds.proofs.live.slot_of.Tie as tie
+use Rattle.holds.proofs.live.slot_of.Reads as reads
+use Rattle.holds.proofs.live.slot_of.Lts as lts
+use Rattle.holds.proofs.live.find_txn.Reads as find-txn-reads
+
+returns : tie.Need-returns
+returns c =
+    let f = c .before .before .before .find-txn .ensures in
+    let e = c .before .live .given .1 in
+    (ap slotOf (ap liveOf (sym e) ∙ f .live), subst (λ r. slotOf (liveOf r) ≤ 8) e (f .low))
+
+returns-2 : tie.Need-returns-2
+returns-2 c =
+    let f = c .before .before .find-txn .ensures in
+    let e = c .enum-told .given .1 in
+    (ap slotOf (ap liveOf (sym e) ∙ f .live), lit< tt)
+
+pub slot-of-spec : {M : Type 1} → statement M
+slot-of-spec = tie.close (tie.spec (λ c κs. search needs) (λ c. search needs) (λ c. search needs) returns returns-2)

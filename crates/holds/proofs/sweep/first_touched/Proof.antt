@@ -1,0 +1,48 @@
+-- `space::sweep::first_touched` meets its contract. Assumes nothing.
+use mathlib.Core.Path.{sym, subst}
+use native.Mathlib.Omega.{arith}
+use borrow.Author.Needs.{needs}
+use Rattle.holds.specs.Sweep.{Still}
+use Rattle.holds.proofs.SweepLaws.{still-remove, still-mark}
+use Rattle.holds.proofs.sweep.first_touched.Statement.{statement}
+use Rattle.holds.proofs.sweep.first_touched.Tie as tie
+
+returns : tie.Need-returns
+returns c = (omega arith, λ k l. absurd (omega arith))
+
+returns-2 : tie.Need-returns-2
+returns-2 c = (omega arith, λ k l. absurd (omega arith))
+
+returns-3 : tie.Need-returns-3
+returns-3 c = (omega arith, λ k l. absurd (omega arith))
+
+returns-4 : tie.Need-returns-4
+returns-4 c =
+    let a = c .before .before .before .before .args in
+    let s = c .before .before .s .given in
+    let r = c .row-of .result in
+    (c .row-of .ensures .0, subst (λ v. Still v (a .space .now) r) (sym (s .1)) (still-remove (s .0 .0) (a .space .now) r (c .row-of .ensures .1)))
+
+returns-5 : tie.Need-returns-5
+returns-5 c =
+    let a = c .before .before .before .before .args in
+    let s = c .before .before .s2 .given in
+    let r = c .row-of2 .result in
+    (c .row-of2 .ensures .0, subst (λ v. Still v (a .space .now) r) (sym (s .1)) (still-mark (s .0 .0) _ _ _ (a .space .now) r (c .row-of2 .ensures .1)))
+
+pub first-touched-spec : {M : Type 1} → statement M
+first-touched-spec =
+    tie.close
+    (tie.spec
+    (λ c. search needs)
+    (λ c. search needs)
+    (λ c. search needs)
+    (λ c. search needs)
+    (λ c κs. search needs)
+    (λ c. search needs)
+    (λ c κs. search needs)
+    returns
+    returns-2
+    returns-3
+    returns-4
+    returns-5)

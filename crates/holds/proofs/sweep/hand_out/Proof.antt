@@ -1,0 +1,45 @@
+-- `space::hand_out` meets its contract. Assumes nothing.
+use borrow.Author.Needs.{needs}
+use mathlib.Core.Bool.{not}
+use mathlib.Core.Path.{sym, _∙_}
+use borrow.Author.Tests.{not-false, eqb-true}
+use lib.Dec.{eqb}
+use Rattle.rules.specs.LookUp.{removes}
+use Rattle.rules.proofs.StepCases.{or-left, or-right}
+use Rattle.holds.proofs.HandLaws.{handed-removed, handed-marked, handed-unmarked}
+use Rattle.holds.proofs.sweep.hand_out.Statement.{statement}
+use Rattle.holds.proofs.sweep.hand_out.Tie as tie
+
+returns : tie.Need-returns
+unfolding removes
+returns c =
+    let a = c .before .before .before .before .before .before .before .args in
+    let t = sym (c .before .before .before .is-removed .ensures) ∙ c .before .before .if1 .taken in
+    (c .pass-over .ensures .0 ∙ handed-removed (a .space .now) (a .w) (a .e) t, c .pass-over .ensures .1)
+
+returns-2 : tie.Need-returns-2
+unfolding removes
+returns-2 c =
+    let a = c .before .before .before .before .before .before .before .before .before .args in
+    let t = sym (c .before .before .before .before .before .is-removed .ensures) ∙ c .before .before .before .before .if1 .left in
+    (c .pass-over2 .ensures .0 ∙ handed-marked (a .space .now) (a .w) (a .e) (a .p) (c .before .before .before .before .before .before .before .before .before .pre .1) t, c .pass-over2 .ensures .1)
+
+returns-3 : tie.Need-returns-3
+returns-3 c =
+    let a = c .before .before .before .before .before .before .before .before .before .args in
+    let u = sym (c .before .before .before .is-marked .ensures) ∙ c .before .before .if2 .left in
+    let z = eqb-true (a .p) 8 (not-false (eqb (a .p) 8) (or-right (a .w .takes) (not (eqb (a .p) 8)) u)) in
+    (handed-unmarked (a .space .now) (a .w) (a .e) (a .p) (c .before .before .before .before .before .before .before .before .before .pre .1) z (or-left (a .w .takes) (not (eqb (a .p) 8)) u), c .entry-count .ensures .1)
+
+pub hand-out-spec : {M : Type 1} → statement M
+hand-out-spec =
+    tie.close
+    (tie.spec
+    (λ c κs. search needs)
+    (λ c κs. search needs)
+    returns
+    (λ c κs. search needs)
+    (λ c κs. search needs)
+    returns-2
+    (λ c κs. search needs)
+    returns-3)

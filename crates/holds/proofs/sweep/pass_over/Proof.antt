@@ -1,0 +1,67 @@
+-- `space::pass_over` meets its contract. The loop's invariant: the first i entries are gone through. Assumes nothing.
+use Prim.Native.Nat.{_≤_, _-_, _+_}
+use mathlib.Core.Logic.{⊎-elim}
+use mathlib.Core.Path.{sym, _∙_, subst₂}
+use native.Mathlib.Omega.{arith}
+use lib.ListN.{length-set}
+use borrow.Author.Needs.{needs}
+use Rattle.holds.proofs.SweepLaws.{Sweeping, sweep-still, sweep-kept, sweep-passed, sweep-done}
+use Rattle.holds.proofs.sweep.pass_over.Statement.{statement}
+use Rattle.holds.proofs.sweep.pass_over.Tie as tie
+
+abbrev Inv-loop : tie.InvT-loop
+Inv-loop space₀ s count first i₀ n₀ space i n = (i ≤ count) × Sweeping s space₀ space i n
+
+abbrev μ-loop : tie.MeasureT-loop
+μ-loop space₀ s count first i₀ n₀ space i n = count - i
+
+loop-holds : tie.Need-loop-holds Inv-loop μ-loop
+loop-holds c =
+    let a = c .before .before .before .before .args in
+    (c .first-touched .ensures .0, sweep-still (a .s) (a .space .now) _ (c .first-touched .ensures .1))
+
+keep-entry-requires : tie.Need-keep-entry-requires Inv-loop μ-loop
+keep-entry-requires c κs = (c .before .before .before .before .before .before .before .before .before .before .before .pre, omega (arith, c .before .before .before .before .before .before .loop .inv .1 .behind))
+
+loop-again : tie.Need-loop-again Inv-loop μ-loop
+loop-again c =
+    let a = c .before .before .before .before .before .before .before .before .before .before .args in
+    let l = c .before .before .before .before .before .loop in
+    let long = c .before .before .before .before .before .before .before .before .entry-count .ensures .1 in
+    let r = c .before .before .entry-at .ensures in
+    let k = c .before .keeps-entry .ensures in (
+      omega arith,
+      ⊎-elim
+          (λ w. subst₂ (λ x m. Sweeping (a .s) (a .space .now) x (l .i + 1) m) (sym (w .3)) (sym (w .4))
+          (sweep-kept (a .s) (a .space .now) (l .space) (l .i) (l .n) (l .inv .1) long (omega arith) _ r _ (w .2 .ensures) (sym k ∙ w .0 .taken)))
+          (λ w. subst₂ (λ x m. Sweeping (a .s) (a .space .now) x (l .i + 1) m) (sym (w .1)) (sym (w .2))
+          (sweep-passed (a .s) (a .space .now) (l .space) (l .i) (l .n) (l .inv .1) long (omega arith) _ r (sym k ∙ w .0 .left)))
+          (c .if1 .came),
+    )
+
+returns : tie.Need-returns Inv-loop μ-loop
+returns c =
+    let a = c .before .before .before .before .before .before .args in
+    let long = c .before .before .before .before .entry-count .ensures .1 in
+    let w = c .before .loop .inv .1 in
+    (sweep-done (a .s) _ _ (c .before .loop .i) _ long (omega arith) w, simp length-set (w .long ∙ long))
+
+pub pass-over-spec : {M : Type 1} → statement M
+pass-over-spec =
+    tie.close
+    (tie.spec
+    Inv-loop
+    μ-loop
+    (λ c κs. tt)
+    (λ c κs. omega arith)
+    loop-holds
+    (λ c κs. omega arith)
+    (λ c κs. tt)
+    keep-entry-requires
+    (λ c. omega arith)
+    (λ c. omega arith)
+    (λ c. omega arith)
+    loop-again
+    (λ c. omega arith)
+    (λ c. search needs)
+    returns)

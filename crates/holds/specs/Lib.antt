@@ -1,0 +1,6 @@
+-- Who holds what: searches, passes over the entries, transactions made and ended.
+pub mod Live
+pub mod Sweep
+pub mod HandOut
+pub mod Find
+pub mod Txns

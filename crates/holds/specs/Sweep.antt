@@ -1,0 +1,98 @@
+-- What a pass over the entries does: which it keeps, and how it changes those.
+use Prim.Native.Nat.{ℕ, _+_, _*_, _<_}
+use mathlib.Core.Bool.{Bool, true, false, not, cond}
+use mathlib.Core.Logic.{_⊎_}
+use mathlib.Core.Path.{_≡_}
+use mathlib.Core.List.{List, map}
+use lib.Dec.{eqb}
+use Rattle.rules.specs.declared.Entry.{Entry}
+use Rattle.rules.specs.declared.TxnId.{TxnId}
+use Rattle.rules.specs.Lists.{filterb}
+use Rattle.rules.specs.Time.{reached}
+use Rattle.rules.specs.State.{Model, withEntries}
+use Rattle.rules.specs.Holds.{addReader, dropReader}
+use Rattle.rules.specs.Transactions.{noTxn, privateTo, takenBy}
+use Rattle.rules.specs.Words.{entryFrom}
+use Rattle.words.specs.Rows.{putEntry}
+use Rattle.holds.specs.declared.sweep.Sweep.{Sweep}
+use Rattle.holds.specs.declared.sweep.Sweep.the-variants.{Expire, Commit, Abort, Remove, Mark}
+use Rattle.rules.specs.Words.{entriesAt, entryWidth}
+
+-- read holders with the one at place p added; 8: none is
+abbrev pub addAt : ℕ → ℕ → ℕ
+addAt p readers = cond (eqb p 8) readers (addReader p readers)
+
+-- or dropped
+abbrev pub dropAt : ℕ → ℕ → ℕ
+dropAt p readers = cond (eqb p 8) readers (dropReader p readers)
+
+-- an entry that is t's own no longer and that t, at place p, holds no longer
+unfoldable pub releasedAt : ℕ → ℕ → Entry → Entry
+releasedAt t p e =
+    record {
+      id = e .id;
+      fields = e .fields;
+      end = e .end;
+      «private_to» = cond (privateTo t e) noTxn (e .«private_to»);
+      «taken_by» = cond (takenBy t e) noTxn (e .«taken_by»);
+      readers = dropAt p (e .readers);
+    }
+
+-- with the hold of the transaction t at place p
+unfoldable pub heldAt : Bool → TxnId → ℕ → Entry → Entry
+heldAt takes t p e =
+    record {
+      id = e .id;
+      fields = e .fields;
+      end = e .end;
+      «private_to» = e .«private_to»;
+      «taken_by» = cond takes t (e .«taken_by»);
+      readers = cond takes (dropAt p (e .readers)) (addAt p (e .readers));
+    }
+
+-- as it stays when it is handed out: a transaction's own private entry, or a committed one outside transactions, gets no mark
+unfoldable pub markedAt : Bool → TxnId → ℕ → Entry → Entry
+markedAt takes t p e = cond (eqb (e .«private_to» .0) (t .0)) e (heldAt takes t p e)
+
+abbrev pub keeps : Sweep → Entry → Bool
+keeps (Expire clock) e = not (reached clock (e .end))
+keeps (Commit t p) e = not (takenBy (t .0) e)
+keeps (Abort t p) e = not (privateTo (t .0) e)
+keeps (Remove n) e = not (eqb (e .id .0) (n .0))
+keeps (Mark n takes t p) e = true
+
+abbrev pub changes : Sweep → Entry → Entry
+changes (Expire clock) e = e
+changes (Commit t p) e = releasedAt (t .0) p e
+changes (Abort t p) e = releasedAt (t .0) p e
+changes (Remove n) e = e
+changes (Mark n takes t p) e = cond (eqb (e .id .0) (n .0)) (markedAt takes t p e) e
+
+-- the place that it goes by, at most 8
+abbrev pub slotIn : Sweep → ℕ
+slotIn (Expire clock) = 0
+slotIn (Commit t p) = p
+slotIn (Abort t p) = p
+slotIn (Remove n) = 0
+slotIn (Mark n takes t p) = p
+
+-- the words before and after the entry e of row i is kept at row n: it stands there as it is, or is written, changed
+abbrev pub KeptAt : Sweep → Entry → ℕ → ℕ → List ℕ → List ℕ → Type 0
+KeptAt s e i n ws ws′ =
+    ((n ≡ i) × (changes s e ≡ e) × (ws′ ≡ ws))
+    ⊎ ((changes s e .readers < 256) × (ws′ ≡ putEntry ws (entriesAt + entryWidth * n) (changes s e)))
+
+-- no row before r has an entry with the number
+abbrev pub OthersBefore : ℕ → List ℕ → ℕ → Type 0
+OthersBefore n ws r = (k : ℕ) → k < r → eqb (entryFrom ws (entriesAt + entryWidth * k) .id .0) n ≡ false
+
+-- every row before r is kept, as it is
+abbrev pub Still : Sweep → List ℕ → ℕ → Type 0
+Still s ws r =
+    (k : ℕ) → k < r → (keeps s (entryFrom ws (entriesAt + entryWidth * k)) ≡ true) × (changes s (entryFrom ws (entriesAt + entryWidth * k)) ≡ entryFrom ws (entriesAt + entryWidth * k))
+
+abbrev pub swept : Sweep → List Entry → List Entry
+swept s es = map (changes s) (filterb (keeps s) es)
+
+unfoldable pub sweepModel : Sweep → Model → Model
+sweepModel s m = withEntries (swept s (m .entries)) m

@@ -1,0 +1,56 @@
+// The search of the entries for a look-up.
+ghost use mathlib.Core.Path.{_≡_};
+ghost use Prim.Native.Nat.{_≤_};
+ghost use Rattle.rules.specs.Lists.{pick};
+ghost use Rattle.rules.specs.Words.{view};
+ghost use Rattle.rules.specs.Holds.{liveTxn, availableTo, someConflicts};
+ghost use Rattle.holds.specs.Live.{slotOf};
+ghost use Rattle.holds.specs.Find.{matchOf};
+use crate::holds::is_available;
+use crate::holds::is_conflicting;
+use words::rows::Words;
+use words::rows::entry_at;
+use words::rows::entry_count;
+use rules::Entry;
+use rules::LookUp;
+
+// An available entry, or none.
+pub enum Match {
+    At(Entry),
+    None,
+}
+
+// The first entry that is available to the look-up, whose transaction has the place p among the read holders.
+pub fn find_available(space: &Words, w: LookUp, p: u8) -> Match
+    requires { ⌜ (p ≤ 8) × (p ≡ slotOf (liveTxn (w .txn .0) (view (now space) .txns))) ⌝ }
+    ensures { λ r. ⌜ matchOf r
+        ≡ pick 0 (availableTo (view (now (space .entry)) .txns) w (view (now (space .entry)) .entries)) ⌝ }
+{
+    let n = entry_count(space);
+    let mut i: usize = 0;
+    while i < n {
+        let e = entry_at(space, i);
+        if is_available(e, w, p) {
+            return Match::At(e);
+        }
+        i += 1;
+    }
+    Match::None
+}
+
+// Whether some entry conflicts with the look-up.
+pub fn any_conflict(space: &Words, w: LookUp, p: u8) -> bool
+    requires { ⌜ (p ≤ 8) × (p ≡ slotOf (liveTxn (w .txn .0) (view (now space) .txns))) ⌝ }
+    ensures { λ r. ⌜ r ≡ someConflicts (view (now (space .entry)) .txns) w (view (now (space .entry)) .entries) ⌝ }
+{
+    let n = entry_count(space);
+    let mut i: usize = 0;
+    while i < n {
+        let e = entry_at(space, i);
+        if is_conflicting(e, w, p) {
+            return true;
+        }
+        i += 1;
+    }
+    false
+}

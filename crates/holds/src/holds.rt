@@ -1,0 +1,188 @@
+// Who holds what: templates, read holders, availability.
+ghost use mathlib.Core.Path.{_≡_};
+ghost use Prim.Native.Nat.{_^_, _≤_};
+ghost use Rattle.rules.specs.Template.{bit, agrees, matches};
+ghost use Rattle.rules.specs.Holds.{isOther};
+ghost use Rattle.holds.specs.HandOut.{availableAt, othersAt, conflictsAt};
+ghost use mathlib.Core.Bool.{not, _&&_, _||_};
+ghost use lib.Dec.{eqb};
+ghost use Rattle.holds.specs.Sweep.{addAt, dropAt};
+use rules::Entry;
+use rules::Fields;
+use rules::LookUp;
+use rules::TxnId;
+
+pub fn power(p: u8) -> u32
+    requires { ⌜ p ≤ 8 ⌝ }
+    ensures { λ r. ⌜ r ≡ 2 ^ p ⌝ }
+{
+    1 << p
+}
+
+// Whether bit p of x is 1.
+pub fn has_bit(x: u8, p: u8) -> bool
+    requires { ⌜ p ≤ 8 ⌝ }
+    ensures { λ r. ⌜ r ≡ bit p x ⌝ }
+{
+    let b = power(p);
+    let y = x as u32;
+    y / b % 2 == 1
+}
+
+// The read holders x without the one at place p; 8: none is dropped.
+pub fn drop_reader(x: u8, p: u8) -> u8
+    requires { ⌜ p ≤ 8 ⌝ }
+    ensures { λ r. ⌜ r ≡ dropAt p x ⌝ }
+{
+    if p == 8 {
+        return x;
+    }
+    if has_bit(x, p) {
+        let b = power(p);
+        let y = x as u32;
+        (y - b) as u8
+    } else {
+        x
+    }
+}
+
+// The read holders x with the one at place p; 8: none is added.
+pub fn add_reader(x: u8, p: u8) -> u8
+    requires { ⌜ p ≤ 8 ⌝ }
+    ensures { λ r. ⌜ r ≡ addAt p x ⌝ }
+{
+    if p == 8 {
+        return x;
+    }
+    if has_bit(x, p) {
+        x
+    } else {
+        let b = power(p);
+        let y = x as u32;
+        (y + b) as u8
+    }
+}
+
+// Whether the template asks nothing of the field at bit p, or the two are equal.
+pub fn field_agrees(mask: u8, p: u8, want: u32, have: u32) -> bool
+    requires { ⌜ p ≤ 8 ⌝ }
+    ensures { λ r. ⌜ r ≡ agrees (bit p mask) want have ⌝ }
+{
+    if has_bit(mask, p) { want == have } else { true }
+}
+
+pub fn fields_match(mask: u8, want: Fields, have: Fields) -> bool
+    ensures { λ r. ⌜ r ≡ matches mask want have ⌝ }
+{
+    let a = field_agrees(mask, 0, want.kind, have.kind);
+    let b = field_agrees(mask, 1, want.side, have.side);
+    let c = field_agrees(mask, 2, want.image, have.image);
+    let d = field_agrees(mask, 3, want.place, have.place);
+    if a {
+        if b { if c { d } else { false } } else { false }
+    } else {
+        false
+    }
+}
+
+// Whether no live transaction but the one at place p holds a read: no bit is 1, or one, at p.
+pub fn free_but(x: u8, p: u8) -> bool
+    requires { ⌜ p ≤ 8 ⌝ }
+    ensures { λ r. ⌜ r ≡ eqb (dropAt p x) 0 ⌝ }
+{
+    let n = u8::count_ones(x);
+    if n == 0 {
+        return true;
+    }
+    if n == 1 {
+        let z = u8::trailing_zeros(x);
+        let q = p as u32;
+        return z == q;
+    }
+    false
+}
+
+// Whether it is visible to a look-up in the transaction t.
+pub fn is_visible(private_to: TxnId, taken_by: TxnId, t: TxnId) -> bool
+    ensures { λ r. ⌜ r ≡ (eqb («taken_by» .0) 0 && (eqb («private_to» .0) 0 || eqb («private_to» .0) (t .0))) ⌝ }
+{
+    if taken_by.0 == 0 {
+        if private_to.0 == 0 {
+            true
+        } else {
+            private_to.0 == t.0
+        }
+    } else {
+        false
+    }
+}
+
+// Whether a read hold of another than the transaction at place p bars the look-up.
+pub fn is_barred(takes: bool, readers: u8, p: u8) -> bool
+    requires { ⌜ p ≤ 8 ⌝ }
+    ensures { λ r. ⌜ r ≡ (takes && not (eqb (dropAt p readers) 0)) ⌝ }
+{
+    if takes { !free_but(readers, p) } else { false }
+}
+
+// Whether the entry is available to the look-up, whose transaction has the place p among the read holders.
+pub fn is_available(e: Entry, w: LookUp, p: u8) -> bool
+    requires { ⌜ p ≤ 8 ⌝ }
+    ensures { λ r. ⌜ r ≡ availableAt p w e ⌝ }
+{
+    let mask = w.mask;
+    let want = w.fields;
+    let have = e.fields;
+    if fields_match(mask, want, have) {
+        let private_to = e.private_to;
+        let taken_by = e.taken_by;
+        let txn = w.txn;
+        if is_visible(private_to, taken_by, txn) {
+            let takes = w.takes;
+            let readers = e.readers;
+            return !is_barred(takes, readers, p);
+        }
+    }
+    false
+}
+
+// Whether n is the number of a transaction other than t.
+pub fn is_other(t: TxnId, n: TxnId) -> bool
+    ensures { λ r. ⌜ r ≡ isOther (t .0) (n .0) ⌝ }
+{
+    if n.0 == 0 { false } else { n.0 != t.0 }
+}
+
+// Whether another transaction than the look-up's has the entry: it is private to it, take-held by it, or (for a take) read-held.
+pub fn is_others(e: Entry, w: LookUp, p: u8) -> bool
+    requires { ⌜ p ≤ 8 ⌝ }
+    ensures { λ r. ⌜ r ≡ othersAt p w e ⌝ }
+{
+    let txn = w.txn;
+    let private_to = e.private_to;
+    if is_other(txn, private_to) {
+        return true;
+    }
+    let taken_by = e.taken_by;
+    if is_other(txn, taken_by) {
+        return true;
+    }
+    let takes = w.takes;
+    let readers = e.readers;
+    is_barred(takes, readers, p)
+}
+
+// Whether the entry conflicts with the look-up. Where another transaction has it, it is not available: that needs no test.
+pub fn is_conflicting(e: Entry, w: LookUp, p: u8) -> bool
+    requires { ⌜ p ≤ 8 ⌝ }
+    ensures { λ r. ⌜ r ≡ conflictsAt p w e ⌝ }
+{
+    let mask = w.mask;
+    let want = w.fields;
+    let have = e.fields;
+    if fields_match(mask, want, have) {
+        is_others(e, w, p)
+    } else {
+        false
+    }
+}

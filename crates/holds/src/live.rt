@@ -1,0 +1,66 @@
+// The live transactions.
+ghost use mathlib.Core.Path.{_≡_};
+ghost use Prim.Native.Nat.{_≤_};
+ghost use Rattle.rules.specs.State.{withTxns};
+ghost use Rattle.rules.specs.Words.{view};
+ghost use Rattle.holds.specs.Live.{Finds, slotOf};
+ghost use Rattle.rules.specs.Holds.{liveTxn};
+ghost use Rattle.rules.specs.Transactions.{withoutTxn};
+use words::rows::TXN_COUNT;
+use words::rows::Words;
+use words::rows::move_txn;
+use words::rows::txn_at;
+use words::rows::txn_count;
+use rules::Txn;
+use rules::TxnId;
+
+// A live transaction, or none.
+pub enum Live {
+    At(Txn),
+    None,
+}
+
+// The live transaction with a number.
+pub fn find_txn(space: &Words, id: TxnId) -> Live
+    ensures { λ r. ⌜ Finds (now (space .entry)) (id .0) r ⌝ }
+{
+    let n = txn_count(space);
+    let mut i: usize = 0;
+    while i < n {
+        let t = txn_at(space, i);
+        if t.id.0 == id.0 {
+            return Live::At(t);
+        }
+        i += 1;
+    }
+    Live::None
+}
+
+// The place of a live transaction among the read holders, or 8 where the number is none's.
+pub fn slot_of(space: &Words, id: TxnId) -> u8
+    ensures { λ r. ⌜ (r ≡ slotOf (liveTxn (id .0) (view (now (space .entry)) .txns))) × (r ≤ 8) ⌝ }
+{
+    let live = find_txn(space, id);
+    match live {
+        Live::At(t) => t.slot,
+        Live::None => 8,
+    }
+}
+
+// The transaction is live no longer.
+pub fn remove_txn(space: &mut Words, id: TxnId)
+    ensures { λ _. ⌜ view (now (space .exit)) ≡ withTxns (withoutTxn (id .0) (view (now (space .entry)) .txns)) (view (now (space .entry))) ⌝ }
+{
+    let count = txn_count(space);
+    let mut i: usize = 0;
+    let mut n: usize = 0;
+    while i < count {
+        let t = txn_at(space, i);
+        if t.id.0 != id.0 {
+            move_txn(space, i, n);
+            n += 1;
+        }
+        i += 1;
+    }
+    space[TXN_COUNT] = n as u32;
+}

@@ -1,0 +1,288 @@
+// One pass over the entries: which are kept, and how those are changed.
+ghost use mathlib.Core.Path.{_≡_};
+ghost use Prim.Native.Nat.{_≤_, _<_};
+ghost use lib.ListN.{length};
+ghost use Rattle.rules.specs.Tick.{dropEnded};
+ghost use Rattle.rules.specs.Words.{view, spaceWords};
+ghost use Rattle.holds.specs.Live.{slotOf};
+ghost use Rattle.holds.specs.HandOut.{handedOut};
+ghost use Rattle.rules.specs.Holds.{liveTxn};
+ghost use mathlib.Core.Bool.{true, not, cond, _&&_, _||_};
+ghost use lib.Dec.{eqb};
+ghost use Rattle.rules.specs.Transactions.{noTxn};
+ghost use Rattle.rules.specs.Time.{reached};
+ghost use Rattle.holds.specs.Sweep.{releasedAt, markedAt, keeps, changes, slotIn, KeptAt, OthersBefore, Still, sweepModel};
+use words::rows::ENTRY_COUNT;
+use words::rows::CLOCK;
+use crate::holds::add_reader;
+use crate::holds::drop_reader;
+use crate::holds::has_bit;
+use words::rows::Words;
+use words::rows::entry_at;
+use words::rows::entry_count;
+use words::rows::entry_id;
+use words::rows::put_entry;
+use rules::Entry;
+use rules::EntryId;
+use rules::LookUp;
+use rules::TxnId;
+use rules::Until;
+
+// Whether the clock has reached an end.
+pub fn reached_at(clock: u32, end: Until) -> bool
+    ensures { λ r. ⌜ r ≡ reached clock end ⌝ }
+{
+    match end {
+        Until::Tick(t) => t <= clock,
+        Until::Forever => false,
+    }
+}
+
+// A pass over the entries.
+pub enum Sweep {
+    // Those whose lease has ended at the clock go.
+    Expire(u32),
+    // The transaction, at its place, commits: what it has taken goes, the rest is released.
+    Commit(TxnId, u8),
+    // It aborts: what it has written goes, the rest is released.
+    Abort(TxnId, u8),
+    // The entry with the number goes.
+    Remove(EntryId),
+    // It gets the mark of a read, or of a take, by the transaction at its place.
+    Mark(EntryId, bool, TxnId, u8),
+}
+
+pub fn keeps_entry(s: Sweep, e: Entry) -> bool
+    ensures { λ r. ⌜ r ≡ keeps s e ⌝ }
+{
+    match s {
+        Sweep::Expire(clock) => {
+            let end = e.end;
+            !reached_at(clock, end)
+        }
+        Sweep::Commit(t, _) => e.taken_by.0 != t.0,
+        Sweep::Abort(t, _) => e.private_to.0 != t.0,
+        Sweep::Remove(n) => e.id.0 != n.0,
+        Sweep::Mark(_, _, _, _) => true,
+    }
+}
+
+// A transaction's number, or 0 in place of t.
+pub fn cleared(x: TxnId, t: TxnId) -> TxnId
+    ensures { λ r. ⌜ r ≡ cond (eqb (x .0) (t .0)) noTxn x ⌝ }
+{
+    if x.0 == t.0 { TxnId(0) } else { x }
+}
+
+pub fn release(e: Entry, t: TxnId, p: u8) -> Entry
+    requires { ⌜ p ≤ 8 ⌝ }
+    ensures { λ r. ⌜ r ≡ releasedAt (t .0) p e ⌝ }
+{
+    let private_to = cleared(e.private_to, t);
+    let taken_by = cleared(e.taken_by, t);
+    let readers = drop_reader(e.readers, p);
+    let id = e.id;
+    let fields = e.fields;
+    let end = e.end;
+    Entry {
+        id,
+        fields,
+        end,
+        private_to,
+        taken_by,
+        readers,
+    }
+}
+
+pub fn mark(e: Entry, takes: bool, t: TxnId, p: u8) -> Entry
+    requires { ⌜ p ≤ 8 ⌝ }
+    ensures { λ r. ⌜ r ≡ markedAt takes t p e ⌝ }
+{
+    if e.private_to.0 == t.0 {
+        return e;
+    }
+    let id = e.id;
+    let fields = e.fields;
+    let end = e.end;
+    let private_to = e.private_to;
+    if takes {
+        let readers = drop_reader(e.readers, p);
+        Entry {
+            id,
+            fields,
+            end,
+            private_to,
+            taken_by: t,
+            readers,
+        }
+    } else {
+        let readers = add_reader(e.readers, p);
+        let taken_by = e.taken_by;
+        Entry {
+            id,
+            fields,
+            end,
+            private_to,
+            taken_by,
+            readers,
+        }
+    }
+}
+
+pub fn change_entry(s: Sweep, e: Entry) -> Entry
+    requires { ⌜ slotIn s ≤ 8 ⌝ }
+    ensures { λ r. ⌜ r ≡ changes s e ⌝ }
+{
+    match s {
+        Sweep::Expire(_) => e,
+        Sweep::Commit(t, p) => release(e, t, p),
+        Sweep::Abort(t, p) => release(e, t, p),
+        Sweep::Remove(_) => e,
+        Sweep::Mark(n, takes, t, p) => {
+            if e.id.0 == n.0 {
+                mark(e, takes, t, p)
+            } else {
+                e
+            }
+        }
+    }
+}
+
+// Whether the transaction t, at place p, has nothing to release: the entry is not its own, and it holds none on it.
+pub fn is_free_of(e: Entry, t: TxnId, p: u8) -> bool
+    requires { ⌜ p ≤ 8 ⌝ }
+    ensures { λ r. ⌜ (r ≡ true → releasedAt (t .0) p e ≡ e) ⌝ }
+{
+    if e.private_to.0 == t.0 {
+        return false;
+    }
+    if e.taken_by.0 == t.0 {
+        return false;
+    }
+    !has_bit(e.readers, p)
+}
+
+// Whether the pass leaves the entry as it is.
+pub fn is_untouched(s: Sweep, e: Entry) -> bool
+    requires { ⌜ slotIn s ≤ 8 ⌝ }
+    ensures { λ r. ⌜ (r ≡ true → changes s e ≡ e) ⌝ }
+{
+    match s {
+        Sweep::Expire(_) => true,
+        Sweep::Commit(t, p) => is_free_of(e, t, p),
+        Sweep::Abort(t, p) => is_free_of(e, t, p),
+        Sweep::Remove(_) => true,
+        Sweep::Mark(n, _, _, _) => e.id.0 != n.0,
+    }
+}
+
+// Whether it also stays in its row.
+pub fn is_in_place(s: Sweep, e: Entry, i: usize, n: usize) -> bool
+    requires { ⌜ slotIn s ≤ 8 ⌝ }
+    ensures { λ r. ⌜ (r ≡ true → (n ≡ i) × (changes s e ≡ e)) ⌝ }
+{
+    if n == i { is_untouched(s, e) } else { false }
+}
+
+// The entry of row i, which is kept, stands at row n. A row that stays as it is is not written.
+pub fn keep_entry(space: &mut Words, s: Sweep, e: Entry, i: usize, n: usize)
+    requires { ⌜ (slotIn s ≤ 8) × (n < 64) ⌝ }
+    ensures { λ _. ⌜ KeptAt s e i n (now (space .entry)) (now (space .exit)) ⌝ }
+{
+    if is_in_place(s, e, i, n) {
+        return;
+    }
+    let x = change_entry(s, e);
+    put_entry(space, n, x);
+}
+
+// The first of the rows whose entry has the number, or else their count.
+pub fn row_of(space: &Words, id: EntryId, count: usize) -> usize
+    requires { ⌜ count ≤ 64 ⌝ }
+    ensures { λ r. ⌜ (r ≤ count) × OthersBefore (id .0) (now (space .entry)) r ⌝ }
+{
+    let mut i: usize = 0;
+    while i < count {
+        if entry_id(space, i) == id.0 {
+            return i;
+        }
+        i += 1;
+    }
+    count
+}
+
+// A row before which the pass leaves every row as it is.
+pub fn first_touched(space: &Words, s: Sweep, count: usize) -> usize
+    requires { ⌜ count ≤ 64 ⌝ }
+    ensures { λ r. ⌜ (r ≤ count) × Still s (now (space .entry)) r ⌝ }
+{
+    match s {
+        Sweep::Expire(_) => 0,
+        Sweep::Commit(_, _) => 0,
+        Sweep::Abort(_, _) => 0,
+        Sweep::Remove(n) => row_of(space, n, count),
+        Sweep::Mark(n, _, _, _) => row_of(space, n, count),
+    }
+}
+
+// One pass over the entries, in place.
+pub fn pass_over(space: &mut Words, s: Sweep)
+    requires { ⌜ slotIn s ≤ 8 ⌝ }
+    ensures { λ _. ⌜ (view (now (space .exit)) ≡ sweepModel s (view (now (space .entry)))) × (length (now (space .exit)) ≡ spaceWords) ⌝ }
+{
+    let count = entry_count(space);
+    let first = first_touched(space, s, count);
+    let mut i = first;
+    let mut n = first;
+    while i < count {
+        let e = entry_at(space, i);
+        if keeps_entry(s, e) {
+            keep_entry(space, s, e, i, n);
+            n += 1;
+        }
+        i += 1;
+    }
+    space[ENTRY_COUNT] = n as u32;
+}
+
+// Whether handing the entry out removes it.
+pub fn is_removed(takes: bool, private_to: TxnId, t: TxnId) -> bool
+    ensures { λ r. ⌜ r ≡ (takes && eqb («private_to» .0) (t .0)) ⌝ }
+{
+    if takes { private_to.0 == t.0 } else { false }
+}
+
+// Whether handing out leaves a mark where it does not remove: a read outside transactions leaves none.
+pub fn is_marked(takes: bool, p: u8) -> bool
+    ensures { λ r. ⌜ r ≡ (takes || not (eqb p 8)) ⌝ }
+{
+    if takes { true } else { p != 8 }
+}
+
+// The entry is handed out to the look-up, whose transaction has the place p among the read holders.
+pub fn hand_out(space: &mut Words, e: Entry, w: LookUp, p: u8)
+    requires { ⌜ (p ≤ 8) × (p ≡ slotOf (liveTxn (w .txn .0) (view (now space) .txns))) ⌝ }
+    ensures { λ _. ⌜ (view (now (space .exit)) ≡ handedOut w e (view (now (space .entry)))) × (length (now (space .exit)) ≡ spaceWords) ⌝ }
+{
+    let id = e.id;
+    let private_to = e.private_to;
+    let txn = w.txn;
+    let takes = w.takes;
+    if is_removed(takes, private_to, txn) {
+        pass_over(space, Sweep::Remove(id));
+        return;
+    }
+    if is_marked(takes, p) {
+        pass_over(space, Sweep::Mark(id, takes, txn, p));
+        return;
+    }
+    entry_count(space);
+}
+
+// Stored entries that end now are removed.
+pub fn drop_ended(space: &mut Words)
+    ensures { λ _. ⌜ view (now (space .exit)) ≡ dropEnded (view (now (space .entry))) ⌝ }
+{
+    let clock = space[CLOCK];
+    pass_over(space, Sweep::Expire(clock));
+}

@@ -1,0 +1,74 @@
+// Transactions made.
+ghost use mathlib.Core.Path.{_≡_};
+ghost use Prim.Native.Nat.{_<_};
+ghost use lib.Dec.{eqb};
+ghost use Rattle.rules.specs.declared.Request.the-variants.{Create};
+ghost use Rattle.rules.specs.Lists.{anyb};
+ghost use Rattle.rules.specs.Requests.{frameOf};
+ghost use Rattle.rules.specs.Transactions.{freeSlot, create};
+ghost use Rattle.rules.specs.Words.{view};
+ghost use Rattle.holds.specs.Txns.{Creatable};
+use words::rows::NEXT_TXN;
+use words::rows::CLOCK;
+use words::rows::Words;
+use words::rows::add_txn;
+use words::rows::set_next_txn;
+use words::rows::txn_at;
+use words::rows::txn_count;
+use words::time::end_of;
+use rules::Txn;
+use rules::TxnId;
+
+// Whether a live transaction has the slot.
+pub fn has_slot(space: &Words, p: u8) -> bool
+    ensures { λ r. ⌜ r ≡ anyb (λ t. eqb (t .slot) p) (view (now (space .entry)) .txns) ⌝ }
+{
+    let n = txn_count(space);
+    let mut i: usize = 0;
+    while i < n {
+        let t = txn_at(space, i);
+        if t.slot == p {
+            return true;
+        }
+        i += 1;
+    }
+    false
+}
+
+// The first of the eight slots that no live transaction has; 0 where there is none.
+pub fn free_slot(space: &Words) -> u8
+    ensures { λ r. ⌜ (r ≡ freeSlot (view (now (space .entry)) .txns)) × (r < 8) ⌝ }
+{
+    let mut p: u8 = 0;
+    while p < 8 {
+        if !has_slot(space, p) {
+            return p;
+        }
+        p += 1;
+    }
+    0
+}
+
+// A transaction of the party's is made, with the next number and a free slot.
+pub fn create_txn(space: &mut Words, party: u8, lease: u32) -> TxnId
+    requires { ⌜ Creatable (view (now space)) lease ⌝ }
+    ensures made { λ _. ⌜ view (now (space .exit)) ≡ create (view (now (space .entry))) (frameOf (Create party lease)) .model ⌝ }
+    ensures numbered { λ r. ⌜ r .0 ≡ view (now (space .entry)) .nextTxn ⌝ }
+{
+    let clock = space[CLOCK];
+    let n = space[NEXT_TXN];
+    let end = end_of(clock, lease);
+    let slot = free_slot(space);
+    let id = TxnId(n);
+    add_txn(
+        space,
+        Txn {
+            id,
+            party,
+            end,
+            slot,
+        },
+    );
+    set_next_txn(space, n + 1);
+    id
+}

@@ -1,0 +1,69 @@
+-- A table after a row is written over, and its elements.
+use Prim.Native.Nat.{ℕ, zero, suc, _+_, _*_, _≤_, _<_}
+use mathlib.Core.Logic.{_≢_}
+use mathlib.Core.Path.{_≡_, refl, sym, ap, ap₂, _∙_}
+use mathlib.Core.List.{List, [], _∷_, _++_}
+use native.Mathlib.Omega.{arith}
+use native.Mathlib.Decide.{decLt}
+use lib.ListN.{length, getD, take, drop, set, List·getD-append}
+use lib.Seq.{set-append-left, set-at, set-out, getD-at, drop-cons, take-all, take-append-le}
+use Rattle.rules.specs.Words.{upTo, row, table}
+use Rattle.words.proofs.RowLaws.{upTo-ext, length-upTo, over, over-before, over-from, over-row, row-before, row-from, row-within}
+
+module _ {A : Type 0} (f : ℕ → A) where
+  pub getD-upTo : (n i : ℕ) (d : A) → i < n → getD (upTo f n) i d ≡ f i
+  getD-upTo zero i d h = absurd (omega arith)
+  getD-upTo (suc n) i d h = go (decLt i n) (λ l. getD-upTo n i d l)
+    where
+      go : Dec (i < n) → (i < n → getD (upTo f n) i d ≡ f i) → getD (upTo f n ++ (f n ∷ [])) i d ≡ f i
+      go (yes l) below = List·getD-append (upTo f n) (f n ∷ []) d i (omega (arith, length-upTo f n)) ∙ below l
+      go (no l) below =
+          let s : n ≡ i = omega arith in
+          getD-at (upTo f n) (f n) [] d i (length-upTo f n ∙ s) ∙ ap f s
+
+  -- the elements from i on
+  pub drop-upTo : (n i : ℕ) → i < n → drop i (upTo f n) ≡ f i ∷ drop (suc i) (upTo f n)
+  drop-upTo n i h =
+      drop-cons (upTo f n) i (f i) (omega (arith, length-upTo f n)) ∙ ap (λ x. x ∷ drop (suc i) (upTo f n)) (getD-upTo n i (f i) h)
+
+  -- the first n of them
+  pub take-upTo : (m n : ℕ) → n ≤ m → take n (upTo f m) ≡ upTo f n
+  take-upTo zero n h = let s : n ≡ 0 = omega arith in ap (λ k. take k []) s ∙ ap (upTo f) (sym s)
+  take-upTo (suc m) n h = go (decLt n (suc m)) (λ l. take-upTo m n l)
+    where
+      go : Dec (n < suc m) → (n ≤ m → take n (upTo f m) ≡ upTo f n) → take n (upTo f (suc m)) ≡ upTo f n
+      go (yes l) below = take-append-le n (upTo f m) (f m ∷ []) (omega (arith, length-upTo f m)) ∙ below (omega arith)
+      go (no l) below =
+          let s : n ≡ suc m = omega arith in
+          take-all n (upTo f (suc m)) (omega (arith, length-upTo f (suc m))) ∙ ap (upTo f) (sym s)
+
+-- a function that differs at k alone
+pub upTo-set : {A : Type 0} (f g : ℕ → A) (k : ℕ) (n : ℕ) → ((j : ℕ) → j ≢ k → g j ≡ f j) → upTo g n ≡ set (upTo f n) k (g k)
+upTo-set f g k zero h = refl
+upTo-set {A} f g k (suc n) h = go (decLt k n) (decLt n k) (upTo-set f g k n h)
+  where
+    go : Dec (k < n) → Dec (n < k) → upTo g n ≡ set (upTo f n) k (g k) → upTo g n ++ (g n ∷ []) ≡ set (upTo f n ++ (f n ∷ [])) k (g k)
+    go (yes l) r below =
+        ap₂ {C = List A} (λ a b. a ++ (b ∷ [])) below (h n (λ e. omega arith))
+        ∙ sym (set-append-left (upTo f n) (f n ∷ []) k (g k) (omega (arith, length-upTo f n)))
+    go (no l) (yes r) below =
+        ap₂ {C = List A} (λ a b. a ++ (b ∷ [])) (below ∙ set-out (upTo f n) k (g k) (omega (arith, length-upTo f n))) (h n (λ e. omega arith))
+        ∙ sym (set-out (upTo f (suc n)) k (g k) (omega (arith, length-upTo f (suc n))))
+    go (no l) (no r) below =
+        let s : n ≡ k = omega arith in
+        ap₂ {C = List A} (λ a b. a ++ (b ∷ [])) (below ∙ set-out (upTo f n) k (g k) (omega (arith, length-upTo f n))) (ap g s)
+        ∙ sym (set-at (upTo f n) (f n) [] (g k) k (length-upTo f n ∙ s))
+
+-- row k is written over: the table has it there
+pub table-set : {A : Type 0} (read : List ℕ → A) (b w n k : ℕ) (ws r : List ℕ) → length r ≡ w → b + w * k + w ≤ length ws
+    → table read b w n (over ws (b + w * k) r) ≡ set (table read b w n ws) k (read r)
+table-set read b w n k ws r e h =
+    upTo-set (λ j. read (row b w ws j)) (λ j. read (row b w (over ws (b + w * k) r) j)) k n (λ j d. ap read (other j (decLt j k) d))
+    ∙ ap (λ x. set (table read b w n ws) k (read x)) (over-row b w k ws r e h)
+  where
+    other : (j : ℕ) → Dec (j < k) → j ≢ k → row b w (over ws (b + w * k) r) j ≡ row b w ws j
+    other j (yes l) d =
+        row-before b w j (b + w * k) (over ws (b + w * k) r) ws (row-within w b j k l) (over-before ws (b + w * k) r (omega arith) (b + w * k) (omega arith))
+    other j (no l) d =
+        let past : b + w * k + w ≤ b + w * j = row-within w b k j (omega arith) in
+        row-from b w j (b + w * k + w) (over ws (b + w * k) r) ws past (over-from ws (b + w * k) r (omega arith) (b + w * k + w) (omega arith))

@@ -1,0 +1,47 @@
+-- `space::entry_at` meets its contract. Assumes nothing.
+use borrow.Author.Needs.{needs}
+use Rattle.words.proofs.rows.entry_at.Statement.{statement}
+use Rattle.words.proofs.rows.entry_at.Tie as tie
+use Rattle.words.proofs.rows.entry_at.Reads as reads
+use Rattle.words.proofs.rows.entry_at.Lts as lts
+use Rattle.words.proofs.rows.until_of.Reads as until-of-reads
+
+-- src/rt:41:1
+returns : tie.Need-returns
+returns c = rw (c .before .before .before .before .before .before .before .before .until-of .ensures)
+
+pub entry-at-spec : {M : Type 1} → statement M
+entry-at-spec =
+    tie.close
+    (tie.spec
+    (λ c. search needs)
+    (λ c. search needs)
+    (λ c. search needs)
+    (λ c. search needs)
+    (λ c. search needs)
+    (λ c κs. search needs)
+    (λ c. search needs)
+    (λ c. search needs)
+    (λ c. search needs)
+    (λ c. search needs)
+    (λ c. search needs)
+    (λ c. search needs)
+    (λ c. search needs)
+    (λ c. search needs)
+    (λ c. search needs)
+    (λ c. search needs)
+    (λ c. search needs)
+    (λ c. search needs)
+    (λ c. search needs)
+    (λ c. search needs)
+    (λ c. search needs)
+    (λ c. search needs)
+    (λ c. search needs)
+    (λ c. search needs)
+    (λ c. search needs)
+    (λ c. search needs)
+    (λ c. search needs)
+    (λ c. search needs)
+    (λ c. search needs)
+    (λ c. search needs)
+    returns)
