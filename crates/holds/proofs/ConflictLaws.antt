@@ -1,13 +1,14 @@
 -- Conflicts by the place of the look-up's transaction are the rules'.
 use Prim.Native.Nat.{ℕ}
 use mathlib.Core.Bool.{Bool, true, false, not, _&&_, _||_}
-use mathlib.Core.Path.{_≡_, refl, sym}
+use mathlib.Core.Path.{_≡_, refl, sym, ap, fun-ext}
 use mathlib.Core.List.{List}
 use lib.Dec.{eqb}
 use Rattle.rules.specs.declared.Entry.{Entry}
 use Rattle.rules.specs.declared.LookUp.{LookUp}
 use Rattle.rules.specs.Template.{matches}
-use Rattle.rules.specs.Holds.{liveTxn, readByOther, visible, conflicts}
+use Rattle.rules.specs.Lists.{anyb}
+use Rattle.rules.specs.Holds.{liveTxn, readByOther, visible, conflicts, someConflicts}
 use Rattle.rules.specs.Words.{view}
 use Rattle.holds.specs.Live.{slotOf}
 use Rattle.holds.specs.Sweep.{dropAt}
@@ -35,8 +36,9 @@ others-conflict p w e =
     another (matches (w .mask) (w .fields) (e .fields)) (eqb (e .«private_to» .0) 0) (eqb (e .«private_to» .0) (w .txn .0))
     (eqb (e .«taken_by» .0) 0) (eqb (e .«taken_by» .0) (w .txn .0)) (w .takes && not (eqb (dropAt p (e .readers)) 0))
 
-pub conflicts-of : (ws : List ℕ) (w : LookUp) (p : ℕ) → p ≡ slotOf (liveTxn (w .txn .0) (view ws .txns))
-    → (e : Entry) → conflicts (view ws .txns) w e ≡ conflictsAt p w e
+pub some-conflict : (ws : List ℕ) (w : LookUp) (p : ℕ) → p ≡ slotOf (liveTxn (w .txn .0) (view ws .txns))
+    → someConflicts (view ws .txns) w (view ws .entries) ≡ anyb (conflictsAt p w) (view ws .entries)
 unfolding conflicts conflictsAt othersAt readByOther
-conflicts-of ws w p q e =
-    rw (available-of (view ws .txns) w (live-low (w .txn .0) ws) e, drop-of (liveTxn (w .txn .0) (view ws .txns)) (e .readers) (live-low (w .txn .0) ws), sym q)
+some-conflict ws w p q =
+    ap (λ t. anyb t (view ws .entries))
+    (fun-ext (λ e. rw (available-of (view ws .txns) w (live-low (w .txn .0) ws) e, drop-of (liveTxn (w .txn .0) (view ws .txns)) (e .readers) (live-low (w .txn .0) ws), sym q)))

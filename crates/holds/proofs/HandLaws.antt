@@ -1,5 +1,5 @@
 -- Handing out by passes over the entries, and availability by places, are the rules'.
-use Prim.Native.Nat.{ℕ, zero, suc, _≤_, _<_, _%_}
+use Prim.Native.Nat.{ℕ, zero, suc, _<_}
 use mathlib.Core.Bool.{Bool, true, false, cond, not, _&&_}
 use mathlib.Core.Option.{Option, none, some}
 use mathlib.Core.Path.{_≡_, refl, sym, ap, ap₂, _∙_, fun-ext, subst}
@@ -11,22 +11,20 @@ use Rattle.rules.specs.declared.Entry.{Entry}
 use Rattle.rules.specs.declared.Txn.{Txn}
 use Rattle.rules.specs.declared.TxnId.{TxnId}
 use Rattle.rules.specs.declared.LookUp.{LookUp}
-use Rattle.rules.specs.Lists.{filterb, findb}
-use Rattle.rules.specs.Time.{reached}
+use Rattle.rules.specs.Lists.{filterb, findb, pick}
 use Rattle.rules.specs.State.{Model, withEntries, withTxns, withWaits}
-use Rattle.rules.specs.Holds.{liveTxn, addReader, dropReader, addReaderOf, dropReaderOf, readByOther, available, visible}
+use Rattle.rules.specs.Holds.{liveTxn, addReaderOf, dropReaderOf, readByOther, available, availableTo}
 use Rattle.rules.specs.LookUp.{handOut, removes, withHold, marked, isEntry}
 use Rattle.rules.specs.Transactions.{released, commit, abort, withoutTxn, takenBy, privateTo}
 use Rattle.rules.specs.Tick.{dropEnded}
-use Rattle.rules.proofs.ListLaws.{filter-all, none≢some}
+use Rattle.rules.proofs.ListLaws.{filter-all}
 use Rattle.rules.proofs.StepCases.{cond-cases}
-use Rattle.holds.specs.declared.sweep.Sweep.{Sweep}
 use Rattle.holds.specs.declared.sweep.Sweep.the-variants.{Expire, Commit, Abort, Remove, Mark}
-use Rattle.rules.specs.Words.{upTo, txnOf, txnFrom, txnCount, row, txns, view}
+use Rattle.rules.specs.Words.{upTo, txnOf, txnCount, row, txns, view}
 use Rattle.holds.specs.Live.{slotOf}
-use Rattle.holds.specs.Sweep.{addAt, dropAt, releasedAt, heldAt, markedAt, keeps, changes, swept, sweepModel}
+use Rattle.holds.specs.Sweep.{addAt, dropAt, releasedAt, heldAt, markedAt, swept, sweepModel}
 use Rattle.holds.specs.HandOut.{availableAt, handedOut}
-use Rattle.holds.proofs.FindLaws.{find-append-none, find-append-some}
+use Rattle.words.proofs.SearchLaws.{find-append-none, find-append-some, first-pick}
 use Rattle.rules.specs.Words.{txnsAt, txnWidth}
 
 -- ---- a live transaction's place is one of eight
@@ -100,6 +98,13 @@ abort-of t m l =
     ap (λ f. withEntries (map f (filterb (λ e. not (privateTo t e)) (m .entries))) (withTxns (withoutTxn t (m .txns)) (withWaits (filterb (λ w. not (eqb (w .txn .0) t)) (m .waits)) m)))
     (fun-ext (released-of (m .txns) t l))
 
+-- the first entry that is available, by the look-up's place
+pub first-available : (ws : List ℕ) (w : LookUp) (p : ℕ) → p ≡ slotOf (liveTxn (w .txn .0) (view ws .txns))
+    → pick 0 (availableTo (view ws .txns) w (view ws .entries)) ≡ findb (availableAt p w) (view ws .entries)
+first-available ws w p q =
+    first-pick (available (view ws .txns) w) (view ws .entries)
+    ∙ ap (λ t. findb t (view ws .entries)) (fun-ext (λ e. available-of (view ws .txns) w (live-low (w .txn .0) ws) e ∙ ap (λ k. availableAt k w e) (sym q)))
+
 -- ---- an entry handed out
 pub handed-removed : (ws : List ℕ) (w : LookUp) (e : Entry) → removes w e ≡ true → sweepModel (Remove (e .id)) (view ws) ≡ handedOut w e (view ws)
 unfolding sweepModel handedOut
@@ -156,3 +161,14 @@ committed-model ws t p m₁ m₂ q e f =
     ∙ ap (λ (m : Model). withTxns (withoutTxn (t .0) (m .txns)) m) e
     ∙ ap (λ k. withTxns (withoutTxn (t .0) (view ws .txns)) (sweepModel (Commit t k) (view ws))) q
     ∙ sym (commit-of (t .0) (view ws) (live-low (t .0) ws))
+
+-- the pass, the look-ups inside, and then the transaction is live no longer
+pub aborted-model : (ws : List ℕ) (t : TxnId) (p : ℕ) (m₁ m₂ m₃ : Model) → p ≡ slotOf (liveTxn (t .0) (view ws .txns))
+    → m₁ ≡ sweepModel (Abort t p) (view ws) → m₂ ≡ withWaits (filterb (λ w. not (eqb (w .txn .0) (t .0))) (m₁ .waits)) m₁
+    → m₃ ≡ withTxns (withoutTxn (t .0) (m₂ .txns)) m₂ → m₃ ≡ abort (t .0) (view ws)
+unfolding sweepModel
+aborted-model ws t p m₁ m₂ m₃ q e f g =
+    g
+    ∙ ap (λ (m : Model). withTxns (withoutTxn (t .0) (m .txns)) m) (f ∙ ap (λ (m : Model). withWaits (filterb (λ w. not (eqb (w .txn .0) (t .0))) (m .waits)) m) e)
+    ∙ ap (λ k. withTxns (withoutTxn (t .0) (view ws .txns)) (withWaits (filterb (λ w. not (eqb (w .txn .0) (t .0))) (view ws .waits)) (sweepModel (Abort t k) (view ws)))) q
+    ∙ sym (abort-of (t .0) (view ws) (live-low (t .0) ws))

@@ -1,10 +1,5 @@
 -- Laws that the proofs of several functions cite.
 pub mod BitLaws
-pub mod FindLaws
 pub mod HandLaws
 pub mod ConflictLaws
-pub mod SearchLaws
 pub mod SweepLaws
-pub mod LiveLaws
-pub mod SlotLaws
-pub mod LeaveLaws

@@ -1,37 +1,28 @@
 -- A pass over the entries, row by row.
-use Prim.Native.Nat.{ℕ, zero, suc, _+_, _*_, _≤_, _<_}
+use Prim.Native.Nat.{ℕ, zero, suc, _+_, _*_, _<_}
 use mathlib.Core.Bool.{Bool, true, false, cond, not}
 use mathlib.Core.Logic.{⊎-elim}
-use mathlib.Core.Path.{_≡_, refl, sym, ap, ap₂, _∙_, subst}
-use mathlib.Core.List.{List, [], _∷_, _++_, map, map-append, append-nil}
+use mathlib.Core.Path.{_≡_, refl, sym, ap, _∙_, subst}
+use mathlib.Core.List.{List}
 use native.Mathlib.Omega.{arith}
 use native.Mathlib.Numerals.{add-one}
-use native.Mathlib.Decide.{decLt}
-use borrow.Author.Tests.{eqb-false}
-use lib.Dec.{eqb, lit<, lit≤}
+use lib.Dec.{eqb}
 use lib.ListN.{length, getD, set}
-use lib.Seq.{getD-set-same, getD-set-other}
 use Rattle.rules.specs.declared.Entry.{Entry}
 use Rattle.rules.specs.declared.EntryId.{EntryId}
 use Rattle.rules.specs.declared.TxnId.{TxnId}
-use Rattle.rules.specs.Lists.{filterb}
-use Rattle.rules.proofs.ListLaws.{filter-append}
 use Rattle.rules.proofs.StepCases.{cond-cases}
-use Rattle.rules.specs.State.{Model, withEntries}
 use Rattle.rules.specs.Template.{bit}
 use Rattle.rules.specs.Holds.{dropReader}
 use Rattle.rules.specs.Transactions.{privateTo, takenBy}
 use Rattle.holds.specs.declared.sweep.Sweep.{Sweep}
 use Rattle.holds.specs.declared.sweep.Sweep.the-variants.{Expire, Commit, Abort, Remove, Mark}
-use Rattle.rules.specs.Words.{before, from, row, untilOf, untilWord, entryOf, entryFrom, entryCount, entries, view}
-use Rattle.words.specs.Rows.{putEntry, entryWords}
-use Rattle.holds.specs.Sweep.{dropAt, releasedAt, heldAt, markedAt, keeps, changes, KeptAt, OthersBefore, Still, swept, sweepModel}
-use Rattle.words.proofs.RowLaws.{over, over-length, over-before, over-from, over-row, set9-over, row-from, from-more, word-before}
-use Rattle.words.proofs.PutLaws.{put-over, put-more}
-use Rattle.words.proofs.CompactLaws.{Compacting, compact-start, compact-passed, compact-same, compact-kept}
-use Rattle.words.proofs.ViewLaws.{until-back, entry-row, entries-more, Storable, entry-back}
-use Rattle.words.proofs.StateLaws.{Kept, kept-entries, kept-count, kept-then, entries-before, entries-from, set-from, view-entries}
-use Rattle.rules.specs.Words.{entriesAt, entryWidth, txnsAt, waitsAt, spaceWords}
+use Rattle.rules.specs.Words.{row, untilOf, untilWord, entryOf, entryFrom, entryCount, entries, view}
+use Rattle.words.specs.Rows.{entryWords}
+use Rattle.holds.specs.Sweep.{dropAt, releasedAt, heldAt, markedAt, keeps, changes, KeptAt, OthersBefore, Still, sweepModel}
+use Rattle.words.proofs.CompactLaws.{Compacting, compact-start, compact-passed, compact-same, compact-kept, compact-done}
+use Rattle.words.proofs.Tables.{entryTable, view-entries, until-back, entry-row, Storable, entry-back}
+use Rattle.rules.specs.Words.{entriesAt, entryWidth, spaceWords}
 
 -- a change leaves the end, so the row can hold it
 change-end : (s : Sweep) (e : Entry) → changes s e .end ≡ e .end
@@ -52,26 +43,26 @@ storable s ws o e x r c l =
 
 -- the first i entries are gone through, and the n that are kept stand in front
 abbrev pub Sweeping : Sweep → List ℕ → List ℕ → ℕ → ℕ → Type 0
-Sweeping s ws₀ ws i n = Compacting entryOf entriesAt entryWidth (keeps s) (changes s) ws₀ ws i n
+Sweeping s ws₀ ws i n = Compacting entryTable (keeps s) (changes s) ws₀ ws i n
 
 pub sweep-start : (s : Sweep) (ws : List ℕ) → Sweeping s ws ws 0 0
-sweep-start s ws = compact-start entryOf entriesAt entryWidth (keeps s) (changes s) ws
+sweep-start s ws = compact-start entryTable (keeps s) (changes s) ws
 
 module _ (s : Sweep) (ws₀ ws : List ℕ) (i n : ℕ) (w : Sweeping s ws₀ ws i n) (l : length ws₀ ≡ spaceWords) (h : i < 64) (e : Entry) (r : e ≡ entryFrom ws (entriesAt + entryWidth * i)) where
   read-is : entryOf (row entriesAt entryWidth ws i) ≡ e
   read-is = entry-row ws i ∙ sym r
 
   pub sweep-passed : keeps s e ≡ false → Sweeping s ws₀ ws (i + 1) n
-  sweep-passed t = compact-passed entryOf entriesAt entryWidth (keeps s) (changes s) ws₀ ws i n w (ap (keeps s) read-is ∙ t)
+  sweep-passed t = compact-passed entryTable (keeps s) (changes s) ws₀ ws i n w (ap (keeps s) read-is ∙ t)
 
   -- a kept entry stays as it is, or is written
   pub sweep-kept : (ws′ : List ℕ) → KeptAt s e i n ws ws′ → keeps s e ≡ true → Sweeping s ws₀ ws′ (i + 1) (n + 1)
   sweep-kept ws′ k t =
       ⊎-elim
       (λ a. subst (λ v. Sweeping s ws₀ v (i + 1) (n + 1)) (sym (a .2))
-      (compact-same entryOf entriesAt entryWidth (keeps s) (changes s) ws₀ ws i n w (a .0) (ap (changes s) read-is ∙ a .1 ∙ sym read-is) (ap (keeps s) read-is ∙ t)))
-      (λ a. subst (λ v. Sweeping s ws₀ v (i + 1) (n + 1)) (sym (a .1 ∙ put-over ws n (changes s e) (w .long ∙ l) (omega (arith, w .behind))))
-      (compact-kept entryOf entriesAt entryWidth (keeps s) (changes s) ws₀ ws i n w (entryWords (changes s e)) refl (omega arith)
+      (compact-same entryTable (keeps s) (changes s) ws₀ ws i n w (a .0) (ap (changes s) read-is ∙ a .1 ∙ sym read-is) (ap (keeps s) read-is ∙ t)))
+      (λ a. subst (λ v. Sweeping s ws₀ v (i + 1) (n + 1)) (sym (a .1))
+      (compact-kept entryTable (keeps s) (changes s) ws₀ ws i n w h (omega arith) (entryWords (changes s e)) refl
       (entry-back (changes s e) (storable s ws (entriesAt + entryWidth * i) e (changes s e) r refl (a .0)) ∙ ap (changes s) (sym read-is)) (ap (keeps s) read-is ∙ t)))
       k
 
@@ -83,15 +74,7 @@ sweep-still s ws (suc r) h =
     let a = h r (omega arith) in
     let e = entry-row ws r in
     rw (sym (add-one r))
-    (compact-same entryOf entriesAt entryWidth (keeps s) (changes s) ws ws r r w refl (ap (changes s) e ∙ a .1 ∙ sym e) (ap (keeps s) e ∙ a .0))
-
--- one more row has another number
-pub others-more : (n : ℕ) (ws : List ℕ) (i : ℕ) → OthersBefore n ws i → eqb (entryFrom ws (entriesAt + entryWidth * i) .id .0) n ≡ false → OthersBefore n ws (i + 1)
-others-more n ws i h t k l = go (decLt k i)
-  where
-    go : Dec (k < i) → eqb (entryFrom ws (entriesAt + entryWidth * k) .id .0) n ≡ false
-    go (yes b) = h k b
-    go (no b) = let s : k ≡ i = omega arith in ap (λ j. eqb (entryFrom ws (entriesAt + entryWidth * j) .id .0) n) s ∙ t
+    (compact-same entryTable (keeps s) (changes s) ws ws r r w refl (ap (changes s) e ∙ a .1 ∙ sym e) (ap (keeps s) e ∙ a .0))
 
 -- a pass by number leaves the rows with other numbers as they are
 pub still-remove : (n : EntryId) (ws : List ℕ) (r : ℕ) → OthersBefore (n .0) ws r → Still (Remove n) ws r
@@ -104,16 +87,7 @@ still-mark n takes t p ws r h k l =
 -- the count is set, and the pass is done
 pub sweep-done : (s : Sweep) (ws₀ ws : List ℕ) (i n : ℕ) → length ws₀ ≡ spaceWords → i ≡ entryCount ws₀ → Sweeping s ws₀ ws i n → view (set ws 3 n) ≡ sweepModel s (view ws₀)
 unfolding sweepModel view entries
-sweep-done s ws₀ ws i n l e w =
-    let rest : from txnsAt ws ≡ from txnsAt ws₀ = from-more ws ws₀ (entriesAt + entryWidth * i) txnsAt (omega arith) (w .tail) in
-    view-entries (set ws 3 n) ws₀ n
-    (kept-then (set ws 3 n) ws ws₀ (kept-count ws 3 n (eqb-false 3 4 refl) (lit≤ tt) (lit< tt)) (kept-entries ws ws₀ (w .head) rest))
-    (getD-set-same ws 3 n 0 (omega (arith, w .long)))
-    (omega (arith, w .behind))
-    (getD-set-other ws 3 5 n 0 (eqb-false 5 3 refl) ∙ word-before ws ws₀ 5 6 (lit< tt) (w .head))
-    (set-from ws 3 n waitsAt (lit< tt) ∙ from-more ws ws₀ txnsAt waitsAt (lit≤ tt) rest)
-    ∙ ap (λ es. withEntries es (view ws₀))
-    (entries-from n 6 (set ws 3 n) ws (lit≤ tt) (set-from ws 3 n 6 (lit< tt)) ∙ w .done ∙ ap (λ k. swept s (entries k ws₀)) e)
+sweep-done s ws₀ ws i n l e w = view-entries (set ws 3 n) ws₀ (compact-done entryTable (keeps s) (changes s) ws₀ ws i n w e (omega arith))
 
 -- a transaction that has nothing of the entry releases nothing
 pub released-same : (t p : ℕ) (e : Entry) → privateTo t e ≡ false → takenBy t e ≡ false → bit p (e .readers) ≡ false → releasedAt t p e ≡ e

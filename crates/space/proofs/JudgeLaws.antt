@@ -1,20 +1,17 @@
--- Laws of the refusals: what the code finds out row by row of the tables, and the table of refusals in parts.
-use Prim.Native.Nat.{ℕ, _+_, _-_, _*_, _≤_, _<_}
+-- Laws of the refusals: the table of refusals in parts.
+use Prim.Native.Nat.{ℕ, _+_, _-_, _≤_, _<_}
 use mathlib.Core.Bool.{Bool, true, false, not, cond, _||_, or-true}
 use mathlib.Core.Option.{none, some}
 use mathlib.Core.Path.{_≡_, refl, sym, ap, _∙_}
-use mathlib.Core.List.{List, [], _∷_, _++_}
+use mathlib.Core.List.{List, _++_}
 use native.Mathlib.Omega.{arith}
 use native.Mathlib.Decide.{decLt}
-use native.Mathlib.Numerals.{add-one}
 use borrow.Author.Tests.{leb-true, eqb-true, eq-eqb, ne-eqb, lt-ltb, le-ltb, le-leb}
 use lib.Dec.{eqb, leb, ltb}
-use lib.ListN.{length}
-use Rattle.rules.specs.declared.LookUp.{LookUp}
 use Rattle.rules.specs.declared.Txn.{Txn}
 use Rattle.rules.specs.declared.TxnId.{TxnId}
 use Rattle.rules.specs.Lists.{firstRow}
-use Rattle.rules.specs.Numbers.{waitingRefused, notLiveRefused, notOwnRefused, leaseRefused, clockRefused, entriesRefused, txnsRefused, numberRefused, waitsRefused}
+use Rattle.rules.specs.Numbers.{notLiveRefused, notOwnRefused, waitsRefused}
 use Rattle.rules.specs.State.{Model}
 use Rattle.rules.specs.Frame.{Frame, isWrite, isLookUp, isCreate, isCommit, isAbort, isTick, hasLeaseOrTimeout}
 use Rattle.rules.specs.Holds.{liveTxn}
@@ -24,41 +21,8 @@ use Rattle.rules.specs.Requests.{frameOf, spaceRefusal}
 use Rattle.rules.specs.declared.Request.the-variants.{Commit, Abort}
 use Rattle.rules.proofs.StepCases.{cond-cases, and-left, and-right}
 use Rattle.rules.proofs.RefusalLaws.{first-append}
-use Rattle.rules.specs.Words.{entryOf, entryCount, waitOf, waitFrom, waitCount, row, entries, waits, view}
 use Rattle.space.specs.Judge.{partyWaiting, inTxnRefusal, admissionRefusal, earlyRefusal}
-use Rattle.words.proofs.RowLaws.{length-upTo}
-use Rattle.holds.proofs.FindLaws.{any-passed, any-at, some-any, none-any}
-use Rattle.words.proofs.ViewLaws.{wait-row}
-use Rattle.rules.specs.Words.{entriesAt, entryWidth, waitsAt, waitWidth}
-
--- ---- 6: the search for a waiting look-up of the party
-abbrev isOfParty : ℕ → LookUp → Bool
-isOfParty party w = eqb (w .party) party
-
-module _ (ws : List ℕ) (party : ℕ) where
-  -- none of the first i look-ups is the party's
-  abbrev pub NoneWaits : ℕ → Type 0
-  NoneWaits i = partyWaiting party (waits i ws) ≡ false
-
-  pub none-waits-none : NoneWaits 0
-  unfolding waits
-  none-waits-none = refl
-
-  module _ (i : ℕ) (w : LookUp) (r : w ≡ waitFrom ws (waitsAt + waitWidth * i)) where
-    pub none-waits-more : NoneWaits i → (w .party ≡ party → ⊥) → NoneWaits (i + 1)
-    unfolding waits
-    none-waits-more h t =
-        rw add-one
-        (any-passed (isOfParty party) (λ k. waitOf (row waitsAt waitWidth ws k)) i h (ap (isOfParty party) (wait-row ws i ∙ sym r) ∙ ne-eqb (w .party) party t))
-
-    pub party-waits : i < waitCount ws → w .party ≡ party → partyWaiting party (view ws .waits) ≡ true
-    unfolding waits view
-    party-waits l t =
-        any-at (isOfParty party) (λ k. waitOf (row waitsAt waitWidth ws k)) i (waitCount ws) l (ap (isOfParty party) (wait-row ws i ∙ sym r) ∙ eq-eqb (w .party) party t)
-
-  pub none-waits : (i : ℕ) → i ≡ waitCount ws → NoneWaits i → partyWaiting party (view ws .waits) ≡ false
-  unfolding view
-  none-waits i e h = ap (λ k. partyWaiting party (waits k ws)) (sym e) ∙ h
+use Rattle.words.proofs.SearchLaws.{some-any, none-any}
 
 -- ---- 10: a sum above the last clock, by a difference that cannot wrap
 pub late-by : (last clock n : ℕ) → n ≤ last → ltb (last - n) clock ≡ ltb last (clock + n)
@@ -134,10 +98,6 @@ plain-inside t = go (not (eqb t 0))
     go : (b : Bool) → (b || false || false) ≡ b
     go true = refl
     go false = refl
-
-pub length-entries : (ws : List ℕ) → length (view ws .entries) ≡ entryCount ws
-unfolding view entries
-length-entries ws = length-upTo (λ k. entryOf (row entriesAt entryWidth ws k)) (entryCount ws)
 
 -- the operation of a look-up is none of the others
 pub record LooksUp (op : ℕ) : Type 0 where

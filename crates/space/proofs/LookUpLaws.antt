@@ -19,7 +19,7 @@ use Rattle.space.specs.declared.apply.Outcome.{Outcome}
 use Rattle.space.specs.Does.{first}
 use Rattle.space.specs.Judge.{noWaitLeft}
 use Rattle.space.specs.Outcome.{Ends}
-use Rattle.holds.proofs.FindLaws.{first-pick, some-any, none-any}
+use Rattle.words.proofs.SearchLaws.{first-pick, some-any, none-any}
 
 -- the same, said of an equal number and equal doings
 pub ends-as : {n n′ : ℕ} {d d′ : Done} (ws ws′ area area′ : List ℕ) (r : Outcome) → n ≡ n′ → d ≡ d′

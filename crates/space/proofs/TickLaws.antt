@@ -23,14 +23,11 @@ use Rattle.rules.specs.Words.{row, txnCount, waitCount, txnOf, txnFrom, waitOf,
 use Rattle.words.specs.Rows.{moveRow}
 use Rattle.space.specs.Does.{Adds, Does, first}
 use Rattle.space.specs.Tick.{expired}
-use Rattle.holds.proofs.FindLaws.{first-pick, pick-first, pick-none}
-use Rattle.words.proofs.ViewLaws.{txn-row, wait-row}
-use Rattle.words.proofs.MoveLaws.{length-waits}
-use Rattle.words.proofs.CompactLaws.{same-row}
-use Rattle.holds.proofs.LeaveLaws.{Leaving, leaving-none, leaving-passed, leaving-kept, leaving-done}
+use Rattle.words.proofs.SearchLaws.{first-pick, pick-first, pick-none}
+use Rattle.words.proofs.Tables.{waitTable, view-waits, txn-row, wait-row, wait-moved, length-txns, length-waits}
+use Rattle.words.proofs.CompactLaws.{same-row, Leaving, leaving-none, leaving-passed, leaving-moved, leaving-done}
 use Rattle.space.proofs.AnswerLaws.{Answered, answered-none, answered-room, answered-length, answered-passed, answered-more}
 use Rattle.space.proofs.DoesLaws.{does-adds, does-as, does-then}
-use Rattle.words.proofs.TxnLaws.{length-txns}
 use Rattle.rules.specs.Words.{txnsAt, txnWidth, waitsAt, waitWidth, spaceWords}
 
 -- whether the clock has reached a transaction's end, or a look-up's deadline
@@ -107,12 +104,12 @@ abbrev pub stays : ℕ → LookUp → Bool
 stays clock w = not (due clock w)
 
 pub record Closing (clock : ℕ) (ws₀ ws a₀ a : List ℕ) (c d i n : ℕ) : Type 0 where
-  pub leaving : Leaving (stays clock) ws₀ ws i n
+  pub leaving : Leaving waitTable (stays clock) ws₀ ws i n
   pub answered : Answered (due clock) nothing (waitRow ws₀) i a₀ a c d
 
 pub closing-none : (clock : ℕ) (ws a : List ℕ) (c : ℕ) → Closing clock ws ws a a c c 0 0
 closing-none clock ws a c =
-    record { leaving = leaving-none (stays clock) ws; answered = answered-none (due clock) nothing (waitRow ws) a c }
+    record { leaving = leaving-none waitTable (stays clock) ws; answered = answered-none (due clock) nothing (waitRow ws) a c }
 
 pub closing-at : (clock : ℕ) (ws₀ ws ws′ a₀ a a′ : List ℕ) (c d d′ i n n′ : ℕ) → ws′ ≡ ws → a′ ≡ a → d′ ≡ d → n′ ≡ n
     → Closing clock ws₀ ws a₀ a c d i n → Closing clock ws₀ ws′ a₀ a′ c d′ i n′
@@ -129,7 +126,7 @@ module _ (clock : ℕ) (ws₀ ws a₀ a : List ℕ) (c d i n : ℕ) (t : Closing
 
   module _ (long : length ws₀ ≡ spaceWords) (l : i < 16) (w : LookUp) (e : w ≡ waitFrom ws (waitsAt + waitWidth * i)) where
     is-row : waitRow ws₀ i ≡ w
-    is-row = ap waitOf (sym (same-row waitOf waitsAt waitWidth (stays clock) (λ x. x) ws₀ ws i n (t .leaving))) ∙ wait-row ws i ∙ sym e
+    is-row = ap waitOf (sym (same-row waitTable (stays clock) (λ x. x) ws₀ ws i n (t .leaving))) ∙ wait-row ws i ∙ sym e
 
     -- the next look-up gets nothing
     pub closing-nothing : (a′ : List ℕ) (d′ : ℕ) (r : Record) → reached clock (w .deadline) ≡ true → r ≡ nothing w
@@ -137,7 +134,7 @@ module _ (clock : ℕ) (ws₀ ws a₀ a : List ℕ) (c d i n : ℕ) (t : Closing
         → Closing clock ws₀ ws a₀ a′ c d′ (i + 1) n
     closing-nothing a′ d′ r s q p =
         record {
-          leaving = leaving-passed (stays clock) ws₀ ws i n (t .leaving) long l w e (ap not s);
+          leaving = leaving-passed waitTable (stays clock) ws₀ ws i n (t .leaving) w (wait-row ws i ∙ sym e) (ap not s);
           answered =
               answered-more (due clock) nothing (waitRow ws₀) i a₀ a c d (t .answered) a′ d′ r (omega arith)
               (ap (due clock) is-row ∙ s) (q ∙ ap nothing (sym is-row)) p;
@@ -148,7 +145,7 @@ module _ (clock : ℕ) (ws₀ ws a₀ a : List ℕ) (c d i n : ℕ) (t : Closing
         → Closing clock ws₀ (moveRow ws (waitsAt + waitWidth * i) (waitsAt + waitWidth * n)) a₀ a c d (i + 1) (n + 1)
     closing-waits s =
         record {
-          leaving = leaving-kept (stays clock) ws₀ ws i n (t .leaving) long l w e (ap not s);
+          leaving = leaving-moved waitTable (stays clock) ws₀ ws i n (t .leaving) w (wait-row ws i ∙ sym e) _ (wait-moved ws i n) l (omega arith) (ap not s);
           answered = answered-passed (due clock) nothing (waitRow ws₀) i a₀ a c d (t .answered) (ap (due clock) is-row ∙ s);
         }
 
@@ -159,7 +156,7 @@ unfolding closeWaits view waits
 closing-done ws₀ ws a₀ a c d i n t long e =
     does-adds (set ws 5 n) (withWaits (filterb (stays (view ws₀ .clock)) (view ws₀ .waits)) (view ws₀))
     (subst (λ k. Answered (due (view ws₀ .clock)) nothing (waitRow ws₀) k a₀ a c d) e (t .answered))
-    (leaving-done (stays (view ws₀ .clock)) ws₀ ws i n long e (t .leaving))
+    (view-waits _ _ (leaving-done waitTable (stays (view ws₀ .clock)) ws₀ ws i n (t .leaving) e (omega arith)))
 
 -- ---- the parts of a tick
 -- at most 8 exceptions

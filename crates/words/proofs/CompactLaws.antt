@@ -1,17 +1,19 @@
 -- A table that is gone through row by row, in place: some rows are kept, changed, and moved to the front.
-use Prim.Native.Nat.{ℕ, _+_, _*_, _≤_}
+use Prim.Native.Nat.{ℕ, _+_, _*_, _≤_, _<_}
 use mathlib.Core.Bool.{Bool, true, false, cond}
-use mathlib.Core.Path.{_≡_, refl, sym, ap, ap₂, _∙_}
-use mathlib.Core.List.{List, [], _∷_, _++_, map, map-append, append-nil}
+use mathlib.Core.Path.{_≡_, refl, sym, ap, ap₂, _∙_, subst}
+use mathlib.Core.List.{List, [], _∷_, _++_, map, map-append, map-id, append-nil}
 use native.Mathlib.Omega.{arith}
-use native.Mathlib.Nat.{mul-suc, mul-le-mul-left}
+use native.Mathlib.Nat.{mul-le-mul-left}
 use native.Mathlib.Numerals.{add-one}
 use lib.Dec.{lit≤}
-use lib.ListN.{length}
+use lib.ListN.{length, set}
+use lib.Seq.{sets}
 use Rattle.rules.specs.Lists.{filterb}
 use Rattle.rules.proofs.ListLaws.{filter-append}
-use Rattle.rules.specs.Words.{before, from, row, table}
-use Rattle.words.proofs.RowLaws.{over, over-length, over-before, over-from, over-row, row-from, from-more, table-before}
+use Rattle.rules.specs.Words.{before, from, row}
+use Rattle.words.proofs.RowLaws.{over, over-length, over-before, over-from, over-row, sets-over, reads, length-reads, row-reads, row-from, row-within, from-more, table-before}
+use Rattle.words.proofs.Table.{Table, cell, first, count, all, end, Turned, counted, but-then, but-set, but-within}
 
 -- some elements are kept, and changed
 module _ {A B : Type 0} (keep : A → Bool) (change : A → B) where
@@ -27,13 +29,17 @@ module _ {A B : Type 0} (keep : A → Bool) (change : A → B) where
   more-passed xs x t =
       ap (map change) (filter-append keep xs (x ∷ []) ∙ ap (λ c. filterb keep xs ++ cond c (x ∷ []) []) t ∙ append-nil (filterb keep xs))
 
-module _ {A : Type 0} (read : List ℕ → A) (b w : ℕ) (keep : A → Bool) (change : A → A) where
+module _ {A : Type 0} (t : Table A) (keep : A → Bool) (change : A → A) where
+  -- where row k stands
+  abbrev at : ℕ → ℕ
+  at k = t .base + t .width * k
+
   -- the first i rows are gone through, and the n that are kept stand in front
   pub record Compacting (ws₀ ws : List ℕ) (i n : ℕ) : Type 0 where
     pub long : length ws ≡ length ws₀
-    pub head : before b ws ≡ before b ws₀
-    pub tail : from (b + w * i) ws ≡ from (b + w * i) ws₀
-    pub done : table read b w n ws ≡ compacted keep change (table read b w i ws₀)
+    pub head : before (t .base) ws ≡ before (t .base) ws₀
+    pub tail : from (t .base + t .width * i) ws ≡ from (t .base + t .width * i) ws₀
+    pub done : first t n ws ≡ compacted keep change (first t i ws₀)
     pub behind : n ≤ i
 
   pub compact-start : (ws : List ℕ) → Compacting ws ws 0 0
@@ -41,53 +47,95 @@ module _ {A : Type 0} (read : List ℕ → A) (b w : ℕ) (keep : A → Bool) (c
 
   module _ (ws₀ ws : List ℕ) (i n : ℕ) (c : Compacting ws₀ ws i n) where
     -- the row that is read has not been written yet
-    pub same-row : row b w ws i ≡ row b w ws₀ i
-    same-row = row-from b w i (b + w * i) ws ws₀ (omega arith) (c .tail)
+    pub same-row : row (t .base) (t .width) ws i ≡ row (t .base) (t .width) ws₀ i
+    same-row = row-from (t .base) (t .width) i (at i) ws ws₀ (omega arith) (c .tail)
 
-    next : b + w * i ≤ b + w * (i + 1)
-    next = omega (arith, mul-le-mul-left {m = i} {n = i + 1} w (omega arith))
+    next : at i ≤ at (i + 1)
+    next = omega (arith, mul-le-mul-left {m = i} {n = i + 1} (t .width) (omega arith))
 
-    pub compact-passed : keep (read (row b w ws i)) ≡ false → Compacting ws₀ ws (i + 1) n
-    compact-passed t =
+    pub compact-passed : keep (cell t ws i) ≡ false → Compacting ws₀ ws (i + 1) n
+    compact-passed f =
         record {
           long = c .long;
           head = c .head;
-          tail = from-more ws ws₀ (b + w * i) (b + w * (i + 1)) next (c .tail);
-          done = rw add-one (c .done ∙ sym (more-passed keep change (table read b w i ws₀) (read (row b w ws₀ i)) (ap (λ r. keep (read r)) (sym same-row) ∙ t)));
+          tail = from-more ws ws₀ (at i) (at (i + 1)) next (c .tail);
+          done = rw add-one (c .done ∙ sym (more-passed keep change (first t i ws₀) (cell t ws₀ i) (ap (λ r. keep (t .read r)) (sym same-row) ∙ f)));
           behind = omega (arith, c .behind);
         }
 
     -- one more is kept: it stands, changed, in row n
-    one-more : (ws′ : List ℕ) → table read b w n ws′ ≡ table read b w n ws → read (row b w ws′ n) ≡ change (read (row b w ws i)) → keep (read (row b w ws i)) ≡ true
-        → table read b w (n + 1) ws′ ≡ compacted keep change (table read b w (i + 1) ws₀)
-    one-more ws′ p q t =
+    one-more : (ws′ : List ℕ) → first t n ws′ ≡ first t n ws → cell t ws′ n ≡ change (cell t ws i) → keep (cell t ws i) ≡ true
+        → first t (n + 1) ws′ ≡ compacted keep change (first t (i + 1) ws₀)
+    one-more ws′ p q f =
         rw (add-one n, add-one i)
-        (ap₂ {C = List A} (λ l x. l ++ (x ∷ [])) (p ∙ c .done) (q ∙ ap (λ s. change (read s)) same-row)
-        ∙ sym (more-kept keep change (table read b w i ws₀) (read (row b w ws₀ i)) (ap (λ s. keep (read s)) (sym same-row) ∙ t)))
+        (ap₂ {C = List A} (λ l x. l ++ (x ∷ [])) (p ∙ c .done) (q ∙ ap (λ s. change (t .read s)) same-row)
+        ∙ sym (more-kept keep change (first t i ws₀) (cell t ws₀ i) (ap (λ s. keep (t .read s)) (sym same-row) ∙ f)))
 
     -- the row stays where it is and as it is: nothing is written
-    pub compact-same : n ≡ i → change (read (row b w ws i)) ≡ read (row b w ws i) → keep (read (row b w ws i)) ≡ true → Compacting ws₀ ws (i + 1) (n + 1)
-    compact-same e q t =
+    pub compact-same : n ≡ i → change (cell t ws i) ≡ cell t ws i → keep (cell t ws i) ≡ true → Compacting ws₀ ws (i + 1) (n + 1)
+    compact-same e q f =
         record {
           long = c .long;
           head = c .head;
-          tail = from-more ws ws₀ (b + w * i) (b + w * (i + 1)) next (c .tail);
-          done = one-more ws refl (ap (λ k. read (row b w ws k)) e ∙ sym q) t;
+          tail = from-more ws ws₀ (at i) (at (i + 1)) next (c .tail);
+          done = one-more ws refl (ap (cell t ws) e ∙ sym q) f;
           behind = omega (arith, c .behind);
         }
 
-    pub compact-kept : (r : List ℕ) → length r ≡ w → b + w * (i + 1) ≤ length ws₀ → read r ≡ change (read (row b w ws i)) → keep (read (row b w ws i)) ≡ true
-        → Compacting ws₀ (over ws (b + w * n) r) (i + 1) (n + 1)
-    compact-kept r e h q t =
-        let low : w * n + w ≤ w * (i + 1) = omega (arith, mul-suc w n, add-one i, mul-le-mul-left {m = n + 1} {n = i + 1} w (omega (arith, c .behind)), ap (λ k. w * k) (add-one n)) in
-        let fits : b + w * n + length r ≤ length ws = omega (arith, c .long) in
-        record {
-          long = over-length ws (b + w * n) r fits ∙ c .long;
-          head = over-before ws (b + w * n) r fits b (omega arith) ∙ c .head;
-          tail = over-from ws (b + w * n) r fits (b + w * (i + 1)) (omega arith) ∙ from-more ws ws₀ (b + w * i) (b + w * (i + 1)) next (c .tail);
-          done =
-              one-more (over ws (b + w * n) r)
-              (table-before read b w n (b + w * n) (over ws (b + w * n) r) ws (omega arith) (over-before ws (b + w * n) r fits (b + w * n) (omega arith)))
-              (ap read (over-row b w n ws r e (omega arith)) ∙ q) t;
-          behind = omega (arith, c .behind);
-        }
+    module _ (h : i < t .most) (l : end t ≤ length ws₀) where
+      -- row i ends within the words, and row n before the next
+      low : at n + t .width ≤ at (i + 1)
+      low = omega (arith, row-within (t .width) (t .base) n (i + 1) (omega (arith, c .behind)))
+
+      fits : at (i + 1) ≤ length ws
+      fits = omega (arith, c .long, mul-le-mul-left {m = i + 1} {n = t .most} (t .width) (omega arith))
+
+      pub compact-kept : (r : List ℕ) → length r ≡ t .width → t .read r ≡ change (cell t ws i) → keep (cell t ws i) ≡ true
+          → Compacting ws₀ (sets ws (t .base + t .width * n) r) (i + 1) (n + 1)
+      compact-kept r e q f =
+          let room : at n + length r ≤ length ws = omega (arith, low, fits) in
+          rw (sets-over r ws (at n) room)
+          (record {
+            long = over-length ws (at n) r room ∙ c .long;
+            head = over-before ws (at n) r room (t .base) (omega arith) ∙ c .head;
+            tail = over-from ws (at n) r room (at (i + 1)) (omega (arith, low)) ∙ from-more ws ws₀ (at i) (at (i + 1)) next (c .tail);
+            done =
+                one-more (over ws (at n) r)
+                (table-before (t .read) (t .base) (t .width) n (at n) (over ws (at n) r) ws (omega arith) (over-before ws (at n) r room (at n) (omega arith)))
+                (ap (t .read) (over-row (t .base) (t .width) n ws r e (omega arith)) ∙ q) f;
+            behind = omega (arith, c .behind);
+          })
+
+  -- the count is set
+  pub compact-done : (ws₀ ws : List ℕ) (i n : ℕ) → Compacting ws₀ ws i n → i ≡ count t ws₀ → end t ≤ length ws₀
+      → Turned t (set ws (t .place) n) ws₀ (compacted keep change (all t ws₀))
+  compact-done ws₀ ws i n c e l =
+      record {
+        but =
+            but-then (t .place) (t .base) (end t) (set ws (t .place) n) ws ws₀ (but-set (t .place) (t .base) (end t) ws n)
+            (but-within (t .place) (t .base) (end t) ws ws₀ (at i) (c .long) (c .head) (c .tail) (omega (arith, mul-le-mul-left {m = i} {n = t .most} (t .width) (omega arith))));
+        now = counted t ws n (omega (arith, c .behind)) (omega (arith, c .long)) ∙ c .done ∙ ap (λ k. compacted keep change (first t k ws₀)) e;
+      }
+
+-- ---- some rows leave, and the others are moved to the front as they are
+module _ {A : Type 0} (t : Table A) (stays : A → Bool) where
+  abbrev pub Leaving : List ℕ → List ℕ → ℕ → ℕ → Type 0
+  Leaving ws₀ ws i n = Compacting t stays (λ x. x) ws₀ ws i n
+
+  pub leaving-none : (ws : List ℕ) → Leaving ws ws 0 0
+  leaving-none ws = compact-start t stays (λ x. x) ws
+
+  module _ (ws₀ ws : List ℕ) (i n : ℕ) (c : Leaving ws₀ ws i n) (x : A) (e : cell t ws i ≡ x) where
+    pub leaving-passed : stays x ≡ false → Leaving ws₀ ws (i + 1) n
+    leaving-passed f = compact-passed t stays (λ y. y) ws₀ ws i n c (ap stays e ∙ f)
+
+    pub leaving-moved : (ws′ : List ℕ) → ws′ ≡ sets ws (t .base + t .width * n) (reads ws (t .base + t .width * i) (t .width)) → i < t .most → end t ≤ length ws₀
+        → stays x ≡ true → Leaving ws₀ ws′ (i + 1) (n + 1)
+    leaving-moved ws′ p h l f =
+        let same = row-reads (t .base) (t .width) i ws (omega (arith, c .long, row-within (t .width) (t .base) i (t .most) h)) in
+        subst (λ v. Leaving ws₀ v (i + 1) (n + 1)) (sym p)
+        (compact-kept t stays (λ y. y) ws₀ ws i n c h l (reads ws (t .base + t .width * i) (t .width)) (length-reads (t .width) (t .base + t .width * i) ws) (ap (t .read) same) (ap stays e ∙ f))
+
+  pub leaving-done : (ws₀ ws : List ℕ) (i n : ℕ) → Leaving ws₀ ws i n → i ≡ count t ws₀ → end t ≤ length ws₀ → Turned t (set ws (t .place) n) ws₀ (filterb stays (all t ws₀))
+  leaving-done ws₀ ws i n c e l =
+      let d = compact-done t stays (λ y. y) ws₀ ws i n c e l in record { but = d .but; now = d .now ∙ map-id (filterb stays (all t ws₀)) }

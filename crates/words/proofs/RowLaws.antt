@@ -1,17 +1,18 @@
 -- Laws of tables of rows of words: what a write of a row leaves and what it changes.
 use Prim.Native.Nat.{ℕ, zero, suc, _+_, _*_, _-_, _≤_, _<_}
 use mathlib.Core.Path.{_≡_, refl, sym, ap, ap₂, _∙_}
-use mathlib.Core.List.{List, [], _∷_, _++_, append-assoc}
+use mathlib.Core.List.{List, [], _∷_, _++_}
+use mathlib.Core.Bool.{true}
 use native.Mathlib.Omega.{arith}
+use borrow.Author.Tests.{ltb-true}
+use lib.Dec.{ltb}
 use native.Mathlib.Nat.{add-zero, zero-add, suc-add, mul-suc, mul-le-mul-left}
-use native.Mathlib.Numerals.{add-one, towards-suc}
-use lib.ListN.{length, getD, take, drop, set, length-append, length-take, length-drop}
-use lib.Seq.{take-nil, take-append-le, drop-append-le, take-take, drop-drop, getD-take, getD-drop, take-at, drop-at, length-take-le, sets, sets-eq}
+use lib.ListN.{length, getD, take, drop, length-append}
+use lib.Seq.{take-nil, take-append-le, take-take, drop-drop, getD-take, getD-drop, take-at, drop-at, length-take-le, drop-cons}
 use Rattle.rules.specs.Words.{upTo, before, from, row, table}
 unfoldable pub use Rattle.codec.specs.Area.{over}
 pub use Rattle.codec.proofs.FrontLaws.{over-length, over-past}
-use Rattle.codec.proofs.FrontLaws.{sets-over}
-use Rattle.words.specs.Rows.{set4, set9}
+pub use Rattle.codec.proofs.FrontLaws.{sets-over}
 
 -- ---- the first n values of a function
 module _ {A : Type 0} where
@@ -57,10 +58,23 @@ unfolding row
 over-row b w k ws r e h =
     ap (λ n. take n (drop (b + w * k) (over ws (b + w * k) r))) (sym e) ∙ over-part ws (b + w * k) r (omega arith)
 
--- nine stores are a row written over
-pub set9-over : (ws : List ℕ) (o a b c d e f g h i : ℕ) → o + 9 ≤ length ws
-    → set9 ws o a b c d e f g h i ≡ over ws o (a ∷ b ∷ c ∷ d ∷ e ∷ f ∷ g ∷ h ∷ i ∷ [])
-set9-over ws o a b c d e f g h i p = simp towards-suc (sets-over (a ∷ b ∷ c ∷ d ∷ e ∷ f ∷ g ∷ h ∷ i ∷ []) ws o p)
+-- the words of a row, one by one
+abbrev pub reads : List ℕ → ℕ → ℕ → List ℕ
+reads ws o zero = []
+reads ws o (suc n) = getD ws o 0 ∷ reads ws (suc o) n
+
+pub length-reads : (n o : ℕ) (ws : List ℕ) → length (reads ws o n) ≡ n
+length-reads zero o ws = refl
+length-reads (suc n) o ws = ap suc (length-reads n (suc o) ws)
+
+reads-part : (n o : ℕ) (ws : List ℕ) → o + n ≤ length ws → reads ws o n ≡ take n (drop o ws)
+reads-part zero o ws h = refl
+reads-part (suc n) o ws h =
+    ap (λ l. getD ws o 0 ∷ l) (reads-part n (suc o) ws (omega arith)) ∙ ap (take (suc n)) (sym (drop-cons ws o 0 (omega arith)))
+
+pub row-reads : (b w k : ℕ) (ws : List ℕ) → b + w * k + w ≤ length ws → reads ws (b + w * k) w ≡ row b w ws k
+unfolding row
+row-reads b w k ws h = reads-part w (b + w * k) ws h
 
 -- ---- what lists agree on
 -- a later part of equal parts, and a shorter one
@@ -88,11 +102,12 @@ drop-take (suc o) m (x ∷ l) = ap (λ k. drop (suc o) (take k (x ∷ l))) (suc-
 pub row-within : (w b k n : ℕ) → k < n → b + w * k + w ≤ b + w * n
 row-within w b k n h = omega (arith, mul-suc w k, mul-le-mul-left w h)
 
-pub row-word : (b w k j : ℕ) (ws : List ℕ) → j < w → getD (row b w ws k) j 0 ≡ getD ws (b + w * k + j) 0
+-- a word of a row; the test is one that simp computes
+pub row-word : (b w k j : ℕ) (ws : List ℕ) → ltb j w ≡ true → getD (row b w ws k) j 0 ≡ getD ws (b + w * k + j) 0
 unfolding row
-row-word b w k j ws h = rw (getD-take, getD-drop)
+row-word b w k j ws h = let l = ltb-true j w h in rw (getD-take, getD-drop)
 
-pub row-first : (b w k : ℕ) (ws : List ℕ) → 0 < w → getD (row b w ws k) 0 0 ≡ getD ws (b + w * k) 0
+pub row-first : (b w k : ℕ) (ws : List ℕ) → ltb 0 w ≡ true → getD (row b w ws k) 0 0 ≡ getD ws (b + w * k) 0
 row-first b w k ws h = row-word b w k 0 ws h ∙ ap (λ n. getD ws n 0) (add-zero (b + w * k))
 
 -- a row whose words stand before m, or from m on, is the same where those are

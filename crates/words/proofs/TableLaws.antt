@@ -8,7 +8,7 @@ use native.Mathlib.Decide.{decLt}
 use lib.ListN.{length, getD, take, drop, set, List·getD-append}
 use lib.Seq.{set-append-left, set-at, set-out, getD-at, drop-cons, take-all, take-append-le}
 use Rattle.rules.specs.Words.{upTo, row, table}
-use Rattle.words.proofs.RowLaws.{upTo-ext, length-upTo, over, over-before, over-from, over-row, row-before, row-from, row-within}
+use Rattle.words.proofs.RowLaws.{length-upTo, over, over-before, over-from, over-row, row-before, row-from, row-within}
 
 module _ {A : Type 0} (f : ℕ → A) where
   pub getD-upTo : (n i : ℕ) (d : A) → i < n → getD (upTo f n) i d ≡ f i

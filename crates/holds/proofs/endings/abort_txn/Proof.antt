@@ -1,6 +1,6 @@
 -- `space::abort_txn` meets its contract. Assumes nothing.
 use borrow.Author.Needs.{needs}
-use Rattle.holds.proofs.LeaveLaws.{aborted-model}
+use Rattle.holds.proofs.HandLaws.{aborted-model}
 use Rattle.holds.proofs.endings.abort_txn.Statement.{statement}
 use Rattle.holds.proofs.endings.abort_txn.Tie as tie
 

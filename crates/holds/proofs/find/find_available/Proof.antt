@@ -1,36 +1,40 @@
 -- `space::find_available` meets its contract. The loop's invariant: none of the entries passed is available. Assumes nothing.
 use Prim.Native.Nat.{_≤_, _-_}
-use mathlib.Core.Path.{_≡_, sym}
+use mathlib.Core.Path.{_≡_, sym, _∙_}
 use native.Mathlib.Omega.{arith}
 use Rattle.rules.specs.Words.{entryCount}
-use Rattle.holds.proofs.SearchLaws.{NoneFor, none-for-none, none-for-more, picked, none-picked}
+use Rattle.holds.specs.HandOut.{availableAt}
+use Rattle.words.proofs.SearchLaws.{Searching, search-start, search-more, search-found, search-none}
+use Rattle.words.proofs.Tables.{entryRow, entries-read}
+use Rattle.holds.proofs.HandLaws.{first-available}
 use Rattle.holds.proofs.find.find_available.Statement.{statement}
 use Rattle.holds.proofs.find.find_available.Tie as tie
 
 abbrev Inv-loop : tie.InvT-loop
-Inv-loop space w p n i₀ i = (i ≤ n) × (n ≡ entryCount space) × NoneFor space w i
+Inv-loop space w p n i₀ i = (i ≤ n) × (n ≡ entryCount space) × Searching (availableAt p w) (entryRow space) i
 
 abbrev μ-loop : tie.MeasureT-loop
 μ-loop space w p n i₀ i = n - i
 
 loop-holds : tie.Need-loop-holds Inv-loop μ-loop
-loop-holds c = (omega arith, c .entry-count .ensures .0, none-for-none _ _)
+loop-holds c = (omega arith, c .entry-count .ensures .0, search-start)
 
 returns : tie.Need-returns Inv-loop μ-loop
 returns c =
+    let s = c .before .before .before .before .before .before in
     let l = c .before .before .before .before .loop in
-    sym (picked _ _ (l .i) _ _ (l .inv .2) (c .before .before .entry-at .ensures) (c .before .before .before .before .before .before .pre .1) _ (c .before .is-available .ensures) (c .if1 .taken) (omega arith))
+    sym (first-available (s .args .space .now) (s .args .w) (s .args .p) (s .pre .1)
+    ∙ search-found (entries-read (s .args .space .now)) (l .inv .2) (omega arith) (c .before .before .entry-at .ensures) (sym (c .before .is-available .ensures) ∙ c .if1 .taken))
 
 loop-again : tie.Need-loop-again Inv-loop μ-loop
 loop-again c =
-    let l = c .before .before .before .before .loop in (
-      omega arith,
-      l .inv .1,
-      none-for-more _ _ (l .i) _ _ (l .inv .2) (c .before .before .entry-at .ensures) (c .before .before .before .before .before .before .pre .1) _ (c .before .is-available .ensures) (c .if1 .left),
-    )
+    let l = c .before .before .before .before .loop in
+    (omega arith, l .inv .1, search-more (l .inv .2) (c .before .before .entry-at .ensures) (sym (c .before .is-available .ensures) ∙ c .if1 .left))
 
 returns-2 : tie.Need-returns-2 Inv-loop μ-loop
-returns-2 c = sym (none-picked _ _ (c .before .loop .i) (omega arith) (c .before .loop .inv .2))
+returns-2 c =
+    let s = c .before .before .before in
+    sym (first-available (s .args .space .now) (s .args .w) (s .args .p) (s .pre .1) ∙ search-none (entries-read (s .args .space .now)) (c .before .loop .inv .2) (omega arith))
 
 pub find-available-spec : {M : Type 1} → statement M
 find-available-spec =

@@ -1,39 +1,53 @@
 -- `space::remove_txn` meets its contract. The loop's invariant: the first i transactions are gone through. Assumes nothing.
-use Prim.Native.Nat.{_≤_, _-_, _+_, _*_}
+use Prim.Native.Nat.{ℕ, _≤_, _-_, _+_}
+use mathlib.Core.Bool.{Bool, not}
 use mathlib.Core.Logic.{⊎-elim}
-use mathlib.Core.Path.{_≡_, sym, _∙_, subst₂}
+use mathlib.Core.Path.{sym, ap, _∙_, subst, subst₂}
 use native.Mathlib.Omega.{arith}
 use borrow.Author.Needs.{needs}
-use Rattle.words.proofs.TxnLaws.{Removing, removing-none, removing-passed, removing-kept, removing-done}
+use borrow.Author.Tests.{eq-eqb, ne-eqb}
+use lib.Dec.{eqb}
+use Rattle.rules.specs.declared.Txn.{Txn}
+use Rattle.rules.specs.Transactions.{withoutTxn}
+use Rattle.rules.specs.Words.{view, txns}
+use Rattle.words.proofs.CompactLaws.{Leaving, leaving-none, leaving-passed, leaving-moved, leaving-done}
+use Rattle.words.proofs.Tables.{txnTable, txn-row, txn-moved, view-txns}
 use Rattle.holds.proofs.live.remove_txn.Statement.{statement}
 use Rattle.holds.proofs.live.remove_txn.Tie as tie
 
+abbrev other : ℕ → Txn → Bool
+other id t = not (eqb (t .id .0) id)
+
 abbrev Inv-loop : tie.InvT-loop
-Inv-loop space₀ id count i₀ n₀ space i n = (i ≤ count) × Removing (id .0) space₀ space i n
+Inv-loop space₀ id count i₀ n₀ space i n = (i ≤ count) × Leaving txnTable (other (id .0)) space₀ space i n
 
 abbrev μ-loop : tie.MeasureT-loop
 μ-loop space₀ id count i₀ n₀ space i n = count - i
 
 loop-holds : tie.Need-loop-holds Inv-loop μ-loop
-loop-holds c = (omega arith, removing-none _ _)
+loop-holds c = (omega arith, leaving-none txnTable _ _)
 
 loop-again : tie.Need-loop-again Inv-loop μ-loop
 loop-again c =
     let a = c .before .before .before .before .before .before .before .before .before .args in
     let l = c .before .before .before .before .before .before .loop in
     let long = c .before .before .before .before .before .before .before .txn-count .ensures .1 in
-    let r = c .before .before .before .txn-at .ensures in (
+    let r = txn-row (l .space) (l .i) ∙ sym (c .before .before .before .txn-at .ensures) in (
       omega arith,
       ⊎-elim
-          (λ w. subst₂ (λ x m. Removing (a .id .0) (a .space .now) x (l .i + 1) m) (sym (w .3 ∙ w .2 .ensures)) (sym (w .4))
-          (removing-kept (a .id .0) (a .space .now) (l .space) (l .i) (l .n) (l .inv .1) long (omega arith) _ r (w .0 .taken)))
-          (λ w. subst₂ (λ x m. Removing (a .id .0) (a .space .now) x (l .i + 1) m) (sym (w .1)) (sym (w .2))
-          (removing-passed (a .id .0) (a .space .now) (l .space) (l .i) (l .n) (l .inv .1) long (omega arith) _ r (w .0 .left)))
+          (λ w. subst (λ m. Leaving txnTable (other (a .id .0)) (a .space .now) (c .if1 .space) (l .i + 1) m) (sym (w .4))
+          (leaving-moved txnTable (other (a .id .0)) (a .space .now) (l .space) (l .i) (l .n) (l .inv .1) _ r _ (w .3 ∙ w .2 .ensures ∙ txn-moved (l .space) (l .i) (l .n)) (omega arith) (omega (arith, long))
+          (ap not (ne-eqb _ (a .id .0) (w .0 .taken)))))
+          (λ w. subst₂ (λ x m. Leaving txnTable (other (a .id .0)) (a .space .now) x (l .i + 1) m) (sym (w .1)) (sym (w .2))
+          (leaving-passed txnTable (other (a .id .0)) (a .space .now) (l .space) (l .i) (l .n) (l .inv .1) _ r (ap not (eq-eqb _ (a .id .0) (w .0 .left)))))
           (c .if1 .came),
     )
 
 returns : tie.Need-returns Inv-loop μ-loop
-returns c = removing-done _ _ _ (c .before .loop .i) _ (c .before .before .txn-count .ensures .1) (omega arith) (c .before .loop .inv .1)
+unfolding view txns withoutTxn
+returns c =
+    let long = c .before .before .txn-count .ensures .1 in
+    view-txns _ _ (leaving-done txnTable _ _ _ (c .before .loop .i) _ (c .before .loop .inv .1) (omega arith) (omega (arith, long)))
 
 pub remove-txn-spec : {M : Type 1} → statement M
 remove-txn-spec =

@@ -8,7 +8,7 @@ use lib.ListN.{getD}
 use Rattle.rules.specs.State.{withTxns, withNextTxn}
 use Rattle.rules.specs.Transactions.{create}
 use Rattle.rules.specs.Words.{view}
-use Rattle.words.proofs.TxnLaws.{length-txns}
+use Rattle.words.proofs.Tables.{length-txns}
 use Rattle.holds.proofs.txns.create_txn.Statement.{statement}
 use Rattle.holds.proofs.txns.create_txn.Tie as tie
 

@@ -1,45 +1,41 @@
 -- `space::txns::has_slot` meets its contract. Assumes nothing.
-use Prim.Native.Nat.{_≤_, _-_}
+use Prim.Native.Nat.{ℕ, _≤_, _-_}
+use mathlib.Core.Bool.{Bool}
 use mathlib.Core.Path.{_≡_, sym}
 use native.Mathlib.Omega.{arith}
+use borrow.Author.Tests.{eq-eqb, ne-eqb}
+use lib.Dec.{eqb}
 use Rattle.rules.specs.Words.{txnCount}
-use Rattle.holds.proofs.SlotLaws.{NoneHas, none-has-none, none-has-more, one-has, none-has}
+use Rattle.rules.specs.declared.Txn.{Txn}
+use Rattle.words.proofs.SearchLaws.{Searching, search-start, search-more, search-any, search-no}
+use Rattle.words.proofs.Tables.{txnRow, txns-read}
 use Rattle.holds.proofs.txns.has_slot.Statement.{statement}
 use Rattle.holds.proofs.txns.has_slot.Tie as tie
 
+abbrev hasSlot : ℕ → Txn → Bool
+hasSlot p t = eqb (t .slot) p
+
 abbrev Inv-loop : tie.InvT-loop
-Inv-loop space p n i₀ i = (i ≤ n) × (n ≡ txnCount space) × NoneHas space p i
+Inv-loop space p n i₀ i = (i ≤ n) × (n ≡ txnCount space) × Searching (hasSlot p) (txnRow space) i
 
 abbrev μ-loop : tie.MeasureT-loop
 μ-loop space p n i₀ i = n - i
 
-txn-count-requires : tie.Need-txn-count-requires Inv-loop μ-loop
-txn-count-requires c κs = tt
-
 loop-holds : tie.Need-loop-holds Inv-loop μ-loop
-loop-holds c = (omega arith, c .txn-count .ensures .0, none-has-none _ _)
-
-txn-at-requires : tie.Need-txn-at-requires Inv-loop μ-loop
-txn-at-requires c κs = omega arith
+loop-holds c = (omega arith, c .txn-count .ensures .0, search-start)
 
 returns : tie.Need-returns Inv-loop μ-loop
 returns c =
     let l = c .before .before .before .before .loop in
-    sym (one-has _ _ (l .i) _ (c .before .before .txn-at .ensures) (omega arith) (c .if1 .taken))
-
-add-i : tie.Need-add-i Inv-loop μ-loop
-add-i c = omega arith
-
-loop-less : tie.Need-loop-less Inv-loop μ-loop
-loop-less c = omega arith
+    sym (search-any (txns-read (c .before .before .before .before .before .before .args .space .now)) (l .inv .2) (omega arith) (c .before .before .txn-at .ensures) (eq-eqb _ _ (c .if1 .taken)))
 
 loop-again : tie.Need-loop-again Inv-loop μ-loop
 loop-again c =
     let l = c .before .before .before .before .loop in
-    (omega arith, l .inv .1, none-has-more _ _ (l .i) _ (c .before .before .txn-at .ensures) (l .inv .2) (c .if1 .left))
+    (omega arith, l .inv .1, search-more (l .inv .2) (c .before .before .txn-at .ensures) (ne-eqb _ _ (c .if1 .left)))
 
 returns-2 : tie.Need-returns-2 Inv-loop μ-loop
-returns-2 c = sym (none-has _ _ (c .before .loop .i) (omega arith) (c .before .loop .inv .2))
+returns-2 c = sym (search-no (txns-read (c .before .before .before .args .space .now)) (c .before .loop .inv .2) (omega arith))
 
 pub has-slot-spec : {M : Type 1} → statement M
 has-slot-spec =
@@ -47,11 +43,11 @@ has-slot-spec =
     (tie.spec
     Inv-loop
     μ-loop
-    txn-count-requires
+    (λ c κs. tt)
     loop-holds
-    txn-at-requires
+    (λ c κs. omega arith)
     returns
-    add-i
-    loop-less
+    (λ c. omega arith)
+    (λ c. omega arith)
     loop-again
     returns-2)

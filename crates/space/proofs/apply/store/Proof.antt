@@ -9,7 +9,7 @@ use lib.ListN.{getD}
 use Rattle.rules.specs.State.{withEntries, withNextEntry}
 use Rattle.rules.specs.Step.{newEntry, stored}
 use Rattle.rules.specs.Words.{view}
-use Rattle.space.proofs.JudgeLaws.{length-entries}
+use Rattle.words.proofs.Tables.{length-entries}
 use Rattle.space.proofs.PassedLaws.{write-in-time, write-room, write-number}
 use Rattle.space.proofs.apply.store.Statement.{statement}
 use Rattle.space.proofs.apply.store.Tie as tie

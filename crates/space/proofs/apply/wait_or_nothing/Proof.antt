@@ -11,7 +11,7 @@ use Rattle.rules.specs.Records.{nothing, waiting}
 use Rattle.rules.specs.Words.{view}
 use Rattle.space.proofs.DoesLaws.{does-adds, does-as}
 use Rattle.space.proofs.LookUpLaws.{nothing-left, nothing-answer, waits-left, waits-answer, no-wait-left}
-use Rattle.words.proofs.MoveLaws.{length-waits}
+use Rattle.words.proofs.Tables.{length-waits}
 use Rattle.space.proofs.apply.wait_or_nothing.Statement.{statement}
 use Rattle.space.proofs.apply.wait_or_nothing.Tie as tie
 

@@ -9,7 +9,7 @@ use Rattle.rules.specs.Requests.{frameOf}
 use Rattle.rules.specs.Words.{view}
 use Rattle.rules.specs.declared.Request.the-variants.{Create}
 use Rattle.space.proofs.JudgeLaws.{party-admitted, party-refused, early-admission, early-rest}
-use Rattle.words.proofs.TxnLaws.{length-txns}
+use Rattle.words.proofs.Tables.{length-txns}
 use Rattle.space.proofs.judge.judge_create.Statement.{statement}
 use Rattle.space.proofs.judge.judge_create.Tie as tie
 

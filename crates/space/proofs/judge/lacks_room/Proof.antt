@@ -1,7 +1,7 @@
 -- `space::lacks_room` meets its contract. Assumes nothing.
 use borrow.Author.Needs.{needs}
 use borrow.Author.Tests.{eq-eqb, ne-eqb}
-use Rattle.space.proofs.JudgeLaws.{length-entries}
+use Rattle.words.proofs.Tables.{length-entries}
 use Rattle.space.proofs.judge.lacks_room.Statement.{statement}
 use Rattle.space.proofs.judge.lacks_room.Tie as tie
 

@@ -1,32 +1,42 @@
 -- `space::waits_already` meets its contract. The loop's invariant: none of the look-ups passed is the party's. Assumes nothing.
-use Prim.Native.Nat.{_≤_, _-_}
+use Prim.Native.Nat.{ℕ, _≤_, _-_}
+use mathlib.Core.Bool.{Bool}
 use mathlib.Core.Path.{_≡_, sym}
 use native.Mathlib.Omega.{arith}
+use borrow.Author.Tests.{eq-eqb, ne-eqb}
+use lib.Dec.{eqb}
 use Rattle.rules.specs.Words.{waitCount}
-use Rattle.space.proofs.JudgeLaws.{NoneWaits, none-waits-none, none-waits-more, party-waits, none-waits}
+use Rattle.rules.specs.declared.LookUp.{LookUp}
+use Rattle.words.proofs.SearchLaws.{Searching, search-start, search-more, search-any, search-no}
+use Rattle.words.proofs.Tables.{waitRow, waits-read}
 use Rattle.space.proofs.judge.waits_already.Statement.{statement}
 use Rattle.space.proofs.judge.waits_already.Tie as tie
 
+abbrev isOf : ℕ → LookUp → Bool
+isOf party w = eqb (w .party) party
+
 abbrev Inv-loop : tie.InvT-loop
-Inv-loop space party n i₀ i = (i ≤ n) × (n ≡ waitCount space) × NoneWaits space party i
+Inv-loop space party n i₀ i = (i ≤ n) × (n ≡ waitCount space) × Searching (isOf party) (waitRow space) i
 
 abbrev μ-loop : tie.MeasureT-loop
 μ-loop space party n i₀ i = n - i
 
 loop-holds : tie.Need-loop-holds Inv-loop μ-loop
-loop-holds c = (omega arith, c .wait-count .ensures .0, none-waits-none _ _)
+loop-holds c = (omega arith, c .wait-count .ensures .0, search-start)
 
 returns : tie.Need-returns Inv-loop μ-loop
 returns c =
-    sym (party-waits _ _ (c .before .before .before .before .loop .i) _ (c .before .before .wait-at .ensures) (omega arith) (c .if1 .taken))
+    let a = c .before .before .before .before .before .before .args in
+    let l = c .before .before .before .before .loop in
+    sym (search-any (waits-read (a .space .now)) (l .inv .2) (omega arith) (c .before .before .wait-at .ensures) (eq-eqb _ _ (c .if1 .taken)))
 
 loop-again : tie.Need-loop-again Inv-loop μ-loop
 loop-again c =
     let l = c .before .before .before .before .loop in
-    (omega arith, l .inv .1, none-waits-more _ _ (l .i) _ (c .before .before .wait-at .ensures) (l .inv .2) (c .if1 .left))
+    (omega arith, l .inv .1, search-more (l .inv .2) (c .before .before .wait-at .ensures) (ne-eqb _ _ (c .if1 .left)))
 
 returns-2 : tie.Need-returns-2 Inv-loop μ-loop
-returns-2 c = sym (none-waits _ _ (c .before .loop .i) (omega arith) (c .before .loop .inv .2))
+returns-2 c = sym (search-no (waits-read (c .before .before .before .args .space .now)) (c .before .loop .inv .2) (omega arith))
 
 pub waits-already-spec : {M : Type 1} → statement M
 waits-already-spec =

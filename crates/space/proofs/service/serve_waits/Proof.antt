@@ -9,8 +9,8 @@ use lib.ListN.{length, take, drop, length-take, length-drop, length-set}
 use Rattle.rules.specs.Records.{recordBytes}
 use Rattle.rules.specs.Words.{waitCount}
 use Rattle.codec.proofs.FrontLaws.{put-fits}
-use Rattle.holds.proofs.SearchLaws.{none-for-none, none-for-more, picked, none-picked}
-use Rattle.space.proofs.ServiceLaws.{Turns, turns-none, turns-at, turn-length, turn-room, turn-found, turn-waits, turns-done, Looking}
+use Rattle.words.proofs.SearchLaws.{search-start}
+use Rattle.space.proofs.ServiceLaws.{Turns, turns-none, turns-at, turn-length, turn-room, turn-found, turn-waits, turns-done, Looking, looking-more, looking-found, looking-none}
 use Rattle.space.proofs.service.serve_waits.Statement.{statement}
 use Rattle.space.proofs.service.serve_waits.Tie as tie
 
@@ -42,7 +42,7 @@ loop-holds c = (
     is-wait = c .before .before .before .before .before .wait-at .ensures;
     slot = c .before .before .slot-of .ensures .0;
     all = c .entry-count .ensures .0;
-    none-yet = none-for-none _ _;
+    none-yet = search-start;
   },
 )
 
@@ -73,7 +73,7 @@ waiting-again c =
     let k = l .inv .5 in (
       omega (arith, in-turn f, c .before .before .before .before .before .before .before .before .before .before .before .before .before .before .before .before .before .before .before .before .before .before .wait-count .ensures .0),
       turn-found _ (l .space) _ (l .answers) _ (l .done) (l .i) _ (so-far f) _ _ _ _ (28 * l .done) (length (l .answers) - 28 * l .done) (in-turn f) (k .is-wait)
-          (picked (l .space) _ (l .j) _ _ (k .none-yet) (c .before .before .before .before .before .before .before .before .before .entry-at .ensures) (k .slot) _ (c .before .before .before .before .before .before .before .before .is-available .ensures) (c .before .before .before .before .before .before .before .if1 .taken) (omega (arith, k .all, c .before .before .before .before .before .before .before .before .before .before .before .loop-test .taken)))
+          (looking-found k (c .before .before .before .before .before .before .before .before .before .entry-at .ensures) (c .before .before .before .before .before .before .before .before .is-available .ensures) (c .before .before .before .before .before .before .before .if1 .taken) (omega (arith, c .before .before .before .before .before .before .before .before .before .before .before .loop-test .taken)))
           (c .before .before .before .before .before .hand-out .ensures .0) (c .before .before .before .before .before .hand-out .ensures .1) (room f) refl (omega arith)
           (ap (λ x. take (28 * l .done) (l .answers) ++ (x ++ drop (length (l .answers) - 28 * l .done) (drop (28 * l .done) (l .answers))))
           (c .before .before .put-record .ensures ∙ put-fits _ _ (simp (length-take, length-drop) (omega (arith, room f))) ∙ ap (λ r. recordBytes r ++ drop 28 (take (length (l .answers) - 28 * l .done) (drop (28 * l .done) (l .answers)))) (f .found-record .ensures))),
@@ -81,19 +81,13 @@ waiting-again c =
 
 loop-again : tie.Need-loop-again Inv-loop μ-loop Inv-waiting μ-waiting
 loop-again c =
-    let l = c .before .before .before .before .before .loop in
-    let k = l .inv .5 in (
+    let l = c .before .before .before .before .before .loop in (
       omega arith,
       l .inv .1,
       l .inv .2,
       l .inv .3,
       l .inv .4,
-      record {
-        is-wait = k .is-wait;
-        slot = k .slot;
-        all = k .all;
-        none-yet = none-for-more (l .space) _ (l .j) _ _ (k .none-yet) (c .before .before .entry-at .ensures) (k .slot) _ (c .before .is-available .ensures) (c .if1 .left);
-      },
+      looking-more (l .inv .5) (c .before .before .entry-at .ensures) (c .before .is-available .ensures) (c .if1 .left),
     )
 
 move-wait-requires : tie.Need-move-wait-requires Inv-loop μ-loop Inv-waiting μ-waiting
@@ -110,7 +104,7 @@ waiting-again-2 c =
       omega (arith, in-turn, c .before .before .before .before .before .before .before .before .before .before .before .before .before .wait-count .ensures .0),
       subst (λ x. Turns (a .space .now) x (a .answers .now) (l .answers) (a .count) (l .done) (l .i + 1) (v .n + 1)) (sym (c .move-wait .ensures))
           (turn-waits (a .space .now) (l .space) (a .answers .now) (l .answers) (a .count) (l .done) (l .i) (v .n) t _ in-turn (k .is-wait)
-          (none-picked (l .space) _ (l .j) (omega (arith, k .all, c .before .before .loop-test .left, l .inv .0)) (k .none-yet))
+          (looking-none k (omega (arith, c .before .before .loop-test .left, l .inv .0)))
           (simp length-set (t .long))),
     )
 

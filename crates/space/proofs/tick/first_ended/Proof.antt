@@ -4,52 +4,36 @@ use mathlib.Core.Path.{sym, _∙_}
 use native.Mathlib.Omega.{arith}
 use borrow.Author.Needs.{needs}
 use Rattle.rules.specs.Words.{view}
-use Rattle.holds.proofs.LiveLaws.{NoneIn, none-in-none, none-more, txn-found, txn-missing}
+use Rattle.words.proofs.SearchLaws.{Searching, search-start, search-more, search-found, search-none}
+use Rattle.words.proofs.Tables.{txnRow, txns-read}
 use Rattle.space.proofs.TickLaws.{ends}
 use Rattle.space.proofs.tick.first_ended.Statement.{statement}
 use Rattle.space.proofs.tick.first_ended.Tie as tie
 
 abbrev Inv-loop : tie.InvT-loop
-Inv-loop space clock n i₀ i = (i ≤ n) × NoneIn space (ends clock) i
+Inv-loop space clock n i₀ i = (i ≤ n) × Searching (ends clock) (txnRow space) i
 
 abbrev μ-loop : tie.MeasureT-loop
 μ-loop space clock n i₀ i = n - i
 
-element-copy-out-clock : tie.Need-element-copy-out-clock Inv-loop μ-loop
-element-copy-out-clock c = search needs
-
-txn-count-requires : tie.Need-txn-count-requires Inv-loop μ-loop
-txn-count-requires c κs = tt
-
 loop-holds : tie.Need-loop-holds Inv-loop μ-loop
-loop-holds c = (omega arith, none-in-none _ _)
-
-txn-at-requires : tie.Need-txn-at-requires Inv-loop μ-loop
-txn-at-requires c κs = omega arith
-
-reached-at-requires : tie.Need-reached-at-requires Inv-loop μ-loop
-reached-at-requires c κs = tt
+loop-holds c = (omega arith, search-start)
 
 returns : tie.Need-returns Inv-loop μ-loop
 unfolding view
 returns c =
+    let a = c .before .before .before .before .before .before .before .args in
     let l = c .before .before .before .before .loop in
-    sym (txn-found _ _ (l .i) _ (c .before .before .txn-at .ensures) (l .inv .1) (omega arith) (sym (c .before .reached-at .ensures) ∙ c .if1 .taken))
-
-add-i : tie.Need-add-i Inv-loop μ-loop
-add-i c = omega arith
-
-loop-less : tie.Need-loop-less Inv-loop μ-loop
-loop-less c = omega arith
+    sym (search-found (txns-read (a .space .now)) (l .inv .1) (omega arith) (c .before .before .txn-at .ensures) (sym (c .before .reached-at .ensures) ∙ c .if1 .taken))
 
 loop-again : tie.Need-loop-again Inv-loop μ-loop
 loop-again c =
     let l = c .before .before .before .before .loop in
-    (omega arith, none-more _ _ (l .i) _ (c .before .before .txn-at .ensures) (l .inv .1) (sym (c .before .reached-at .ensures) ∙ c .if1 .left))
+    (omega arith, search-more (l .inv .1) (c .before .before .txn-at .ensures) (sym (c .before .reached-at .ensures) ∙ c .if1 .left))
 
 returns-2 : tie.Need-returns-2 Inv-loop μ-loop
 unfolding view
-returns-2 c = sym (txn-missing _ _ (c .before .loop .i) (omega arith) (c .before .loop .inv .1))
+returns-2 c = sym (search-none (txns-read (c .before .before .before .before .args .space .now)) (c .before .loop .inv .1) (omega arith))
 
 pub first-ended-spec : {M : Type 1} → statement M
 first-ended-spec =
@@ -57,13 +41,13 @@ first-ended-spec =
     (tie.spec
     Inv-loop
     μ-loop
-    element-copy-out-clock
-    txn-count-requires
+    (λ c. search needs)
+    (λ c κs. tt)
     loop-holds
-    txn-at-requires
-    reached-at-requires
+    (λ c κs. omega arith)
+    (λ c κs. tt)
     returns
-    add-i
-    loop-less
+    (λ c. omega arith)
+    (λ c. omega arith)
     loop-again
     returns-2)

@@ -1,26 +1,25 @@
 -- `space::rows::add_txn` meets its contract. Assumes nothing.
 use Prim.Native.Nat.{_+_}
-use mathlib.Core.Path.{ap, _∙_}
+use mathlib.Core.Path.{refl, ap, _∙_}
 use native.Mathlib.Omega.{arith}
 use lib.ListN.{set}
 use borrow.Author.Needs.{needs}
-use Rattle.rules.specs.Words.{view}
-use Rattle.words.proofs.TxnLaws.{append-txn-view}
+use Rattle.rules.specs.Words.{view, txns}
+use Rattle.words.specs.Rows.{txnWords}
+use Rattle.words.proofs.Table.{appended}
+use Rattle.words.proofs.Tables.{txnTable, view-txns, txn-back}
 use Rattle.words.proofs.rows.add_txn.Statement.{statement}
 use Rattle.words.proofs.rows.add_txn.Tie as tie
 
 returns : tie.Need-returns
+unfolding view txns
 returns c =
-    let a = c .before .before .before .before .args in
+    let s = c .before .before .before .before in
     let n = c .before .before .txn-count in
     ap (λ x. view (set x 4 (n .result + 1))) (c .put-txn .ensures)
-    ∙ append-txn-view (a .space .now) (n .result) (a .t)
-    (record {
-      party-fits = omega (arith, c .before .before .before .before .good);
-      slot-fits = c .before .before .before .before .pre .1;
-      end-fits = c .before .before .before .before .pre .2;
-    })
-    (n .ensures .1) (omega arith) (omega arith)
+    ∙ view-txns _ _
+    (appended txnTable (s .args .space .now) (n .result) (txnWords (s .args .t)) refl (omega arith) (omega (arith, n .ensures .1)) (omega arith) (s .args .t)
+    (txn-back (s .args .t) (record { party-fits = omega (arith, s .good); slot-fits = s .pre .1; end-fits = s .pre .2 })))
 
 pub add-txn-spec : {M : Type 1} → statement M
 add-txn-spec =
