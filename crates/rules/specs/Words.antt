@@ -42,13 +42,6 @@ abbrev pub upTo : {A : Type 0} → (ℕ → A) → ℕ → List A
 upTo f zero = []
 upTo f (suc n) = upTo f n ++ (f n ∷ [])
 
--- the words before m, and those from m on
-unfoldable pub before : ℕ → List ℕ → List ℕ
-before m ws = take m ws
-
-unfoldable pub from : ℕ → List ℕ → List ℕ
-from m ws = drop m ws
-
 -- row k of the table at b, of rows of w words
 unfoldable pub row : ℕ → ℕ → List ℕ → ℕ → List ℕ
 row b w ws k = take w (drop (b + w * k) ws)

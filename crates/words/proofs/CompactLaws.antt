@@ -11,9 +11,9 @@ use lib.ListN.{length, set}
 use lib.Seq.{sets}
 use Rattle.rules.specs.Lists.{filterb}
 use Rattle.rules.proofs.ListLaws.{filter-append}
-use Rattle.rules.specs.Words.{before, from, row}
-use Rattle.words.proofs.RowLaws.{over, over-length, over-before, over-from, over-row, sets-over, reads, length-reads, row-reads, row-from, row-within, from-more, table-before}
-use Rattle.words.proofs.Table.{Table, cell, first, count, all, end, Turned, counted, but-then, but-set, but-within}
+use Rattle.rules.specs.Words.{row}
+use Rattle.words.proofs.RowLaws.{upTo-ext, reads, length-reads, row-reads, row-within, row-stored, row-same, But, but-then, but-set, but-sets, but-wider}
+use Rattle.words.proofs.Table.{Table, cell, first, count, all, end, Turned, counted, other-rows}
 
 -- some elements are kept, and changed
 module _ {A B : Type 0} (keep : A → Bool) (change : A → B) where
@@ -36,29 +36,25 @@ module _ {A : Type 0} (t : Table A) (keep : A → Bool) (change : A → A) where
 
   -- the first i rows are gone through, and the n that are kept stand in front
   pub record Compacting (ws₀ ws : List ℕ) (i n : ℕ) : Type 0 where
-    pub long : length ws ≡ length ws₀
-    pub head : before (t .base) ws ≡ before (t .base) ws₀
-    pub tail : from (t .base + t .width * i) ws ≡ from (t .base + t .width * i) ws₀
+    pub but : But (t .place) (t .base) (t .base + t .width * i) ws ws₀
     pub done : first t n ws ≡ compacted keep change (first t i ws₀)
     pub behind : n ≤ i
 
   pub compact-start : (ws : List ℕ) → Compacting ws ws 0 0
-  compact-start ws = record { long = refl; head = refl; tail = refl; done = refl; behind = lit≤ tt }
+  compact-start ws = record { but = record { long = refl; same = λ j n h. refl }; done = refl; behind = lit≤ tt }
 
   module _ (ws₀ ws : List ℕ) (i n : ℕ) (c : Compacting ws₀ ws i n) where
     -- the row that is read has not been written yet
     pub same-row : row (t .base) (t .width) ws i ≡ row (t .base) (t .width) ws₀ i
-    same-row = row-from (t .base) (t .width) i (at i) ws ws₀ (omega arith) (c .tail)
+    same-row = row-same (c .but) (t .base) (t .width) i (t .ahead) (λ j p q r. p)
 
-    next : at i ≤ at (i + 1)
-    next = omega (arith, mul-le-mul-left {m = i} {n = i + 1} (t .width) (omega arith))
+    next : But (t .place) (t .base) (at (i + 1)) ws ws₀
+    next = but-wider (t .place) (t .base) (at (i + 1)) ws ws₀ (at i) (omega (arith, mul-le-mul-left {m = i} {n = i + 1} (t .width) (omega arith))) (c .but)
 
     pub compact-passed : keep (cell t ws i) ≡ false → Compacting ws₀ ws (i + 1) n
     compact-passed f =
         record {
-          long = c .long;
-          head = c .head;
-          tail = from-more ws ws₀ (at i) (at (i + 1)) next (c .tail);
+          but = next;
           done = rw add-one (c .done ∙ sym (more-passed keep change (first t i ws₀) (cell t ws₀ i) (ap (λ r. keep (t .read r)) (sym same-row) ∙ f)));
           behind = omega (arith, c .behind);
         }
@@ -75,36 +71,24 @@ module _ {A : Type 0} (t : Table A) (keep : A → Bool) (change : A → A) where
     pub compact-same : n ≡ i → change (cell t ws i) ≡ cell t ws i → keep (cell t ws i) ≡ true → Compacting ws₀ ws (i + 1) (n + 1)
     compact-same e q f =
         record {
-          long = c .long;
-          head = c .head;
-          tail = from-more ws ws₀ (at i) (at (i + 1)) next (c .tail);
+          but = next;
           done = one-more ws refl (ap (cell t ws) e ∙ sym q) f;
           behind = omega (arith, c .behind);
         }
 
     module _ (h : i < t .most) (l : end t ≤ length ws₀) where
-      -- row i ends within the words, and row n before the next
-      low : at n + t .width ≤ at (i + 1)
-      low = omega (arith, row-within (t .width) (t .base) n (i + 1) (omega (arith, c .behind)))
-
-      fits : at (i + 1) ≤ length ws
-      fits = omega (arith, c .long, mul-le-mul-left {m = i + 1} {n = t .most} (t .width) (omega arith))
-
       pub compact-kept : (r : List ℕ) → length r ≡ t .width → t .read r ≡ change (cell t ws i) → keep (cell t ws i) ≡ true
           → Compacting ws₀ (sets ws (t .base + t .width * n) r) (i + 1) (n + 1)
       compact-kept r e q f =
-          let room : at n + length r ≤ length ws = omega (arith, low, fits) in
-          rw (sets-over r ws (at n) room)
-          (record {
-            long = over-length ws (at n) r room ∙ c .long;
-            head = over-before ws (at n) r room (t .base) (omega arith) ∙ c .head;
-            tail = over-from ws (at n) r room (at (i + 1)) (omega (arith, low)) ∙ from-more ws ws₀ (at i) (at (i + 1)) next (c .tail);
+          let low = row-within (t .width) (t .base) n (i + 1) (omega (arith, c .behind)) in
+          let room = row-within (t .width) (t .base) n (t .most) (omega (arith, c .behind)) in
+          record {
+            but = but-then (t .place) (t .base) (at (i + 1)) (sets ws (at n) r) ws ws₀ (but-sets (t .place) (t .base) (at (i + 1)) ws (at n) r (omega arith) (omega arith)) next;
             done =
-                one-more (over ws (at n) r)
-                (table-before (t .read) (t .base) (t .width) n (at n) (over ws (at n) r) ws (omega arith) (over-before ws (at n) r room (at n) (omega arith)))
-                (ap (t .read) (over-row (t .base) (t .width) n ws r e (omega arith)) ∙ q) f;
+                one-more (sets ws (at n) r) (upTo-ext (cell t (sets ws (at n) r)) (cell t ws) n (λ k l. other-rows t ws n r e k (λ s. omega arith)))
+                (ap (t .read) (row-stored (t .base) (t .width) n ws r e (omega (arith, c .but .long))) ∙ q) f;
             behind = omega (arith, c .behind);
-          })
+          }
 
   -- the count is set
   pub compact-done : (ws₀ ws : List ℕ) (i n : ℕ) → Compacting ws₀ ws i n → i ≡ count t ws₀ → end t ≤ length ws₀
@@ -113,8 +97,8 @@ module _ {A : Type 0} (t : Table A) (keep : A → Bool) (change : A → A) where
       record {
         but =
             but-then (t .place) (t .base) (end t) (set ws (t .place) n) ws ws₀ (but-set (t .place) (t .base) (end t) ws n)
-            (but-within (t .place) (t .base) (end t) ws ws₀ (at i) (c .long) (c .head) (c .tail) (omega (arith, mul-le-mul-left {m = i} {n = t .most} (t .width) (omega arith))));
-        now = counted t ws n (omega (arith, c .behind)) (omega (arith, c .long)) ∙ c .done ∙ ap (λ k. compacted keep change (first t k ws₀)) e;
+            (but-wider (t .place) (t .base) (end t) ws ws₀ (at i) (omega (arith, mul-le-mul-left {m = i} {n = t .most} (t .width) (omega arith))) (c .but));
+        now = counted t ws n (omega (arith, c .behind)) (omega (arith, c .but .long)) ∙ c .done ∙ ap (λ k. compacted keep change (first t k ws₀)) e;
       }
 
 -- ---- some rows leave, and the others are moved to the front as they are
@@ -132,7 +116,7 @@ module _ {A : Type 0} (t : Table A) (stays : A → Bool) where
     pub leaving-moved : (ws′ : List ℕ) → ws′ ≡ sets ws (t .base + t .width * n) (reads ws (t .base + t .width * i) (t .width)) → i < t .most → end t ≤ length ws₀
         → stays x ≡ true → Leaving ws₀ ws′ (i + 1) (n + 1)
     leaving-moved ws′ p h l f =
-        let same = row-reads (t .base) (t .width) i ws (omega (arith, c .long, row-within (t .width) (t .base) i (t .most) h)) in
+        let same = row-reads (t .base) (t .width) i ws (omega (arith, c .but .long, row-within (t .width) (t .base) i (t .most) h)) in
         subst (λ v. Leaving ws₀ v (i + 1) (n + 1)) (sym p)
         (compact-kept t stays (λ y. y) ws₀ ws i n c h l (reads ws (t .base + t .width * i) (t .width)) (length-reads (t .width) (t .base + t .width * i) ws) (ap (t .read) same) (ap stays e ∙ f))
 

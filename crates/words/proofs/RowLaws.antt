@@ -1,18 +1,17 @@
--- Laws of tables of rows of words: what a write of a row leaves and what it changes.
-use Prim.Native.Nat.{ℕ, zero, suc, _+_, _*_, _-_, _≤_, _<_}
+-- Laws of rows of words: read, stored, and what a write leaves of the others.
+use Prim.Native.Nat.{ℕ, zero, suc, _+_, _*_, _≤_, _<_}
+use mathlib.Core.Bool.{Bool, true, not, _&&_, _||_}
+use mathlib.Core.Logic.{⊎-elim}
 use mathlib.Core.Path.{_≡_, refl, sym, ap, ap₂, _∙_}
-use mathlib.Core.List.{List, [], _∷_, _++_}
-use mathlib.Core.Bool.{true}
+use mathlib.Core.List.{List, [], _∷_, _++_, append-assoc}
 use native.Mathlib.Omega.{arith}
-use borrow.Author.Tests.{ltb-true}
-use lib.Dec.{ltb}
-use native.Mathlib.Nat.{add-zero, zero-add, suc-add, mul-suc, mul-le-mul-left}
-use lib.ListN.{length, getD, take, drop, length-append}
-use lib.Seq.{take-nil, take-append-le, take-take, drop-drop, getD-take, getD-drop, take-at, drop-at, length-take-le, drop-cons}
-use Rattle.rules.specs.Words.{upTo, before, from, row, table}
-unfoldable pub use Rattle.codec.specs.Area.{over}
-pub use Rattle.codec.proofs.FrontLaws.{over-length, over-past}
-pub use Rattle.codec.proofs.FrontLaws.{sets-over}
+use native.Mathlib.Nat.{add-zero, mul-suc, mul-le-mul-left}
+use borrow.Author.Tests.{ltb-true, leb-true, eqb-false, not-true}
+use lib.Dec.{ltb, leb, eqb}
+use lib.ListN.{length, getD, take, drop, set, length-append, length-set, length-take, length-drop}
+use lib.Seq.{getD-set-other, getD-take, getD-drop, drop-cons, drop-at, take-at, length-take-le, ext-getD, sets, sets-eq, length-sets}
+use Rattle.rules.specs.Words.{upTo, row}
+use Rattle.rules.proofs.StepCases.{and-left, and-right, or-cases}
 
 -- ---- the first n values of a function
 module _ {A : Type 0} where
@@ -25,38 +24,18 @@ module _ {A : Type 0} where
   length-upTo f zero = refl
   length-upTo f (suc n) = simp (length-append, length-upTo f n) (omega arith)
 
--- ---- a row written over
-module _ (ws : List ℕ) (o : ℕ) (r : List ℕ) (fits : o + length r ≤ length ws) where
-  head-long : length (take o ws) ≡ o
-  head-long = length-take-le o ws (omega arith)
+-- ---- the words of a row
+-- a row ends where the next begins
+pub row-within : (w b k n : ℕ) → k < n → b + w * k + w ≤ b + w * n
+row-within w b k n h = omega (arith, mul-suc w k, mul-le-mul-left w h)
 
-  pub over-before : (m : ℕ) → m ≤ o → before m (over ws o r) ≡ before m ws
-  unfolding over before
-  over-before m h = take-append-le m (take o ws) (r ++ drop (o + length r) ws) (omega (arith, head-long)) ∙ take-take m o ws h
-
-  from-o : drop o (over ws o r) ≡ r ++ drop (o + length r) ws
-  unfolding over
-  from-o = drop-at (take o ws) (r ++ drop (o + length r) ws) o head-long
-
-  -- the words that were written
-  over-part : take (length r) (drop o (over ws o r)) ≡ r
-  over-part = ap (take (length r)) from-o ∙ take-at r (drop (o + length r) ws) (length r) refl
-
-  pub over-from : (m : ℕ) → o + length r ≤ m → from m (over ws o r) ≡ from m ws
-  unfolding from
-  over-from m h =
-      let e : o + length r + (m - (o + length r)) ≡ m = omega arith in
-      ap (λ k. drop k (over ws o r)) (sym e)
-      ∙ sym (drop-drop (m - (o + length r)) (o + length r) (over ws o r))
-      ∙ ap (drop (m - (o + length r))) (over-past ws o r fits)
-      ∙ drop-drop (m - (o + length r)) (o + length r) ws
-      ∙ ap (λ k. drop k ws) e
-
--- the row that was written over
-pub over-row : (b w k : ℕ) (ws r : List ℕ) → length r ≡ w → b + w * k + w ≤ length ws → row b w (over ws (b + w * k) r) k ≡ r
+-- a word of a row; the test is one that simp computes
+pub row-word : (b w k j : ℕ) (ws : List ℕ) → ltb j w ≡ true → getD (row b w ws k) j 0 ≡ getD ws (b + w * k + j) 0
 unfolding row
-over-row b w k ws r e h =
-    ap (λ n. take n (drop (b + w * k) (over ws (b + w * k) r))) (sym e) ∙ over-part ws (b + w * k) r (omega arith)
+row-word b w k j ws h = let l = ltb-true j w h in rw (getD-take, getD-drop)
+
+pub row-first : (b w k : ℕ) (ws : List ℕ) → ltb 0 w ≡ true → getD (row b w ws k) 0 0 ≡ getD ws (b + w * k) 0
+row-first b w k ws h = row-word b w k 0 ws h ∙ ap (λ n. getD ws n 0) (add-zero (b + w * k))
 
 -- the words of a row, one by one
 abbrev pub reads : List ℕ → ℕ → ℕ → List ℕ
@@ -76,54 +55,60 @@ pub row-reads : (b w k : ℕ) (ws : List ℕ) → b + w * k + w ≤ length ws �
 unfolding row
 row-reads b w k ws h = reads-part w (b + w * k) ws h
 
--- ---- what lists agree on
--- a later part of equal parts, and a shorter one
-pub from-more : (ws ws′ : List ℕ) (m n : ℕ) → m ≤ n → from m ws ≡ from m ws′ → from n ws ≡ from n ws′
-unfolding from
-from-more ws ws′ m n h e =
-    let s : m + (n - m) ≡ n = omega arith in
-    ap (λ k. drop k ws) (sym s) ∙ sym (drop-drop (n - m) m ws) ∙ ap (drop (n - m)) e ∙ drop-drop (n - m) m ws′ ∙ ap (λ k. drop k ws′) s
-
-pub before-less : (ws ws′ : List ℕ) (m n : ℕ) → m ≤ n → before n ws ≡ before n ws′ → before m ws ≡ before m ws′
-unfolding before
-before-less ws ws′ m n h e = sym (take-take m n ws h) ∙ ap (take m) e ∙ take-take m n ws′ h
-
-pub word-before : (ws ws′ : List ℕ) (i n : ℕ) → i < n → before n ws ≡ before n ws′ → getD ws i 0 ≡ getD ws′ i 0
-unfolding before
-word-before ws ws′ i n h e = sym (getD-take n ws i 0 h) ∙ ap (λ l. getD l i 0) e ∙ getD-take n ws′ i 0 h
-
-drop-take : (o m : ℕ) (l : List ℕ) → drop o (take (o + m) l) ≡ take m (drop o l)
-drop-take zero m l = ap (λ k. take k l) (zero-add m)
-drop-take (suc o) m [] = ap (λ k. drop (suc o) k) (take-nil (suc o + m)) ∙ sym (take-nil m)
-drop-take (suc o) m (x ∷ l) = ap (λ k. drop (suc o) (take k (x ∷ l))) (suc-add o m) ∙ drop-take o m l
-
--- ---- tables
--- a row ends where the next begins
-pub row-within : (w b k n : ℕ) → k < n → b + w * k + w ≤ b + w * n
-row-within w b k n h = omega (arith, mul-suc w k, mul-le-mul-left w h)
-
--- a word of a row; the test is one that simp computes
-pub row-word : (b w k j : ℕ) (ws : List ℕ) → ltb j w ≡ true → getD (row b w ws k) j 0 ≡ getD ws (b + w * k + j) 0
+-- a row stored word by word is read back
+pub row-stored : (b w k : ℕ) (ws r : List ℕ) → length r ≡ w → b + w * k + w ≤ length ws → row b w (sets ws (b + w * k) r) k ≡ r
 unfolding row
-row-word b w k j ws h = let l = ltb-true j w h in rw (getD-take, getD-drop)
+row-stored b w k ws r e h =
+    let o = b + w * k in
+    ap (λ l. take w (drop o l)) (sets-eq r ws o (omega arith) ∙ append-assoc (take o ws) r (drop (o + length r) ws))
+    ∙ ap (take w) (drop-at (take o ws) (r ++ drop (o + length r) ws) o (length-take-le o ws (omega arith)))
+    ∙ take-at r (drop (o + length r) ws) w e
 
-pub row-first : (b w k : ℕ) (ws : List ℕ) → ltb 0 w ≡ true → getD (row b w ws k) 0 0 ≡ getD ws (b + w * k) 0
-row-first b w k ws h = row-word b w k 0 ws h ∙ ap (λ n. getD ws n 0) (add-zero (b + w * k))
+-- and leaves the words before and behind it
+sets-other : (r ws : List ℕ) (o j : ℕ) → (o ≤ j → o + length r ≤ j) → getD (sets ws o r) j 0 ≡ getD ws j 0
+sets-other [] ws o j h = refl
+sets-other (x ∷ r) ws o j h =
+    sets-other r (set ws o x) (suc o) j (λ l. let u = h (omega arith) in omega arith)
+    ∙ getD-set-other ws o j x 0 (λ e. let u = h (omega arith) in omega arith)
 
--- a row whose words stand before m, or from m on, is the same where those are
-pub row-before : (b w k m : ℕ) (ws ws′ : List ℕ) → b + w * k + w ≤ m → before m ws ≡ before m ws′ → row b w ws k ≡ row b w ws′ k
-unfolding row before
-row-before b w k m ws ws′ h e =
-    sym (drop-take (b + w * k) w ws) ∙ ap (drop (b + w * k)) (before-less ws ws′ (b + w * k + w) m h e) ∙ drop-take (b + w * k) w ws′
+-- ---- the words are the same but for the one at c and those from lo up to hi
+pub record But (c lo hi : ℕ) (ws ws₀ : List ℕ) : Type 0 where
+  pub long : length ws ≡ length ws₀
+  pub same : (j : ℕ) → (j ≡ c → ⊥) → (lo ≤ j → hi ≤ j) → getD ws j 0 ≡ getD ws₀ j 0
 
-pub row-from : (b w k m : ℕ) (ws ws′ : List ℕ) → m ≤ b + w * k → from m ws ≡ from m ws′ → row b w ws k ≡ row b w ws′ k
-unfolding row from
-row-from b w k m ws ws′ h e = ap (take w) (from-more ws ws′ m (b + w * k) h e)
+module _ (c lo hi : ℕ) where
+  pub but-then : (a b d : List ℕ) → But c lo hi a b → But c lo hi b d → But c lo hi a d
+  but-then a b d p q = record { long = p .long ∙ q .long; same = λ j n h. p .same j n h ∙ q .same j n h }
 
-module _ {A : Type 0} (read : List ℕ → A) (b w : ℕ) where
-  pub table-before : (n m : ℕ) (ws ws′ : List ℕ) → b + w * n ≤ m → before m ws ≡ before m ws′ → table read b w n ws ≡ table read b w n ws′
-  table-before n m ws ws′ h e =
-      upTo-ext _ _ n (λ k l. ap read (row-before b w k m ws ws′ (omega (arith, row-within w b k n l)) e))
+  pub but-set : (ws : List ℕ) (v : ℕ) → But c lo hi (set ws c v) ws
+  but-set ws v = record { long = length-set ws c v; same = λ j n h. getD-set-other ws c j v 0 n }
 
-  pub table-from : (n m : ℕ) (ws ws′ : List ℕ) → m ≤ b → from m ws ≡ from m ws′ → table read b w n ws ≡ table read b w n ws′
-  table-from n m ws ws′ h e = upTo-ext _ _ n (λ k l. ap read (row-from b w k m ws ws′ (omega arith) e))
+  pub but-sets : (ws : List ℕ) (o : ℕ) (r : List ℕ) → lo ≤ o → o + length r ≤ hi → But c lo hi (sets ws o r) ws
+  but-sets ws o r p q = record { long = length-sets ws o r; same = λ j n h. sets-other r ws o j (λ l. let u = h (omega arith) in omega arith) }
+
+  pub but-wider : (a b : List ℕ) (m : ℕ) → m ≤ hi → But c lo m a b → But c lo hi a b
+  but-wider a b m h p = record { long = p .long; same = λ j n r. p .same j n (λ l. let u = r l in omega arith) }
+
+-- whether the word at j is none of those, and it is the same then
+abbrev pub clear : ℕ → ℕ → ℕ → ℕ → Bool
+clear c lo hi j = not (eqb j c) && (ltb j lo || leb hi j)
+
+module _ {c lo hi : ℕ} {ws ws₀ : List ℕ} (b : But c lo hi ws ws₀) where
+  pub word-kept : (j : ℕ) → clear c lo hi j ≡ true → getD ws j 0 ≡ getD ws₀ j 0
+  word-kept j h =
+      b .same j (eqb-false j c (not-true (eqb j c) (and-left (not (eqb j c)) (ltb j lo || leb hi j) h)))
+      (λ l. ⊎-elim (λ e. let u = ltb-true j lo e in omega arith) (λ e. leb-true hi j e) (or-cases (ltb j lo) (leb hi j) (and-right (not (eqb j c)) (ltb j lo || leb hi j) h)))
+
+-- a row that has none of those words is the same
+pub row-same : {c lo hi : ℕ} {ws ws₀ : List ℕ} → But c lo hi ws ws₀ → (b w k : ℕ) → c < b → ((j : ℕ) → b + w * k ≤ j → j < b + w * k + w → lo ≤ j → hi ≤ j)
+    → row b w ws k ≡ row b w ws₀ k
+unfolding row
+row-same {ws = ws} {ws₀ = ws₀} p b w k h out =
+    let o = b + w * k in
+    ext-getD 0 (take w (drop o ws)) (take w (drop o ws₀)) (simp (length-take, length-drop, p .long))
+    (λ i l. let q : i < w = omega (arith, length-take w (drop o ws)) in
+    getD-take w (drop o ws) i 0 q
+    ∙ getD-drop o ws i 0
+    ∙ p .same (o + i) (λ e. omega arith) (out (o + i) (omega arith) (omega arith))
+    ∙ sym (getD-drop o ws₀ i 0)
+    ∙ sym (getD-take w (drop o ws₀) i 0 q))

@@ -1,14 +1,14 @@
 -- A table after a row is written over, and its elements.
-use Prim.Native.Nat.{ℕ, zero, suc, _+_, _*_, _≤_, _<_}
+use Prim.Native.Nat.{ℕ, zero, suc, _+_, _≤_, _<_}
 use mathlib.Core.Logic.{_≢_}
 use mathlib.Core.Path.{_≡_, refl, sym, ap, ap₂, _∙_}
 use mathlib.Core.List.{List, [], _∷_, _++_}
 use native.Mathlib.Omega.{arith}
 use native.Mathlib.Decide.{decLt}
-use lib.ListN.{length, getD, take, drop, set, List·getD-append}
+use lib.ListN.{getD, take, drop, set, List·getD-append}
 use lib.Seq.{set-append-left, set-at, set-out, getD-at, drop-cons, take-all, take-append-le}
-use Rattle.rules.specs.Words.{upTo, row, table}
-use Rattle.words.proofs.RowLaws.{length-upTo, over, over-before, over-from, over-row, row-before, row-from, row-within}
+use Rattle.rules.specs.Words.{upTo}
+use Rattle.words.proofs.RowLaws.{length-upTo}
 
 module _ {A : Type 0} (f : ℕ → A) where
   pub getD-upTo : (n i : ℕ) (d : A) → i < n → getD (upTo f n) i d ≡ f i
@@ -53,17 +53,3 @@ upTo-set {A} f g k (suc n) h = go (decLt k n) (decLt n k) (upTo-set f g k n h)
         let s : n ≡ k = omega arith in
         ap₂ {C = List A} (λ a b. a ++ (b ∷ [])) (below ∙ set-out (upTo f n) k (g k) (omega (arith, length-upTo f n))) (ap g s)
         ∙ sym (set-at (upTo f n) (f n) [] (g k) k (length-upTo f n ∙ s))
-
--- row k is written over: the table has it there
-pub table-set : {A : Type 0} (read : List ℕ → A) (b w n k : ℕ) (ws r : List ℕ) → length r ≡ w → b + w * k + w ≤ length ws
-    → table read b w n (over ws (b + w * k) r) ≡ set (table read b w n ws) k (read r)
-table-set read b w n k ws r e h =
-    upTo-set (λ j. read (row b w ws j)) (λ j. read (row b w (over ws (b + w * k) r) j)) k n (λ j d. ap read (other j (decLt j k) d))
-    ∙ ap (λ x. set (table read b w n ws) k (read x)) (over-row b w k ws r e h)
-  where
-    other : (j : ℕ) → Dec (j < k) → j ≢ k → row b w (over ws (b + w * k) r) j ≡ row b w ws j
-    other j (yes l) d =
-        row-before b w j (b + w * k) (over ws (b + w * k) r) ws (row-within w b j k l) (over-before ws (b + w * k) r (omega arith) (b + w * k) (omega arith))
-    other j (no l) d =
-        let past : b + w * k + w ≤ b + w * j = row-within w b k j (omega arith) in
-        row-from b w j (b + w * k + w) (over ws (b + w * k) r) ws past (over-from ws (b + w * k) r (omega arith) (b + w * k + w) (omega arith))

@@ -20,9 +20,9 @@ use Rattle.rules.specs.State.{withEntries, withTxns, withWaits, withClock, with
 use Rattle.rules.specs.Words.{row, untilOf, untilWord, entryCount, txnCount, waitCount, entryFrom, txnFrom, waitFrom, entryOf, txnOf, waitOf, entries, txns, waits, view}
 use Rattle.rules.specs.Words.{entriesAt, entryWidth, txnsAt, txnWidth, waitsAt, waitWidth, spaceWords}
 use Rattle.words.specs.Rows.{entryWords, txnWords, waitWords, opWord, moveTxn, moveRow, Holds}
-use Rattle.words.proofs.RowLaws.{upTo-ext, row-word, row-first, reads}
+use Rattle.words.proofs.RowLaws.{upTo-ext, row-word, row-first, reads, but-set, word-kept}
 use Rattle.words.proofs.SearchLaws.{Rows}
-use Rattle.words.proofs.Table.{but-set, word-kept, Table, kept, Turned, length-all}
+use Rattle.words.proofs.Table.{Table, kept, Turned, length-all}
 
 abbrev pub entryTable : Table Entry
 entryTable = record { base = entriesAt; width = entryWidth; most = maxEntries; place = 3; read = entryOf; ahead = lit< tt }

@@ -44,7 +44,7 @@ returns c =
     let a = c .before .before .before .before .before .before .args in
     let long = c .before .before .before .before .entry-count .ensures .1 in
     let w = c .before .loop .inv .1 in
-    (sweep-done (a .s) _ _ (c .before .loop .i) _ long (omega arith) w, simp length-set (w .long ∙ long))
+    (sweep-done (a .s) _ _ (c .before .loop .i) _ long (omega arith) w, simp length-set (w .but .long ∙ long))
 
 pub pass-over-spec : {M : Type 1} → statement M
 pass-over-spec =
