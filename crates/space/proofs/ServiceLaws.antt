@@ -25,7 +25,7 @@ use Rattle.rules.specs.Service.{service}
 use Rattle.space.specs.Does.{Does, first}
 use Rattle.words.proofs.Table.{drop-all, moved, closed}
 use Rattle.words.proofs.SearchLaws.{Searching, search-more, search-found, search-none}
-use Rattle.words.proofs.Tables.{waitTable, view-waits, wait-row, wait-moved, length-waits, entryRow, entries-read}
+use Rattle.words.proofs.Tables.{waitTable, view-waits, wait-row, length-waits, entryRow, entries-read}
 use Rattle.space.proofs.RecordLaws.{front-length, Area, area-none, area-more, area-done}
 use Rattle.space.proofs.ServeLaws.{Serving, serving-none, serving-found, serving-waits, serving-done}
 use Rattle.rules.specs.Words.{waitsAt, waitWidth, spaceWords}
@@ -74,8 +74,7 @@ module _ (ws₀ ws a₀ a : List ℕ) (count done i n : ℕ) (t : Turns ws₀ ws
       → view (moveRow ws (waitsAt + waitWidth * i) (waitsAt + waitWidth * n)) ≡ withWaits (set (view ws .waits) n w) (view ws)
   unfolding view waits
   moved-wait w h q =
-      ap view (wait-moved ws i n)
-      ∙ view-waits _ ws (moved waitTable ws i n (omega arith) (omega (arith, t .serving .low)) (omega (arith, t .long)))
+      view-waits _ ws (moved waitTable ws i n (omega arith) (omega (arith, t .serving .low)) (omega (arith, t .long)))
       ∙ ap (λ x. withWaits (set (view ws .waits) n x) (view ws)) (wait-row ws i ∙ sym q)
 
   -- there is room for one record more

@@ -2,7 +2,7 @@
 use Prim.Native.Nat.{ℕ, _+_, _*_, _≤_, _<_}
 use mathlib.Core.Bool.{Bool, true, false, not}
 use mathlib.Core.Option.{none, some}
-use mathlib.Core.Path.{_≡_, sym, ap, _∙_, subst}
+use mathlib.Core.Path.{_≡_, refl, sym, ap, _∙_, subst}
 use mathlib.Core.List.{List, [], _∷_, map}
 use native.Mathlib.Omega.{arith}
 use lib.ListN.{length, set, length-map}
@@ -24,7 +24,7 @@ use Rattle.words.specs.Rows.{moveRow}
 use Rattle.space.specs.Does.{Adds, Does, first}
 use Rattle.space.specs.Tick.{expired}
 use Rattle.words.proofs.SearchLaws.{first-pick, pick-first, pick-none}
-use Rattle.words.proofs.Tables.{waitTable, view-waits, txn-row, wait-row, wait-moved, length-txns, length-waits}
+use Rattle.words.proofs.Tables.{waitTable, view-waits, txn-row, wait-row, length-txns, length-waits}
 use Rattle.words.proofs.CompactLaws.{same-row, Leaving, leaving-none, leaving-passed, leaving-moved, leaving-done}
 use Rattle.space.proofs.AnswerLaws.{Answered, answered-none, answered-room, answered-length, answered-passed, answered-more}
 use Rattle.space.proofs.DoesLaws.{does-adds, does-as, does-then}
@@ -145,7 +145,7 @@ module _ (clock : ℕ) (ws₀ ws a₀ a : List ℕ) (c d i n : ℕ) (t : Closing
         → Closing clock ws₀ (moveRow ws (waitsAt + waitWidth * i) (waitsAt + waitWidth * n)) a₀ a c d (i + 1) (n + 1)
     closing-waits s =
         record {
-          leaving = leaving-moved waitTable (stays clock) ws₀ ws i n (t .leaving) w (wait-row ws i ∙ sym e) _ (wait-moved ws i n) l (omega arith) (ap not s);
+          leaving = leaving-moved waitTable (stays clock) ws₀ ws i n (t .leaving) w (wait-row ws i ∙ sym e) _ refl l (omega arith) (ap not s);
           answered = answered-passed (due clock) nothing (waitRow ws₀) i a₀ a c d (t .answered) (ap (due clock) is-row ∙ s);
         }
 

@@ -8,11 +8,11 @@ use native.Mathlib.Nat.{mul-le-mul-left}
 use native.Mathlib.Numerals.{add-one}
 use lib.Dec.{lit≤}
 use lib.ListN.{length, set}
-use lib.Seq.{sets}
 use Rattle.rules.specs.Lists.{filterb}
 use Rattle.rules.proofs.ListLaws.{filter-append}
 use Rattle.rules.specs.Words.{row}
-use Rattle.words.proofs.RowLaws.{upTo-ext, reads, length-reads, row-reads, row-within, row-stored, row-same, But, but-then, but-set, but-sets, but-wider}
+use Rattle.words.specs.Rows.{store, wordsAt}
+use Rattle.words.proofs.RowLaws.{upTo-ext, length-words, row-words, row-within, row-stored, row-same, But, but-then, but-set, but-store, but-wider}
 use Rattle.words.proofs.Table.{Table, cell, first, count, all, end, Turned, counted, other-rows}
 
 -- some elements are kept, and changed
@@ -78,14 +78,14 @@ module _ {A : Type 0} (t : Table A) (keep : A → Bool) (change : A → A) where
 
     module _ (h : i < t .most) (l : end t ≤ length ws₀) where
       pub compact-kept : (r : List ℕ) → length r ≡ t .width → t .read r ≡ change (cell t ws i) → keep (cell t ws i) ≡ true
-          → Compacting ws₀ (sets ws (t .base + t .width * n) r) (i + 1) (n + 1)
+          → Compacting ws₀ (store ws (t .base + t .width * n) r) (i + 1) (n + 1)
       compact-kept r e q f =
           let low = row-within (t .width) (t .base) n (i + 1) (omega (arith, c .behind)) in
           let room = row-within (t .width) (t .base) n (t .most) (omega (arith, c .behind)) in
           record {
-            but = but-then (t .place) (t .base) (at (i + 1)) (sets ws (at n) r) ws ws₀ (but-sets (t .place) (t .base) (at (i + 1)) ws (at n) r (omega arith) (omega arith)) next;
+            but = but-then (t .place) (t .base) (at (i + 1)) (store ws (at n) r) ws ws₀ (but-store (t .place) (t .base) (at (i + 1)) ws (at n) r (omega arith) (omega arith)) next;
             done =
-                one-more (sets ws (at n) r) (upTo-ext (cell t (sets ws (at n) r)) (cell t ws) n (λ k l. other-rows t ws n r e k (λ s. omega arith)))
+                one-more (store ws (at n) r) (upTo-ext (cell t (store ws (at n) r)) (cell t ws) n (λ k l. other-rows t ws n r e k (λ s. omega arith)))
                 (ap (t .read) (row-stored (t .base) (t .width) n ws r e (omega (arith, c .but .long))) ∙ q) f;
             behind = omega (arith, c .behind);
           }
@@ -113,12 +113,12 @@ module _ {A : Type 0} (t : Table A) (stays : A → Bool) where
     pub leaving-passed : stays x ≡ false → Leaving ws₀ ws (i + 1) n
     leaving-passed f = compact-passed t stays (λ y. y) ws₀ ws i n c (ap stays e ∙ f)
 
-    pub leaving-moved : (ws′ : List ℕ) → ws′ ≡ sets ws (t .base + t .width * n) (reads ws (t .base + t .width * i) (t .width)) → i < t .most → end t ≤ length ws₀
+    pub leaving-moved : (ws′ : List ℕ) → ws′ ≡ store ws (t .base + t .width * n) (wordsAt ws (t .base + t .width * i) (t .width)) → i < t .most → end t ≤ length ws₀
         → stays x ≡ true → Leaving ws₀ ws′ (i + 1) (n + 1)
     leaving-moved ws′ p h l f =
-        let same = row-reads (t .base) (t .width) i ws (omega (arith, c .but .long, row-within (t .width) (t .base) i (t .most) h)) in
+        let same = row-words (t .base) (t .width) i ws (omega (arith, c .but .long, row-within (t .width) (t .base) i (t .most) h)) in
         subst (λ v. Leaving ws₀ v (i + 1) (n + 1)) (sym p)
-        (compact-kept t stays (λ y. y) ws₀ ws i n c h l (reads ws (t .base + t .width * i) (t .width)) (length-reads (t .width) (t .base + t .width * i) ws) (ap (t .read) same) (ap stays e ∙ f))
+        (compact-kept t stays (λ y. y) ws₀ ws i n c h l (wordsAt ws (t .base + t .width * i) (t .width)) (length-words (t .width) (t .base + t .width * i) ws) (ap (t .read) same) (ap stays e ∙ f))
 
   pub leaving-done : (ws₀ ws : List ℕ) (i n : ℕ) → Leaving ws₀ ws i n → i ≡ count t ws₀ → end t ≤ length ws₀ → Turned t (set ws (t .place) n) ws₀ (filterb stays (all t ws₀))
   leaving-done ws₀ ws i n c e l =

@@ -5,12 +5,14 @@ use mathlib.Core.Logic.{⊎-elim}
 use mathlib.Core.Path.{_≡_, refl, sym, ap, ap₂, _∙_}
 use mathlib.Core.List.{List, [], _∷_, _++_, append-assoc}
 use native.Mathlib.Omega.{arith}
-use native.Mathlib.Nat.{add-zero, mul-suc, mul-le-mul-left}
+use native.Mathlib.Nat.{add-zero, add-assoc, mul-suc, mul-le-mul-left}
+use native.Mathlib.Numerals.{add-one}
 use borrow.Author.Tests.{ltb-true, leb-true, eqb-false, not-true}
 use lib.Dec.{ltb, leb, eqb}
 use lib.ListN.{length, getD, take, drop, set, length-append, length-set, length-take, length-drop}
 use lib.Seq.{getD-set-other, getD-take, getD-drop, drop-cons, drop-at, take-at, length-take-le, ext-getD, sets, sets-eq, length-sets}
 use Rattle.rules.specs.Words.{upTo, row}
+use Rattle.words.specs.Rows.{stores, store, reads, wordsAt}
 use Rattle.rules.proofs.StepCases.{and-left, and-right, or-cases}
 
 -- ---- the first n values of a function
@@ -38,29 +40,43 @@ pub row-first : (b w k : ℕ) (ws : List ℕ) → ltb 0 w ≡ true → getD (row
 row-first b w k ws h = row-word b w k 0 ws h ∙ ap (λ n. getD ws n 0) (add-zero (b + w * k))
 
 -- the words of a row, one by one
-abbrev pub reads : List ℕ → ℕ → ℕ → List ℕ
-reads ws o zero = []
-reads ws o (suc n) = getD ws o 0 ∷ reads ws (suc o) n
+length-reads : (n o k : ℕ) (ws : List ℕ) → length (reads ws o k n) ≡ n
+length-reads zero o k ws = refl
+length-reads (suc n) o k ws = ap suc (length-reads n o (k + 1) ws)
 
-pub length-reads : (n o : ℕ) (ws : List ℕ) → length (reads ws o n) ≡ n
-length-reads zero o ws = refl
-length-reads (suc n) o ws = ap suc (length-reads n (suc o) ws)
+pub length-words : (n o : ℕ) (ws : List ℕ) → length (wordsAt ws o n) ≡ n
+length-words zero o ws = refl
+length-words (suc n) o ws = ap suc (length-reads n o 1 ws)
 
-reads-part : (n o : ℕ) (ws : List ℕ) → o + n ≤ length ws → reads ws o n ≡ take n (drop o ws)
-reads-part zero o ws h = refl
-reads-part (suc n) o ws h =
-    ap (λ l. getD ws o 0 ∷ l) (reads-part n (suc o) ws (omega arith)) ∙ ap (take (suc n)) (sym (drop-cons ws o 0 (omega arith)))
+one-word : (n o : ℕ) (ws r : List ℕ) → o < length ws → r ≡ take n (drop (o + 1) ws) → getD ws o 0 ∷ r ≡ take (suc n) (drop o ws)
+one-word n o ws r h e =
+    ap (λ l. getD ws o 0 ∷ l) (e ∙ ap (λ k. take n (drop k ws)) (add-one o)) ∙ ap (take (suc n)) (sym (drop-cons ws o 0 h))
 
-pub row-reads : (b w k : ℕ) (ws : List ℕ) → b + w * k + w ≤ length ws → reads ws (b + w * k) w ≡ row b w ws k
+reads-part : (n o k : ℕ) (ws : List ℕ) → o + k + n ≤ length ws → reads ws o k n ≡ take n (drop (o + k) ws)
+reads-part zero o k ws h = refl
+reads-part (suc n) o k ws h =
+    one-word n (o + k) ws (reads ws o (k + 1) n) (omega arith) (reads-part n o (k + 1) ws (omega arith) ∙ ap (λ j. take n (drop j ws)) (sym (add-assoc o k 1)))
+
+pub row-words : (b w k : ℕ) (ws : List ℕ) → b + w * k + w ≤ length ws → wordsAt ws (b + w * k) w ≡ row b w ws k
 unfolding row
-row-reads b w k ws h = reads-part w (b + w * k) ws h
+row-words b zero k ws h = refl
+row-words b (suc w) k ws h = one-word w (b + suc w * k) ws (reads ws (b + suc w * k) 1 w) (omega arith) (reads-part w (b + suc w * k) 1 ws (omega arith))
+
+stores-sets : (r ws : List ℕ) (o k : ℕ) → stores ws o k r ≡ sets ws (o + k) r
+stores-sets [] ws o k = refl
+stores-sets (x ∷ r) ws o k =
+    stores-sets r (set ws (o + k) x) o (k + 1) ∙ ap (λ j. sets (set ws (o + k) x) j r) (sym (add-assoc o k 1) ∙ add-one (o + k))
+
+store-sets : (r ws : List ℕ) (o : ℕ) → store ws o r ≡ sets ws o r
+store-sets [] ws o = refl
+store-sets (x ∷ r) ws o = stores-sets r (set ws o x) o 1 ∙ ap (λ j. sets (set ws o x) j r) (add-one o)
 
 -- a row stored word by word is read back
-pub row-stored : (b w k : ℕ) (ws r : List ℕ) → length r ≡ w → b + w * k + w ≤ length ws → row b w (sets ws (b + w * k) r) k ≡ r
+pub row-stored : (b w k : ℕ) (ws r : List ℕ) → length r ≡ w → b + w * k + w ≤ length ws → row b w (store ws (b + w * k) r) k ≡ r
 unfolding row
 row-stored b w k ws r e h =
     let o = b + w * k in
-    ap (λ l. take w (drop o l)) (sets-eq r ws o (omega arith) ∙ append-assoc (take o ws) r (drop (o + length r) ws))
+    ap (λ l. take w (drop o l)) (store-sets r ws o ∙ sets-eq r ws o (omega arith) ∙ append-assoc (take o ws) r (drop (o + length r) ws))
     ∙ ap (take w) (drop-at (take o ws) (r ++ drop (o + length r) ws) o (length-take-le o ws (omega arith)))
     ∙ take-at r (drop (o + length r) ws) w e
 
@@ -83,8 +99,12 @@ module _ (c lo hi : ℕ) where
   pub but-set : (ws : List ℕ) (v : ℕ) → But c lo hi (set ws c v) ws
   but-set ws v = record { long = length-set ws c v; same = λ j n h. getD-set-other ws c j v 0 n }
 
-  pub but-sets : (ws : List ℕ) (o : ℕ) (r : List ℕ) → lo ≤ o → o + length r ≤ hi → But c lo hi (sets ws o r) ws
-  but-sets ws o r p q = record { long = length-sets ws o r; same = λ j n h. sets-other r ws o j (λ l. let u = h (omega arith) in omega arith) }
+  pub but-store : (ws : List ℕ) (o : ℕ) (r : List ℕ) → lo ≤ o → o + length r ≤ hi → But c lo hi (store ws o r) ws
+  but-store ws o r p q =
+      record {
+        long = ap length (store-sets r ws o) ∙ length-sets ws o r;
+        same = λ j n h. ap (λ l. getD l j 0) (store-sets r ws o) ∙ sets-other r ws o j (λ l. let u = h (omega arith) in omega arith);
+      }
 
   pub but-wider : (a b : List ℕ) (m : ℕ) → m ≤ hi → But c lo m a b → But c lo hi a b
   but-wider a b m h p = record { long = p .long; same = λ j n r. p .same j n (λ l. let u = r l in omega arith) }

@@ -10,10 +10,11 @@ use native.Mathlib.Numerals.{add-one}
 use borrow.Author.Tests.{ltb-true, leb-true}
 use lib.Dec.{ltb, leb}
 use lib.ListN.{length, getD, take, drop, set}
-use lib.Seq.{getD-set-same, sets}
+use lib.Seq.{getD-set-same}
 use Rattle.rules.proofs.StepCases.{and-left, and-right, or-cases}
 use Rattle.rules.specs.Words.{row, table}
-use Rattle.words.proofs.RowLaws.{upTo-ext, length-upTo, reads, length-reads, row-reads, row-within, row-stored, But, but-then, but-set, but-sets, clear, word-kept, row-same}
+use Rattle.words.specs.Rows.{store, wordsAt}
+use Rattle.words.proofs.RowLaws.{upTo-ext, length-upTo, length-words, row-words, row-within, row-stored, But, but-then, but-set, but-store, clear, word-kept, row-same}
 use Rattle.words.proofs.TableLaws.{drop-upTo, take-upTo, upTo-set}
 
 -- ---- a table: where its rows begin, the words of a row, how many rows it has at most, where its count stands, how a row is read
@@ -85,13 +86,13 @@ module _ {A : Type 0} (t : Table A) where
   -- a row is written
   module _ (ws : List ℕ) (n : ℕ) (r : List ℕ) (w : length r ≡ t .width) where
     abbrev ws′ : List ℕ
-    ws′ = sets ws (t .base + t .width * n) r
+    ws′ = store ws (t .base + t .width * n) r
 
     -- the others are as they were
     pub other-rows : (k : ℕ) → k ≢ n → cell ws′ k ≡ cell ws k
     other-rows k d =
         ap (t .read)
-        (row-same (but-sets (t .place) (t .base + t .width * n) (t .base + t .width * n + t .width) ws (t .base + t .width * n) r (omega arith) (omega arith))
+        (row-same (but-store (t .place) (t .base + t .width * n) (t .base + t .width * n + t .width) ws (t .base + t .width * n) r (omega arith) (omega arith))
         (t .base) (t .width) k (t .ahead) (λ j p q l. clear-of j p q l (decLt k n)))
       where
         clear-of : (j : ℕ) → t .base + t .width * k ≤ j → j < t .base + t .width * k + t .width → t .base + t .width * n ≤ j → Dec (k < n)
@@ -104,24 +105,24 @@ module _ {A : Type 0} (t : Table A) where
       within = row-within (t .width) (t .base) n (t .most) h
 
       row-but : But (t .place) (t .base) end ws′ ws
-      row-but = but-sets (t .place) (t .base) end ws (t .base + t .width * n) r (omega arith) (omega (arith, within))
+      row-but = but-store (t .place) (t .base) end ws (t .base + t .width * n) r (omega arith) (omega (arith, within))
 
       back : cell ws′ n ≡ t .read r
       back = ap (t .read) (row-stored (t .base) (t .width) n ws r w (omega (arith, within)))
 
-      pub put : Turned (sets ws (t .base + t .width * n) r) ws (set (all ws) n (t .read r))
+      pub put : Turned (store ws (t .base + t .width * n) r) ws (set (all ws) n (t .read r))
       put =
           let a = t .ahead in
           record {
             but = row-but;
             now =
-                ap (λ k. first (min k (t .most)) ws′) (but-sets end (t .base) end ws (t .base + t .width * n) r (omega arith) (omega (arith, within)) .same (t .place) (λ e. omega (arith, within)) (λ e. omega arith))
+                ap (λ k. first (min k (t .most)) ws′) (but-store end (t .base) end ws (t .base + t .width * n) r (omega arith) (omega (arith, within)) .same (t .place) (λ e. omega (arith, within)) (λ e. omega arith))
                 ∙ upTo-set (cell ws) (cell ws′) n (count ws) other-rows
                 ∙ ap (λ x. set (all ws) n x) back;
           }
 
       -- and counted
-      pub appended : getD ws (t .place) 0 ≡ n → (x : A) → t .read r ≡ x → Turned (set (sets ws (t .base + t .width * n) r) (t .place) (n + 1)) ws (all ws ++ (x ∷ []))
+      pub appended : getD ws (t .place) 0 ≡ n → (x : A) → t .read r ≡ x → Turned (set (store ws (t .base + t .width * n) r) (t .place) (n + 1)) ws (all ws ++ (x ∷ []))
       appended q x e =
           let few : n ≡ count ws = omega arith in
           record {
@@ -134,11 +135,11 @@ module _ {A : Type 0} (t : Table A) where
 
   -- row i also stands at row n
   pub moved : (ws : List ℕ) (i n : ℕ) → i < t .most → n < t .most → end ≤ length ws
-      → Turned (sets ws (t .base + t .width * n) (reads ws (t .base + t .width * i) (t .width))) ws (set (all ws) n (cell ws i))
+      → Turned (store ws (t .base + t .width * n) (wordsAt ws (t .base + t .width * i) (t .width))) ws (set (all ws) n (cell ws i))
   moved ws i n p q l =
-      let r = reads ws (t .base + t .width * i) (t .width) in
-      let same = row-reads (t .base) (t .width) i ws (omega (arith, row-within (t .width) (t .base) i (t .most) p)) in
-      subst (λ x. Turned (sets ws (t .base + t .width * n) r) ws (set (all ws) n (t .read x))) same (put ws n r (length-reads (t .width) (t .base + t .width * i) ws) q l)
+      let r = wordsAt ws (t .base + t .width * i) (t .width) in
+      let same = row-words (t .base) (t .width) i ws (omega (arith, row-within (t .width) (t .base) i (t .most) p)) in
+      subst (λ x. Turned (store ws (t .base + t .width * n) r) ws (set (all ws) n (t .read x))) same (put ws n r (length-words (t .width) (t .base + t .width * i) ws) q l)
 
   -- ---- the elements
   pub length-all : (ws : List ℕ) → length (all ws) ≡ count ws

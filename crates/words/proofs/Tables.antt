@@ -5,11 +5,10 @@ use mathlib.Core.Path.{_≡_, refl, sym}
 use mathlib.Core.List.{List}
 use native.Mathlib.Omega.{arith}
 use native.Mathlib.Nat.{mod-eq-of-lt}
-use native.Mathlib.Numerals.{towards-suc}
 use borrow.Author.Tests.{eqb-true}
 use lib.Dec.{eqb, lit<}
 use lib.ListN.{length, set}
-use lib.Seq.{getD-set-same, sets}
+use lib.Seq.{getD-set-same}
 use Rattle.rules.specs.declared.Entry.{Entry}
 use Rattle.rules.specs.declared.LookUp.{LookUp}
 use Rattle.rules.specs.declared.Txn.{Txn}
@@ -19,8 +18,8 @@ use Rattle.rules.specs.Numbers.{maxEntries, maxTxns, maxWaits}
 use Rattle.rules.specs.State.{withEntries, withTxns, withWaits, withClock, withNextEntry, withNextTxn}
 use Rattle.rules.specs.Words.{row, untilOf, untilWord, entryCount, txnCount, waitCount, entryFrom, txnFrom, waitFrom, entryOf, txnOf, waitOf, entries, txns, waits, view}
 use Rattle.rules.specs.Words.{entriesAt, entryWidth, txnsAt, txnWidth, waitsAt, waitWidth, spaceWords}
-use Rattle.words.specs.Rows.{entryWords, txnWords, waitWords, opWord, moveTxn, moveRow, Holds}
-use Rattle.words.proofs.RowLaws.{upTo-ext, row-word, row-first, reads, but-set, word-kept}
+use Rattle.words.specs.Rows.{entryWords, txnWords, waitWords, opWord, Holds}
+use Rattle.words.proofs.RowLaws.{upTo-ext, row-word, row-first, but-set, word-kept}
 use Rattle.words.proofs.SearchLaws.{Rows}
 use Rattle.words.proofs.Table.{Table, kept, Turned, length-all}
 
@@ -107,13 +106,6 @@ txns-read ws = record { is = upTo-ext _ _ (txnCount ws) (λ k l. txn-row ws k) }
 pub waits-read : (ws : List ℕ) → Rows (view ws .waits) (waitRow ws) (waitCount ws)
 unfolding view waits
 waits-read ws = record { is = upTo-ext _ _ (waitCount ws) (λ k l. wait-row ws k) }
-
--- a row moved word by word
-pub txn-moved : (ws : List ℕ) (i n : ℕ) → moveTxn ws (txnsAt + txnWidth * i) (txnsAt + txnWidth * n) ≡ sets ws (txnsAt + txnWidth * n) (reads ws (txnsAt + txnWidth * i) txnWidth)
-txn-moved ws i n = simp towards-suc
-
-pub wait-moved : (ws : List ℕ) (i n : ℕ) → moveRow ws (waitsAt + waitWidth * i) (waitsAt + waitWidth * n) ≡ sets ws (waitsAt + waitWidth * n) (reads ws (waitsAt + waitWidth * i) waitWidth)
-wait-moved ws i n = simp towards-suc
 
 pub length-entries : (ws : List ℕ) → length (view ws .entries) ≡ entryCount ws
 unfolding view entries

@@ -10,7 +10,7 @@ use lib.Dec.{eqb}
 use Rattle.rules.specs.declared.LookUp.{LookUp}
 use Rattle.rules.specs.Words.{view, waits}
 use Rattle.words.proofs.CompactLaws.{Leaving, leaving-none, leaving-passed, leaving-moved, leaving-done}
-use Rattle.words.proofs.Tables.{waitTable, wait-row, wait-moved, view-waits}
+use Rattle.words.proofs.Tables.{waitTable, wait-row, view-waits}
 use Rattle.holds.proofs.endings.drop_waits.Statement.{statement}
 use Rattle.holds.proofs.endings.drop_waits.Tie as tie
 
@@ -35,7 +35,7 @@ loop-again c =
       omega arith,
       ⊎-elim
           (λ w. subst (λ m. Leaving waitTable (outside (a .id .0)) (a .space .now) (c .if1 .space) (l .i + 1) m) (sym (w .4))
-          (leaving-moved waitTable (outside (a .id .0)) (a .space .now) (l .space) (l .i) (l .n) (l .inv .1) _ r _ (w .3 ∙ w .2 .ensures ∙ wait-moved (l .space) (l .i) (l .n)) (omega arith) (omega (arith, long))
+          (leaving-moved waitTable (outside (a .id .0)) (a .space .now) (l .space) (l .i) (l .n) (l .inv .1) _ r _ (w .3 ∙ w .2 .ensures) (omega arith) (omega (arith, long))
           (ap not (ne-eqb _ (a .id .0) (w .0 .taken)))))
           (λ w. subst₂ (λ x m. Leaving waitTable (outside (a .id .0)) (a .space .now) x (l .i + 1) m) (sym (w .1)) (sym (w .2))
           (leaving-passed waitTable (outside (a .id .0)) (a .space .now) (l .space) (l .i) (l .n) (l .inv .1) _ r (ap not (eq-eqb _ (a .id .0) (w .0 .left)))))

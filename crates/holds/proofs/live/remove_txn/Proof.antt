@@ -11,7 +11,7 @@ use Rattle.rules.specs.declared.Txn.{Txn}
 use Rattle.rules.specs.Transactions.{withoutTxn}
 use Rattle.rules.specs.Words.{view, txns}
 use Rattle.words.proofs.CompactLaws.{Leaving, leaving-none, leaving-passed, leaving-moved, leaving-done}
-use Rattle.words.proofs.Tables.{txnTable, txn-row, txn-moved, view-txns}
+use Rattle.words.proofs.Tables.{txnTable, txn-row, view-txns}
 use Rattle.holds.proofs.live.remove_txn.Statement.{statement}
 use Rattle.holds.proofs.live.remove_txn.Tie as tie
 
@@ -36,7 +36,7 @@ loop-again c =
       omega arith,
       ⊎-elim
           (λ w. subst (λ m. Leaving txnTable (other (a .id .0)) (a .space .now) (c .if1 .space) (l .i + 1) m) (sym (w .4))
-          (leaving-moved txnTable (other (a .id .0)) (a .space .now) (l .space) (l .i) (l .n) (l .inv .1) _ r _ (w .3 ∙ w .2 .ensures ∙ txn-moved (l .space) (l .i) (l .n)) (omega arith) (omega (arith, long))
+          (leaving-moved txnTable (other (a .id .0)) (a .space .now) (l .space) (l .i) (l .n) (l .inv .1) _ r _ (w .3 ∙ w .2 .ensures) (omega arith) (omega (arith, long))
           (ap not (ne-eqb _ (a .id .0) (w .0 .taken)))))
           (λ w. subst₂ (λ x m. Leaving txnTable (other (a .id .0)) (a .space .now) x (l .i + 1) m) (sym (w .1)) (sym (w .2))
           (leaving-passed txnTable (other (a .id .0)) (a .space .now) (l .space) (l .i) (l .n) (l .inv .1) _ r (ap not (eq-eqb _ (a .id .0) (w .0 .left)))))

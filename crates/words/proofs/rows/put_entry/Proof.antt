@@ -1,6 +1,5 @@
 -- `space::put_entry` meets its contract. Assumes nothing.
 use borrow.Author.Needs.{needs}
-use native.Mathlib.Numerals.{towards-suc}
 use Rattle.words.proofs.rows.put_entry.Statement.{statement}
 use Rattle.words.proofs.rows.put_entry.Tie as tie
 use Rattle.words.proofs.rows.put_entry.Reads as reads
@@ -9,7 +8,7 @@ use Rattle.words.proofs.rows.until_word.Reads as until-word-reads
 
 -- src/rt:58:1
 returns : tie.Need-returns
-returns c = simp towards-suc (rw (c .before .until-word .ensures))
+returns c = rw (c .before .until-word .ensures)
 
 pub put-entry-spec : {M : Type 1} → statement M
 put-entry-spec =

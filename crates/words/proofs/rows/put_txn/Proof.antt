@@ -1,11 +1,10 @@
 -- `space::rows::put_txn` meets its contract. Assumes nothing.
 use borrow.Author.Needs.{needs}
-use native.Mathlib.Numerals.{towards-suc}
 use Rattle.words.proofs.rows.put_txn.Statement.{statement}
 use Rattle.words.proofs.rows.put_txn.Tie as tie
 
 returns : tie.Need-returns
-returns c = simp towards-suc (rw (c .before .before .until-word .ensures))
+returns c = rw (c .before .before .until-word .ensures)
 
 pub put-txn-spec : {M : Type 1} → statement M
 put-txn-spec =
