@@ -1,12 +1,12 @@
 -- The form of a frame, operation by operation; and what a frame in order is decoded into.
 use Prim.Native.Nat.{ℕ, _+_, _≤_, _<_}
-use mathlib.Core.Bool.{Bool, true, false, cond, not, _&&_, _||_, or-false, or-true, or-assoc, and-false}
-use mathlib.Core.Path.{_≡_, refl, sym, ap, _∙_}
+use mathlib.Core.Bool.{Bool, true, false, cond, not, _||_, or-false, or-true, or-assoc, and-false}
+use mathlib.Core.Path.{_≡_, refl, ap, _∙_}
 use mathlib.Core.List.{List, [], _∷_}
 use native.Mathlib.Omega.{arith}
-use lib.Dec.{eqb, ltb, leb}
-use lib.ListN.{length, getD, List·getD-eq-default}
-use borrow.Author.Tests.{le-leb, lt-leb, le-ltb, eq-eqb, ne-eqb, eqb-true}
+use lib.Dec.{eqb, ltb}
+use lib.ListN.{length, List·getD-eq-default}
+use borrow.Author.Tests.{le-leb, lt-leb, le-ltb, ne-eqb, eqb-true}
 use Rattle.rules.specs.Frame.{Frame, frameLength, decode, byteAt, numberAt, isLookUp, isCreate}
 use Rattle.rules.specs.Refusals.{noOperation, wrongLength, badTemplate, malformed, wrongParty}
 use Rattle.rules.specs.Requests.{formRefusal}

@@ -11,13 +11,13 @@ use borrow.Author.Tests.{lt-ltb, eq-eqb, ne-eqb, eqb-true, not-false}
 use Rattle.rules.specs.declared.Request.{Request}
 use Rattle.rules.specs.declared.Request.the-variants.{Write, Find, Create, Commit, Abort, Tick}
 use Rattle.rules.specs.declared.Decoded.the-variants.{Asks, Refused}
-use Rattle.rules.specs.Frame.{Frame, frameLength, decode, byteAt, numberAt, isLookUp, isCreate}
+use Rattle.rules.specs.Frame.{frameLength, decode, byteAt, numberAt, isLookUp, isCreate}
 use Rattle.rules.specs.Refusals.{noOperation, wrongLength, badTemplate, malformed, wrongParty}
 use Rattle.rules.specs.Records.{noFields}
 use Rattle.rules.specs.Requests.{plainFrame, frameOf, formRefusal, Decodes}
 use Rattle.rules.proofs.StepCases.{or-left, or-right}
 use Rattle.rules.proofs.RefusalLaws.{row}
-use Rattle.codec.proofs.FormLaws.{number-past, find-below, find-above, find-form, plain-form, create-form}
+use Rattle.codec.proofs.FormLaws.{number-past, find-form, plain-form, create-form}
 
 pub refused : (bs : List ℕ) (n : ℕ) → n ≡ formRefusal bs → (n ≡ 0 → ⊥) → Decodes bs (Refused n)
 refused bs n e h = record { number = e; frame = rw (ne-eqb (formRefusal bs) 0 (λ z. h (e ∙ z))) }

@@ -32,7 +32,7 @@ use Rattle.demands.specs.Book.{LiveTold, Book, newBook, names, enters, e
 use Rattle.demands.specs.Book.{bookOf, Booked}
 use Rattle.demands.proofs.Moments.{Out, here, there, Event, writes, is-found, is-nothing, is-waiting, creates}
 use Rattle.demands.proofs.Moments.{commits, aborts, ticks, excepts, Moments, expires, says, over}
-use Rattle.rules.proofs.ListLaws.{count, count-cons, length-filter, filter-all, mem-filter, any-filter, all-false}
+use Rattle.rules.proofs.ListLaws.{count, count-cons, length-filter, filter-all, mem-filter}
 use Rattle.rules.proofs.StepCases.{cond-cases, step-cases}
 use Rattle.rules.proofs.RefusalLaws.{Clear, clear}
 use Rattle.demands.proofs.Serializing.{look-up-taken}

@@ -7,12 +7,11 @@ use Rattle.rules.specs.declared.Record.{Record}
 use Rattle.rules.specs.State.{Model, empty}
 use Rattle.rules.specs.Words.{view}
 use Rattle.rules.specs.Records.{areaAfter}
-use Rattle.rules.specs.Refusals.{refusal}
-use Rattle.rules.specs.Step.{Outcome, step}
-use Rattle.rules.specs.Allowed.{Answered, Allowed}
-use Rattle.demands.specs.Machine.{Handed, Machine, theSpace, answeredBy, Stepped, spaceOf, theRules}
-use Rattle.demands.specs.History.{Logged, logged, History, begun, handed, Made}
-use Rattle.demands.proofs.Runs.{Input, Ran, runs, made}
+use Rattle.rules.specs.Step.{step}
+use Rattle.rules.specs.Allowed.{Answered}
+use Rattle.demands.specs.Machine.{Handed, Machine, theSpace, answeredBy, theRules}
+use Rattle.demands.specs.History.{Logged, History, begun, handed, Made}
+use Rattle.demands.proofs.Runs.{Input, runs}
 use Rattle.demands.proofs.Judging.{number-is, refused-model}
 
 -- a step that the rules give, with the choice made

@@ -1,10 +1,10 @@
 -- The clock and every end that is not FOREVER are at most the last clock.
 use Prim.Native.Nat.{ℕ, _+_, _≤_}
-use mathlib.Core.Bool.{Bool, true, false, cond, not, _&&_, _||_}
+use mathlib.Core.Bool.{true, false, not, _&&_, _||_}
 use mathlib.Core.Logic.{_⊎_, inl, inr, ⊎-elim}
-use mathlib.Core.Path.{_≡_, refl, sym, ap, _∙_, subst⁻¹}
+use mathlib.Core.Path.{_≡_, subst⁻¹}
 use mathlib.Core.Option.{Option, none, some}
-use mathlib.Core.List.{List, [], _∷_, _++_, List·Memᴰ, List·Memᴰ·not-nil, List·Memᴰ·append-cases}
+use mathlib.Core.List.{List, [], _∷_, List·Memᴰ, List·Memᴰ·not-nil, List·Memᴰ·append-cases}
 use mathlib.Core.List.{List·Memᴰ·eq-of-singleton}
 use native.Mathlib.Omega.{arith}
 use borrow.Author.Tests.{eqb-true, eqb-false, leb-true, leb-false, ltb-false, le-leb}
@@ -13,11 +13,10 @@ use lib.ListN.{length}
 use Rattle.rules.specs.declared.Entry.{Entry}
 use Rattle.rules.specs.declared.LookUp.{LookUp}
 use Rattle.rules.specs.declared.Txn.{Txn}
-use Rattle.rules.specs.declared.Until.{Until}
 use Rattle.rules.specs.Numbers.{forever, lastClock}
 use Rattle.rules.specs.Lists.{pick}
 use Rattle.rules.specs.Time.{until}
-use Rattle.rules.specs.State.{Model, empty, withClock}
+use Rattle.rules.specs.State.{Model, withClock}
 use Rattle.rules.specs.Holds.{availableTo}
 use Rattle.rules.specs.Frame.{Frame, decode, isWrite, isLookUp, isCreate, isCommit, isAbort, isTick, hasLeaseOrTimeout}
 use Rattle.rules.specs.LookUp.{Done, lookUpOf, givesNothing, answer, answerFound, answerNothing, answerWaiting, lookUp}
@@ -32,7 +31,7 @@ use Rattle.rules.proofs.RefusalLaws.{Clear, clear}
 use Rattle.demands.specs.Bounds.{EndFits, Timely}
 use Rattle.demands.proofs.Runs.{Input, made, made-keep}
 use Rattle.demands.proofs.Deadlines.{serve-waits}
-use Rattle.demands.proofs.Leases.{Within, within-filter, within-handOut, within-serve, within-released}
+use Rattle.demands.proofs.Leases.{Within, within-handOut, within-serve, within-released}
 
 -- entries whose ends are among others' fit as those do
 abbrev AllFit : List Entry → Type 0

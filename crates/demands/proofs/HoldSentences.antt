@@ -1,6 +1,6 @@
 -- Two sentences of document 01 on holds: whose the read holders are, and what one's own take hold makes of an entry.
-use Prim.Native.Nat.{ℕ, _<_}
-use mathlib.Core.Bool.{Bool, true, false, not, cond, _&&_, _||_, true≢false, and-false}
+use Prim.Native.Nat.{ℕ}
+use mathlib.Core.Bool.{Bool, true, false, not, _&&_, _||_, true≢false, and-false}
 use mathlib.Core.Logic.{_⊎_, inl, inr, ⊎-elim, _↔_}
 use mathlib.Core.Path.{_≡_, refl, sym, ap, ap₂, _∙_, subst⁻¹}
 use mathlib.Core.Option.{Option, none, some}
@@ -17,7 +17,7 @@ use Rattle.rules.specs.declared.TxnId.{TxnId}
 use Rattle.rules.specs.Lists.{filterb, anyb}
 use Rattle.rules.specs.State.{Model}
 use Rattle.rules.specs.Template.{bit, matches}
-use Rattle.rules.specs.Holds.{liveTxn, dropReader, dropReaderOf, readByOther, isOther, visible, available, conflicts}
+use Rattle.rules.specs.Holds.{liveTxn, dropReader, dropReaderOf, readByOther, isOther, available, conflicts}
 use Rattle.rules.specs.Frame.{Frame}
 use Rattle.rules.specs.LookUp.{marked}
 use Rattle.rules.specs.Transactions.{create, released, takenBy, commit, abort}

@@ -1,26 +1,26 @@
 -- A party has at most one waiting look-up; a look-up is closed in time, over histories.
-use Prim.Native.Nat.{ℕ, suc, _+_, _≤_, _<_}
-use mathlib.Core.Bool.{Bool, true, false, not, cond, _&&_, _||_, true≢false, or-true}
+use Prim.Native.Nat.{ℕ, suc, _+_, _≤_}
+use mathlib.Core.Bool.{Bool, true, false, not, cond, _||_, true≢false, or-true}
 use mathlib.Core.Path.{_≡_, refl, sym, ap, _∙_, subst, subst⁻¹}
 use mathlib.Core.Logic.{_⊎_, inl, inr, ⊎-elim}
 use mathlib.Core.Option.{Option, none, some}
-use mathlib.Core.List.{List, [], _∷_, _++_, map, List·Memᴰ, List·Memᴰ·head, List·Memᴰ·tail, Memᴰ·append-left}
+use mathlib.Core.List.{List, [], _∷_, _++_, map, List·Memᴰ, List·Memᴰ·head}
 use mathlib.Core.List.{Memᴰ·append-right}
 use native.Mathlib.Omega.{arith}
 use native.Mathlib.Nat.{le-trans}
-use borrow.Author.Tests.{eqb-true, eqb-false, eq-eqb, le-leb, leb-true}
-use lib.Dec.{eqb, leb}
+use borrow.Author.Tests.{eqb-true, eq-eqb, le-leb}
+use lib.Dec.{eqb}
 use lib.ListN.{length, length-append}
 use Rattle.rules.specs.declared.Entry.{Entry}
 use Rattle.rules.specs.declared.Record.{Record}
 use Rattle.rules.specs.declared.Txn.{Txn}
 use Rattle.rules.specs.declared.LookUp.{LookUp}
 use Rattle.rules.specs.declared.Until.{Until}
-use Rattle.rules.specs.declared.Until.the-variants.{Tick, Forever}
-use Rattle.rules.specs.Lists.{filterb, anyb, pick, joined}
+use Rattle.rules.specs.declared.Until.the-variants.{Tick}
+use Rattle.rules.specs.Lists.{filterb, anyb, pick}
 use Rattle.rules.specs.Time.{until, reached}
 use Rattle.rules.specs.Numbers.{forever}
-use Rattle.rules.specs.State.{Model, empty, withClock}
+use Rattle.rules.specs.State.{Model, withClock}
 use Rattle.rules.specs.Holds.{availableTo, someAvailable}
 use Rattle.rules.specs.Frame.{Frame, decode, isLookUp}
 use Rattle.rules.specs.Records.{written, found, nothing, waiting, created, committed, aborted, exception, ticked}
@@ -28,20 +28,19 @@ use Rattle.rules.specs.Records.{refused}
 use Rattle.rules.specs.LookUp.{Done, handOut, lookUpOf, givesNothing, answer, answerFound, answerNothing, answerWaiting}
 use Rattle.rules.specs.LookUp.{lookUp}
 use Rattle.rules.specs.Transactions.{create, commit, abort}
-use Rattle.rules.specs.Service.{Served, serve, service}
+use Rattle.rules.specs.Service.{serve, service}
 use Rattle.rules.specs.Tick.{endedTxns, abortAll, dropEnded, closeWaits, tick}
 use Rattle.rules.specs.Refusals.{partyWaits, refusal}
 use Rattle.rules.specs.Step.{Outcome, stored, write, commitFrame, abortFrame, step, accepted, refusedWith}
 use Rattle.demands.proofs.Runs.{Input, runs, made}
-use Rattle.demands.specs.History.{Logged}
 use Rattle.demands.specs.Answers.{AnsweredNow}
 use Rattle.demands.proofs.WaitingStep.{Later, waits-on, gets-found, gets-nothing, gets-exception}
 use Rattle.demands.specs.Answers.{ofParty, OneEach, isTicked, closes}
 use Rattle.demands.specs.History.{recordsOf}
 use Rattle.demands.proofs.Runs.{answersTo}
-use Rattle.rules.proofs.ListLaws.{length-filter, filter-append, any-filter, mem-any, any-append}
+use Rattle.rules.proofs.ListLaws.{filter-append, any-filter, mem-any, any-append}
 use Rattle.rules.proofs.StepCases.{bool-cases, cond-cases, step-cases, done-cases, serve-ind}
-use Rattle.rules.proofs.RefusalLaws.{Clear, clear}
+use Rattle.rules.proofs.RefusalLaws.{clear}
 use Rattle.demands.proofs.Runs.{made-keep}
 use Rattle.demands.proofs.Deadlines.{OpenIn, step-open, deadlines-above}
 use Rattle.demands.proofs.Settling.{Stable, stable, stable-step}

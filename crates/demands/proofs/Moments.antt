@@ -1,5 +1,5 @@
 -- Each answer at its moment: a step that is carried out, as a list of events, each with its record.
-use Prim.Native.Nat.{ℕ, _+_}
+use Prim.Native.Nat.{_+_}
 use mathlib.Core.Bool.{true, false}
 use mathlib.Core.Path.{_≡_}
 use mathlib.Core.Logic.{_⊎_}

@@ -1,15 +1,14 @@
 -- An open look-up that a step gives nothing has no available entry when the step is over.
 use Prim.Native.Nat.{ℕ, _+_, _≤_}
-use mathlib.Core.Bool.{Bool, true, false, not, cond, true≢false}
+use mathlib.Core.Bool.{Bool, true, false, cond, true≢false}
 use mathlib.Core.Logic.{_⊎_, inl, inr, ⊎-elim}
 use mathlib.Core.Path.{_≡_, refl, sym, ap, _∙_, subst, subst⁻¹}
 use mathlib.Core.Option.{Option, none, some}
-use mathlib.Core.List.{List, [], _∷_, _++_, map, List·Memᴰ, List·Memᴰ·head, List·Memᴰ·tail, List·Memᴰ·not-nil}
+use mathlib.Core.List.{List, [], _∷_, _++_, map, List·Memᴰ, List·Memᴰ·not-nil}
 use mathlib.Core.List.{List·Memᴰ·cases-cons, List·Memᴰ·append-cases, List·Memᴰ·eq-of-singleton, Memᴰ·of-map}
 use native.Mathlib.Omega.{arith}
 use borrow.Author.Tests.{eq-eqb}
 use lib.Dec.{eqb}
-use lib.ListN.{length}
 use Rattle.rules.specs.declared.Entry.{Entry}
 use Rattle.rules.specs.declared.LookUp.{LookUp}
 use Rattle.rules.specs.declared.Record.{Record}
@@ -21,7 +20,6 @@ use Rattle.rules.specs.Holds.{availableTo, someAvailable}
 use Rattle.rules.specs.Frame.{Frame, decode, isLookUp}
 use Rattle.rules.specs.Records.{written, found, nothing, waiting, created, committed, aborted, exception, ticked}
 use Rattle.rules.specs.LookUp.{Done, lookUpOf, givesNothing, answer, answerFound, answerNothing, answerWaiting, lookUp}
-use Rattle.rules.specs.LookUp.{handOut}
 use Rattle.rules.specs.Transactions.{create, commit, abort}
 use Rattle.rules.specs.Service.{serve, service}
 use Rattle.rules.specs.Tick.{endedTxns, abortAll, dropEnded, closeWaits, tick}

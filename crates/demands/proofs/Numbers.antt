@@ -18,15 +18,14 @@ use Rattle.rules.specs.Frame.{Frame}
 use Rattle.rules.specs.LookUp.{removes, withHold, marked, isEntry, handOut}
 use Rattle.rules.specs.Transactions.{create, released, withoutTxn, commit, abort, privateTo, takenBy}
 use Rattle.rules.specs.Tick.{dropEnded}
-use Rattle.rules.specs.Step.{Outcome, newEntry, stored, step, accepted, refusedWith}
+use Rattle.rules.specs.Step.{newEntry, stored, step}
 use Rattle.demands.proofs.Runs.{Input, made}
 use Rattle.demands.specs.SerialRun.{keptOf, committedIn, distinct, numbersOf}
 use Rattle.demands.specs.Bounds.{Ascending, ByNumber}
 use Rattle.rules.proofs.ListLaws.{mem-filter, all-false}
-use Rattle.rules.proofs.StepCases.{cond-cases, bool-cases, step-cases}
-use Rattle.rules.proofs.RefusalLaws.{clear}
+use Rattle.rules.proofs.StepCases.{cond-cases, bool-cases}
 use Rattle.demands.proofs.Trace.{Silent, expires, leaves, Event, writes, finds, gives-nothing, waits, creates}
-use Rattle.demands.proofs.Trace.{commits, aborts, excepts, ticks, Trace, ends, silent, says, carried-out}
+use Rattle.demands.proofs.Trace.{commits, aborts, excepts, ticks}
 use Rattle.demands.proofs.Sound.{Sound, step-keeps, made-has}
 
 pub eqb-sym : (a b : ℕ) → eqb a b ≡ eqb b a

@@ -22,8 +22,8 @@ use Rattle.rules.specs.Tick.{endedTxns, abortAll, dropEnded, closeWaits, tick}
 use Rattle.rules.specs.Refusals.{partyWaits, notOwn, isOf, inTxn}
 use Rattle.rules.specs.Step.{Outcome, stored, write, commitFrame, abortFrame, step, accepted, refusedWith}
 use Rattle.demands.proofs.Runs.{Input}
-use Rattle.rules.proofs.ListLaws.{mem-filter, filter-mem, any-mem, none-mem, find-some}
-use Rattle.rules.proofs.StepCases.{and-left, and-right, and-false-right, bool-cases, cond-cases, step-cases, done-cases}
+use Rattle.rules.proofs.ListLaws.{mem-filter, filter-mem, none-mem, find-some}
+use Rattle.rules.proofs.StepCases.{and-false-right, bool-cases, cond-cases, step-cases, done-cases}
 use Rattle.rules.proofs.RefusalLaws.{Clear, clear}
 use Rattle.demands.proofs.Deadlines.{serve-waits}
 use Rattle.demands.proofs.Sound.{Sound}

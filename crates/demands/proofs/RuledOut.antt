@@ -1,8 +1,8 @@
 -- Each wrong space fails the demand named for it, by a concrete history.
-use Prim.Native.Nat.{ℕ, suc, _+_}
-use mathlib.Core.Bool.{Bool, true, false, true≢false}
-use mathlib.Core.Path.{_≡_, refl, sym, ap, _∙_}
-use mathlib.Core.List.{List, [], _∷_, List·Memᴰ, List·Memᴰ·head, List·Memᴰ·tail, List·Memᴰ·not-nil}
+use Prim.Native.Nat.{ℕ}
+use mathlib.Core.Bool.{true, false, true≢false}
+use mathlib.Core.Path.{_≡_, refl, sym, ap}
+use mathlib.Core.List.{List, [], _∷_, List·Memᴰ·head, List·Memᴰ·tail, List·Memᴰ·not-nil}
 use native.Mathlib.Omega.{arith}
 use lib.ListN.{length, replicate}
 use Rattle.rules.specs.declared.LookUp.{LookUp}
@@ -14,8 +14,8 @@ use Rattle.rules.specs.LookUp.{lookUpOf}
 use Rattle.rules.specs.Refusals.{refusal}
 use Rattle.rules.specs.Step.{step, carriedOut}
 use Rattle.rules.specs.Allowed.{Answered}
-use Rattle.demands.specs.Machine.{Handed, Machine, Stepper, Stepped, answeredBy, spaceOf}
-use Rattle.demands.specs.History.{Logged, logged, History, begun, handed, Made}
+use Rattle.demands.specs.Machine.{Handed, Stepper, Stepped, answeredBy, spaceOf}
+use Rattle.demands.specs.History.{Logged, History, begun, handed, Made}
 use Rattle.demands.specs.SerialRun.{Kept, sameFields, isKept, failed, taking, carryOut, carryOutAll, perform}
 use Rattle.demands.specs.SerialRun.{listOf, thrownAway, lastTakes, advanced, follow, followAll, wasRefused}
 use Rattle.demands.specs.SerialRun.{noteLookUp, followLog, serialRun, left, committedIn}

@@ -2,8 +2,8 @@
 use Prim.Native.Nat.{ℕ, zero, suc, _+_}
 use mathlib.Core.Bool.{Bool, true, false, cond, _&&_, _||_, true≢false}
 use mathlib.Core.Logic.{_⊎_, inl, inr, ⊎-elim}
-use mathlib.Core.Path.{_≡_, refl, sym, ap, ap₂, _∙_, subst, subst⁻¹}
-use mathlib.Core.Option.{Option, none, some}
+use mathlib.Core.Path.{_≡_, refl, sym, ap, ap₂, _∙_, subst⁻¹}
+use mathlib.Core.Option.{Option, some}
 use mathlib.Core.List.{List, [], _∷_, _++_, map, List·Memᴰ, List·Memᴰ·head, List·Memᴰ·tail, List·Memᴰ·cases-cons}
 use mathlib.Core.List.{List·Memᴰ·not-nil, List·Memᴰ·eq-of-singleton}
 use native.Mathlib.Omega.{arith}
@@ -26,7 +26,7 @@ use Rattle.rules.specs.Transactions.{create, commit, abort}
 use Rattle.rules.specs.Service.{Served, serve, service}
 use Rattle.rules.specs.Tick.{abortAll, dropEnded, closeWaits, tick}
 use Rattle.rules.specs.Refusals.{refusal, noOperation}
-use Rattle.rules.specs.Step.{step, Outcome, after, quiet, stored, write, commitFrame, abortFrame, carriedOut, accepted}
+use Rattle.rules.specs.Step.{step, Outcome, quiet, stored, write, commitFrame, abortFrame, carriedOut, accepted}
 use Rattle.demands.specs.Answers.{ofParty, AnsweredNow}
 use Rattle.demands.specs.Said.{Serves, gone-through, is-found, waits-on, Service, Said, writes, writes-inside}
 use Rattle.demands.specs.Said.{creates, commits, aborts, ticks, advanced, ended, lapsed, due}

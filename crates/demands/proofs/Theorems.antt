@@ -14,7 +14,7 @@ use Rattle.rules.specs.State.{Model, empty}
 use Rattle.rules.specs.Numbers.{forever}
 use Rattle.rules.specs.Lists.{filterb, anyb}
 use Rattle.rules.specs.Frame.{decode, isLookUp}
-use Rattle.rules.specs.Records.{areaAfter, answerBytes, refused}
+use Rattle.rules.specs.Records.{refused}
 use Rattle.rules.specs.LookUp.{lookUpOf}
 use Rattle.rules.specs.Refusals.{refusal}
 use Rattle.rules.specs.Step.{step}
@@ -22,8 +22,7 @@ use Rattle.rules.specs.Allowed.{Answered}
 use Rattle.rules.proofs.StepCases.{bool-cases}
 use Rattle.demands.specs.Machine.{Handed, Machine, theSpace, theRules}
 use Rattle.demands.specs.History.{Logged, recordsOf, History, Made}
-use Rattle.demands.specs.Judged.{Judged}
-use Rattle.demands.specs.Answers.{AnsweredNow, asked, NothingLeft, Settled, OneEach, isTicked, closes}
+use Rattle.demands.specs.Answers.{AnsweredNow, asked, NothingLeft, OneEach, isTicked, closes}
 use Rattle.demands.specs.Said.{Said}
 use Rattle.demands.specs.Book.{bookOf, Booked}
 use Rattle.demands.specs.Told.{Explained}
@@ -32,7 +31,7 @@ use Rattle.demands.specs.Demands.{Demand1, Demand2, Demand3}
 use Rattle.rules.specs.State.{Bounded}
 use Rattle.demands.specs.Bounds.{ByNumber, Timely, ReadByLive, OwnTakeHold, AreBytes, AllInRange, Bounds}
 use Rattle.demands.proofs.Runs.{Input, runs, made, answersTo}
-use Rattle.demands.proofs.Carried.{ByRule, Follows, space-follows, rules-follow, inputOf, RunTo, run-to, run-of}
+use Rattle.demands.proofs.Carried.{ByRule, Follows, space-follows, rules-follow, inputOf, run-to, run-of}
 use Rattle.rules.proofs.Capacity.{step-fits}
 use Rattle.demands.proofs.Capacities.{bounded}
 use Rattle.rules.proofs.AreaLaws.{area-length}

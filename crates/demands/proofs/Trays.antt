@@ -16,10 +16,10 @@ use Rattle.rules.specs.Tray.{pairsOf, frameCount, pairsEnd, pairs, badTray, bad
 use Rattle.rules.specs.Tray.{stopped, runFrames, runPairs, runTray, hostNumber}
 use Rattle.rules.specs.Allowed.{Answered}
 use Rattle.rules.proofs.StepCases.{cond-cases, or-left, or-right}
-use Rattle.demands.specs.Machine.{Handed, Stepped, answeredBy, theRules}
+use Rattle.demands.specs.Machine.{Stepped, answeredBy, theRules}
 use Rattle.demands.specs.History.{Logged, recordsOf, History, begun, handed}
 use Rattle.rules.specs.State.{Bounded}
-use Rattle.demands.specs.Trays.{HandedIn, none-left, one-more, TrayHistory, TraysAreHistories, ReadBack}
+use Rattle.demands.specs.Trays.{HandedIn, none-left, one-more, TraysAreHistories, ReadBack}
 use Rattle.demands.specs.Trays.{NumbersAreReadBack}
 use Rattle.rules.proofs.Capacity.{step-fits}
 use Rattle.rules.proofs.AreaLaws.{area-length}

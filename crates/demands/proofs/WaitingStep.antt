@@ -2,7 +2,7 @@
 use Prim.Native.Nat.{ℕ, _+_}
 use mathlib.Core.Bool.{true, false, not, or-true}
 use mathlib.Core.Logic.{_⊎_, inl, inr, ⊎-elim}
-use mathlib.Core.Path.{_≡_, refl, sym, ap, subst⁻¹, subst₂}
+use mathlib.Core.Path.{_≡_, refl, sym, ap}
 use mathlib.Core.Option.{Option, none, some}
 use mathlib.Core.List.{List, [], _∷_, _++_, map, List·Memᴰ, List·Memᴰ·head, List·Memᴰ·tail, List·Memᴰ·cases-cons}
 use mathlib.Core.List.{Memᴰ·append-left, Memᴰ·append-right, Memᴰ·map}
@@ -15,24 +15,20 @@ use Rattle.rules.specs.declared.LookUp.{LookUp}
 use Rattle.rules.specs.Lists.{pick}
 use Rattle.rules.specs.Time.{reached}
 use Rattle.rules.specs.State.{Model, withClock}
-use Rattle.rules.specs.Holds.{available, availableTo, someAvailable}
+use Rattle.rules.specs.Holds.{availableTo}
 use Rattle.rules.specs.Frame.{decode}
 use Rattle.rules.specs.Records.{written, found, nothing, exception}
 use Rattle.rules.specs.LookUp.{Done, lookUpOf, givesNothing, answer, answerFound, answerNothing, answerWaiting, lookUp}
-use Rattle.rules.specs.LookUp.{handOut}
 use Rattle.rules.specs.Transactions.{create, commit, abort}
-use Rattle.rules.specs.Service.{Served, serve, service}
+use Rattle.rules.specs.Service.{serve, service}
 use Rattle.rules.specs.Tick.{endedTxns, abortAll, dropEnded, closeWaits, tick}
 use Rattle.rules.specs.Step.{stored, write, commitFrame, abortFrame, step, accepted, refusedWith, Outcome}
-use Rattle.demands.proofs.Runs.{Input, made}
-use Rattle.rules.proofs.ListLaws.{mem-filter, filter-mem, any-pick, any-filter}
-use Rattle.rules.proofs.StepCases.{bool-cases, option-cases, cond-cases, step-cases, done-cases, serve-ind, serve-none}
-use Rattle.rules.proofs.StepCases.{serve-some}
-use Rattle.demands.proofs.LookUpLaws.{answered-now}
+use Rattle.demands.proofs.Runs.{Input}
+use Rattle.rules.proofs.ListLaws.{mem-filter, filter-mem}
+use Rattle.rules.proofs.StepCases.{bool-cases, cond-cases, step-cases, done-cases, serve-ind}
 use Rattle.rules.proofs.RefusalLaws.{clear}
-use Rattle.demands.proofs.Deadlines.{deadlines-above}
 use Rattle.demands.proofs.Owners.{own-named, not-inside, named-nonzero}
-use Rattle.demands.proofs.Settling.{Stable, stable}
+use Rattle.demands.proofs.Settling.{Stable}
 
 -- what a step does to a look-up that waits: it waits on, or it has its closing answer
 pub data Later (m : Model) (w : LookUp) (o : Outcome) : Type 0 where

@@ -3,7 +3,7 @@
 --
 -- A history is a list of frames, any bytes with answers areas of any length, from the empty space. `Made S log t`:
 -- frames made the state t, and the log has each frame with the records that its step wrote.
-use Prim.Native.Nat.{ℕ, _≤_}
+use Prim.Native.Nat.{_≤_}
 use mathlib.Core.Bool.{true, false}
 use mathlib.Core.Path.{_≡_}
 use mathlib.Core.List.{List, _++_}

@@ -1,8 +1,8 @@
 -- Demand 1, for one frame: carried out, or refused with a number; a refused one changes nothing but the refusal record.
-use Prim.Native.Nat.{ℕ, _*_, _≤_, _<_}
+use Prim.Native.Nat.{_*_, _≤_, _<_}
 use mathlib.Core.Path.{_≡_}
 use mathlib.Core.Logic.{_↔_}
-use mathlib.Core.List.{List, [], _∷_}
+use mathlib.Core.List.{[], _∷_}
 use lib.ListN.{length, take, drop}
 use Rattle.rules.specs.Numbers.{recordSize, stepArea, areaRefused, waitsRefused}
 use Rattle.rules.specs.Records.{refused, answerBytes}

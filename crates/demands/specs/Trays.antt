@@ -1,18 +1,18 @@
 -- A tray's run is a history of the rules; its records fit its area; its 64-bit number is read back uniquely; records'
 -- bytes tell them.
-use Prim.Native.Nat.{ℕ, suc, _+_, _-_, _*_, _/_, _%_, _≤_, _<_}
+use Prim.Native.Nat.{ℕ, suc, _*_, _/_, _%_, _≤_, _<_}
 use mathlib.Core.Path.{_≡_}
 use mathlib.Core.Logic.{_⊎_}
-use mathlib.Core.List.{List, [], _∷_, map}
+use mathlib.Core.List.{List, [], _∷_}
 use lib.ListN.{length, take, drop}
 use Rattle.rules.specs.declared.Record.{Record}
-use Rattle.rules.specs.Numbers.{recordSize, maxFrames, areaRefused}
+use Rattle.rules.specs.Numbers.{recordSize, areaRefused}
 use Rattle.rules.specs.State.{Model, empty}
 use Rattle.rules.specs.Records.{answerBytes}
 use Rattle.rules.specs.Step.{step}
 use Rattle.rules.specs.Allowed.{Answered}
 use Rattle.rules.specs.Tray.{TrayOutcome, runFrames, runTray, hostNumber}
-use Rattle.demands.specs.Machine.{Handed, Stepped, theRules}
+use Rattle.demands.specs.Machine.{Stepped, theRules}
 use Rattle.demands.specs.History.{Logged, logged, recordsOf, History}
 use Rattle.demands.specs.Bounds.{AllInRange}
 

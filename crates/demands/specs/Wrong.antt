@@ -21,10 +21,10 @@ use Rattle.rules.specs.Transactions.{abort, takenBy}
 use Rattle.rules.specs.Service.{serve, service}
 use Rattle.rules.specs.Tick.{endedTxns, abortAll, dropEnded, closeWaits, tick}
 use Rattle.rules.specs.Refusals.{refusal}
-use Rattle.rules.specs.Step.{Outcome, after, quiet, newEntry, stored, write, carriedOut, accepted, refusedWith}
+use Rattle.rules.specs.Step.{after, quiet, newEntry, stored, write, carriedOut, accepted, refusedWith}
 use Rattle.rules.specs.Step.{step}
 use Rattle.rules.specs.Allowed.{Answered}
-use Rattle.demands.specs.Machine.{Handed, Machine, Stepper, Stepped, spaceOf, theRules}
+use Rattle.demands.specs.Machine.{Machine, Stepper, Stepped, spaceOf, theRules}
 use Rattle.demands.specs.Demands.{Demand2, Demand3}
 use Rattle.demands.specs.Answering.{Answering}
 

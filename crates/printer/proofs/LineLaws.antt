@@ -9,7 +9,7 @@ use lib.Dec.{ltb}
 use lib.ListN.{length, getD, set, drop, length-append, length-drop, drop-of-length-le}
 use lib.Seq.{drop-cons}
 use borrow.Author.Tests.{lt-ltb, le-ltb}
-use Rattle.rules.specs.Print.{digits, decimal, line}
+use Rattle.rules.specs.Print.{decimal, line}
 use Rattle.codec.proofs.FrontLaws.{over-none}
 use Rattle.printer.specs.Text.{Puts}
 use Rattle.printer.proofs.DigitLaws.{digits-length}

@@ -1,6 +1,6 @@
 -- The line of a record's bytes is the record's line.
 use Prim.Native.Nat.{ℕ, _<_}
-use mathlib.Core.Path.{_≡_, refl, sym}
+use mathlib.Core.Path.{_≡_, sym}
 use mathlib.Core.List.{List, _++_}
 use Rattle.rules.specs.declared.Record.{Record}
 use Rattle.rules.specs.Frame.{numberAt}

@@ -4,7 +4,6 @@ use mathlib.Core.Path.{_≡_}
 use mathlib.Core.List.{List}
 use lib.ListN.{length}
 use Rattle.rules.specs.declared.Record.{Record}
-use Rattle.rules.specs.State.{Model}
 use Rattle.rules.specs.Words.{view}
 use Rattle.rules.specs.Records.{areaAfter}
 use Rattle.rules.specs.Step.{step}

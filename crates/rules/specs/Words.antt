@@ -1,12 +1,10 @@
 -- A space as words, and how they are read as the rules' model.
 use Prim.Native.Nat.{ℕ, zero, suc, _+_, _*_, _%_, min}
-use mathlib.Core.Bool.{Bool, cond, _||_}
-use mathlib.Core.Path.{_≡_}
+use mathlib.Core.Bool.{cond}
 use mathlib.Core.List.{List, [], _∷_, _++_}
 use lib.Dec.{eqb}
-use lib.ListN.{getD, take, drop, set}
+use lib.ListN.{getD, take, drop}
 use Rattle.rules.specs.declared.Entry.{Entry}
-use Rattle.rules.specs.declared.Fields.{Fields}
 use Rattle.rules.specs.declared.Txn.{Txn}
 use Rattle.rules.specs.declared.LookUp.{LookUp}
 use Rattle.rules.specs.declared.Until.{Until}

@@ -1,7 +1,6 @@
 -- Service, look-up by look-up, over the model.
-use Prim.Native.Nat.{ℕ, zero, suc, _+_, _*_, _≤_, _<_}
-use mathlib.Core.Bool.{true, false}
-use mathlib.Core.Option.{Option, none, some}
+use Prim.Native.Nat.{ℕ, suc, _+_, _≤_, _<_}
+use mathlib.Core.Option.{none, some}
 use mathlib.Core.Path.{_≡_, refl, sym, ap, ap₂, _∙_}
 use mathlib.Core.List.{List, [], _∷_, _++_, append-assoc, append-nil}
 use native.Mathlib.Omega.{arith}
@@ -11,13 +10,12 @@ use lib.ListN.{length, take, drop, set, length-set, length-append, drop-of-lengt
 use lib.Seq.{take-suc-set, drop-set-lt}
 use Rattle.rules.specs.declared.Entry.{Entry}
 use Rattle.rules.specs.declared.Record.{Record}
-use Rattle.rules.specs.declared.Txn.{Txn}
 use Rattle.rules.specs.declared.LookUp.{LookUp}
 use Rattle.rules.specs.Lists.{pick}
 use Rattle.rules.specs.State.{Model, withEntries, withWaits}
 use Rattle.rules.specs.Holds.{availableTo}
 use Rattle.rules.specs.Records.{found}
-use Rattle.rules.specs.LookUp.{Done, handOut}
+use Rattle.rules.specs.LookUp.{handOut}
 use Rattle.rules.specs.Service.{Served, serve, service, foundFirst, waitsFirst}
 use Rattle.rules.proofs.StepCases.{serve-none, serve-some}
 use Rattle.holds.specs.HandOut.{handedOut}

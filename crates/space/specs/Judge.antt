@@ -10,7 +10,7 @@ use Rattle.rules.specs.declared.LookUp.{LookUp}
 use Rattle.rules.specs.declared.Txn.{Txn}
 use Rattle.rules.specs.Lists.{anyb, firstRow}
 use Rattle.rules.specs.Numbers.{forever, lastClock, maxEntries, maxWaits, waitingRefused, notLiveRefused, notOwnRefused}
-use Rattle.rules.specs.Numbers.{leaseRefused, clockRefused, entriesRefused, txnsRefused, numberRefused, waitsRefused}
+use Rattle.rules.specs.Numbers.{waitsRefused}
 use Rattle.rules.specs.State.{Model}
 use Rattle.rules.specs.Holds.{liveTxn}
 use Rattle.rules.specs.Frame.{Frame}

@@ -1,5 +1,5 @@
 -- The pairs of a tray, one after another.
-use Prim.Native.Nat.{ℕ, zero, suc, _+_, _-_, _*_, _≤_, _<_}
+use Prim.Native.Nat.{ℕ, zero, suc, _+_, _*_, _≤_, _<_}
 use mathlib.Core.Bool.{false, _||_}
 use mathlib.Core.Path.{_≡_, refl, ap, ap₂, _∙_}
 use mathlib.Core.List.{List, [], _∷_}
@@ -9,7 +9,7 @@ use lib.Dec.{ltb}
 use lib.ListN.{length, getD, drop}
 use lib.Seq.{getD-drop}
 use Rattle.rules.specs.Frame.{byteAt, numberAt}
-use Rattle.rules.specs.Tray.{Pair, pairsOf, pairs, badPairs}
+use Rattle.rules.specs.Tray.{Pair, pairsOf, badPairs}
 use Rattle.rules.proofs.StepCases.{or-left, or-right}
 
 -- the pair whose eight bytes begin at j

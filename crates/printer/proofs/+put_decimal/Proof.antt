@@ -3,7 +3,7 @@ use Prim.Native.Nat.{ℕ, _<_}
 use native.Mathlib.Omega.{arith}
 use lib.ListN.{length-set}
 use Rattle.printer.proofs.DigitLaws.{one-long, many-long}
-use Rattle.printer.proofs.TextLaws.{puts-digit, puts-digits, puts-length}
+use Rattle.printer.proofs.TextLaws.{puts-digit, puts-digits}
 use borrow.Fn.Kinds.{In}
 use borrow.Fn.PlainCycle.{Measures, is, falls, and}
 use Rattle.printer.proofs.put_decimal.Reads as put-decimal

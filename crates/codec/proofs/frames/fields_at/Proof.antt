@@ -1,5 +1,4 @@
 -- `codec::frames::fields_at` meets its contract. Assumes nothing.
-use mathlib.Core.Path.{refl}
 use Rattle.rules.specs.Frame.{decode}
 use borrow.Author.Needs.{needs}
 use Rattle.codec.proofs.frames.fields_at.Statement.{statement}

@@ -1,6 +1,6 @@
 -- `space::field_agrees` meets its contract. Assumes nothing.
 use borrow.Author.Needs.{needs}
-use mathlib.Core.Path.{_≡_, sym, _∙_}
+use mathlib.Core.Path.{sym, _∙_}
 use Rattle.holds.proofs.holds.field_agrees.Statement.{statement}
 use Rattle.holds.proofs.holds.field_agrees.Tie as tie
 

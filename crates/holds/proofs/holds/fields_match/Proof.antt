@@ -1,6 +1,6 @@
 -- `space::fields_match` meets its contract. Assumes nothing.
 use borrow.Author.Needs.{needs}
-use mathlib.Core.Path.{_≡_, sym, _∙_}
+use mathlib.Core.Path.{sym, _∙_}
 use Rattle.rules.specs.Template.{matches}
 use Rattle.holds.proofs.holds.fields_match.Statement.{statement}
 use Rattle.holds.proofs.holds.fields_match.Tie as tie

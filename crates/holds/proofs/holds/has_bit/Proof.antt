@@ -1,6 +1,4 @@
 -- `space::has_bit` meets its contract. Assumes nothing.
-use Prim.Native.Nat.{_<_, _^_}
-use mathlib.Core.Path.{ap, _∙_}
 use borrow.Author.Needs.{needs}
 use lib.Pow.{pow-pos}
 use native.Mathlib.Omega.{arith}

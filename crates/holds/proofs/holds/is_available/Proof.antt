@@ -1,6 +1,6 @@
 -- `space::is_available` meets its contract. Assumes nothing.
 use borrow.Author.Needs.{needs}
-use mathlib.Core.Path.{_≡_, sym, _∙_}
+use mathlib.Core.Path.{sym, _∙_}
 use Rattle.rules.specs.Holds.{visible}
 use Rattle.holds.specs.HandOut.{availableAt}
 use Rattle.holds.proofs.holds.is_available.Statement.{statement}

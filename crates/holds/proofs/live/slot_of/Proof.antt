@@ -1,6 +1,6 @@
 -- `space::slot_of` meets its contract. Assumes nothing.
 use borrow.Author.Needs.{needs}
-use mathlib.Core.Path.{_≡_, ap, sym, _∙_, subst}
+use mathlib.Core.Path.{ap, sym, _∙_, subst}
 use Prim.Native.Nat.{_≤_}
 use lib.Dec.{lit<}
 use Rattle.holds.specs.Live.{slotOf, liveOf}
