@@ -1,6 +1,6 @@
 # Sourced by the scripts beside it, at the repository's root: finds or builds what they use.
 #   archive  the proved library: SPACE_ARCHIVE, or what `rt staticlib tray` writes
-#   program  the proved program: SPACE_PROGRAM, or what `rt check viewer` writes; empty if there is none
+#   program  the proved program: SPACE_PROGRAM, or what `rt check viewer` writes
 #   out      where everything of the host is built
 out=$PWD/target/host
 mkdir -p "$out"
@@ -28,10 +28,8 @@ find_archive() {
 
 find_program() {
     program=${SPACE_PROGRAM:-target/bin/viewer}
-    if [ -z "${SPACE_PROGRAM:-}" ] && grep -q '^viewer:' crates.txt; then
-        rt_makes "$program" check viewer || return 1
-    fi
-    [ -x "$program" ] || program=
+    [ -n "${SPACE_PROGRAM:-}" ] || rt_makes "$program" check viewer || return 1
+    [ -x "$program" ] || { echo "there is no $program"; return 1; }
 }
 
 build_rust() {

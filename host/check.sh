@@ -49,7 +49,7 @@ examples=0
 for text in examples/*.txt; do
     name=$(basename "$text" .txt)
     "$tray" assemble < "$text" > "$out/examples/$name.tray" || fail "$text"
-    for by in library ${program:+program} reference; do
+    for by in library program reference; do
         run $by < "$out/examples/$name.tray" > "$out/examples/$name.out" || fail "$text by the $by"
         if [ -f "examples/$name.expected-end" ]; then # the last lines only
             tail -n "$(wc -l < "examples/$name.expected-end")" "$out/examples/$name.out" > "$out/examples/$name.end"
@@ -74,18 +74,14 @@ for quote in "$out"/manual/examples/*; do
 done
 echo "ok: $quotes quotations in the manual"
 
-if [ -n "$program" ]; then
-    for seed in $(seq "$RANDOM_TRAYS"); do
-        "$tray" random "$seed" > "$out/random.tray"
-        for by in library program; do
-            run $by < "$out/random.tray" > "$out/random.$by" || fail "tray random $seed by the $by"
-        done
-        same "tray random $seed by the program" "$out/random.library" "$out/random.program"
+for seed in $(seq "$RANDOM_TRAYS"); do
+    "$tray" random "$seed" > "$out/random.tray"
+    for by in library program; do
+        run $by < "$out/random.tray" > "$out/random.$by" || fail "tray random $seed by the $by"
     done
-    echo "ok: $RANDOM_TRAYS random trays, damaged ones too, by the program"
-else
-    echo "there is no program yet: its lines were checked through host/run_tray.c"
-fi
+    same "tray random $seed by the program" "$out/random.library" "$out/random.program"
+done
+echo "ok: $RANDOM_TRAYS random trays, damaged ones too, by the program"
 
 "$out/damaged" "$FENCED_TRAYS" 1 fence > "$out/fenced.out" || fail "damaged trays with guard pages"
 if command -v valgrind > /dev/null; then

@@ -6,9 +6,4 @@ cd "$(dirname "$0")/.."
 . host/build.sh
 find_program
 build_rust --bin tray
-if [ -z "$program" ]; then
-    find_archive
-    build_c run_tray
-    program=$out/run_tray
-fi
 "$out/cargo/release/tray" assemble < "$text" | "$program"

@@ -93,7 +93,8 @@ void space_empty(uint32_t space[SPACE_WORDS]);
  * Returns records + 65536 * number: the records written to `answers`, one behind the other from its beginning, and
  * the refusal's number or 0. A refused frame leaves every word of `space` as it was; it writes one record, or none
  * for number 1 (answers_len under 700). Bytes of `answers` after the last record keep their contents. `frame` is only
- * read. On words made in any other way the call still ends and keeps to its buffers; nothing more is promised. */
+ * read. On words made in any other way the frame does the same to the tables that they are read as; but what is
+ * promised over histories of frames is not promised of those. */
 uint64_t space_step(uint32_t space[SPACE_WORDS], const uint8_t *frame, size_t frame_len,
                     uint8_t *answers, size_t answers_len);
 

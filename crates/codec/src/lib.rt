@@ -1,7 +1,6 @@
 // Frames read from bytes, and answer records written as bytes.
 mod bytes;
 mod frames;
-pub mod numbers;
 pub mod records;
 
 pub use bytes::byte_at;

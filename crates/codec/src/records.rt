@@ -8,9 +8,6 @@ ghost use Rattle.rules.specs.declared.Request.the-variants.{Write};
 ghost use Rattle.rules.specs.Requests.{frameOf};
 ghost use Rattle.codec.specs.Area.{over, recordPut};
 use crate::frames::party_of;
-use crate::numbers::KIND_FOUND;
-use crate::numbers::KIND_REFUSED;
-use crate::numbers::KIND_WRITTEN;
 use rules::Entry;
 use rules::EntryId;
 use rules::Fields;
@@ -18,6 +15,9 @@ use rules::LookUp;
 use rules::Record;
 use rules::TxnId;
 use rules::WriteRequest;
+use rules::numbers::KIND_FOUND;
+use rules::numbers::KIND_REFUSED;
+use rules::numbers::KIND_WRITTEN;
 
 fn no_fields() -> Fields
     ensures { λ r. ⌜ r ≡ noFields ⌝ }

@@ -21,7 +21,9 @@ use Rattle.rules.specs.Lists.{joined, findb, anyb, pick}
 use Rattle.rules.specs.State.{Model, empty, Bounded, withClock}
 use Rattle.rules.specs.Frame.{isTake, isIfExists, Frame, decode, isTick, isLookUp, isCreate}
 use Rattle.rules.specs.Words.{upTo, row, table, untilOf, untilWord, entryOf, txnOf, waitOf, entries, txns, waits}
-use Rattle.rules.specs.Words.{view}
+use Rattle.rules.specs.Words.{view, entryWords, txnWords, opWord, waitWords}
+use Rattle.rules.specs.Words.{entriesAt, entryWidth, txnsAt, txnWidth, waitsAt, waitWidth}
+use Rattle.rules.specs.Numbers.{forever, maxEntries, maxTxns, maxWaits}
 use Rattle.rules.specs.Template.{bit}
 use Rattle.rules.specs.Holds.{availableTo}
 use Rattle.rules.specs.LookUp.{Done, lookUpOf, givesNothing, answer, answerFound, answerNothing, answerWaiting}
@@ -103,40 +105,25 @@ map-back {A} write read (x ∷ xs) h = ap₂ {C = List A} (λ y ys. y ∷ ys) (h
 
 until-fits : (u : Until) → EndFits u → untilOf (untilWord u) ≡ u
 unfolding untilOf
-until-fits (Tick n) h = ap (λ b. cond b Forever (Tick n)) (ne-eqb n 4294967295 (λ q. omega arith))
+until-fits (Tick n) h = ap (λ b. cond b Forever (Tick n)) (ne-eqb n forever (λ q. omega arith))
 until-fits Forever h = refl
 
-entryRow : Entry → List ℕ
-entryRow e =
-    e .id .0 ∷ e .fields .kind ∷ e .fields .side ∷ e .fields .image ∷ e .fields .place ∷ untilWord (e .end) ∷ e .«private_to» .0 ∷ e .«taken_by» .0 ∷ e .readers ∷ []
-
-txnRow : Txn → List ℕ
-txnRow t = t .id .0 ∷ t .party ∷ untilWord (t .end) ∷ t .slot ∷ []
-
-opWord : Bool → Bool → ℕ
-opWord takes ifExists = cond takes (cond ifExists 5 3) (cond ifExists 4 2)
-
-waitRow : LookUp → List ℕ
-waitRow w =
-    w .party ∷ opWord (w .takes) (w .«if_exists») ∷ w .mask ∷ w .fields .kind ∷ w .fields .side ∷ w .fields .image ∷ w .fields .place ∷ w .txn .0 ∷ untilWord (w .deadline) ∷ []
-
-entry-back : (e : Entry) → e .readers < 256 → EndFits (e .end) → entryOf (entryRow e) ≡ e
-unfolding entryOf entryRow
+entry-back : (e : Entry) → e .readers < 256 → EndFits (e .end) → entryOf (entryWords e) ≡ e
+unfolding entryOf
 entry-back e r f = rw (until-fits (e .end) f, mod-eq-of-lt r)
 
-txn-back : (t : Txn) → t .party < 256 → t .slot < 8 → EndFits (t .end) → txnOf (txnRow t) ≡ t
-unfolding txnOf txnRow
+txn-back : (t : Txn) → t .party < 256 → t .slot < 8 → EndFits (t .end) → txnOf (txnWords t) ≡ t
+unfolding txnOf
 txn-back t p s f = rw (until-fits (t .end) f, mod-eq-of-lt p, mod-eq-of-lt s)
 
 op-back : (a b : Bool) → (isTake (opWord a b) ≡ a) × (isIfExists (opWord a b) ≡ b)
-unfolding opWord
 op-back true true = (refl, refl)
 op-back true false = (refl, refl)
 op-back false true = (refl, refl)
 op-back false false = (refl, refl)
 
-wait-back : (w : LookUp) → w .party < 256 → w .mask < 256 → EndFits (w .deadline) → waitOf (waitRow w) ≡ w
-unfolding waitOf waitRow
+wait-back : (w : LookUp) → w .party < 256 → w .mask < 256 → EndFits (w .deadline) → waitOf (waitWords w) ≡ w
+unfolding waitOf
 wait-back w p m f =
     rw (until-fits (w .deadline) f, mod-eq-of-lt p, mod-eq-of-lt m)
     (ap₂ (λ (a b : Bool). record { party = w .party; takes = a; «if_exists» = b; mask = w .mask; fields = w .fields; txn = w .txn; deadline = w .deadline })
@@ -152,10 +139,16 @@ padded-length : (n : ℕ) (ls : List (List ℕ)) → length (joined ls) ≤ n �
 unfolding padded
 padded-length n ls h = length-append (joined ls) (replicate (n - length (joined ls)) 0) ∙ omega (arith, length-replicate {A = ℕ} (n - length (joined ls)) 0)
 
+abbrev entriesWords : ℕ
+entriesWords = entryWidth * maxEntries
+
+abbrev txnsWords : ℕ
+txnsWords = txnWidth * maxTxns
+
 wordsOf : Model → List ℕ
 wordsOf m =
     (m .clock ∷ m .nextEntry ∷ m .nextTxn ∷ length (m .entries) ∷ length (m .txns) ∷ length (m .waits) ∷ [])
-    ++ (padded 576 (map entryRow (m .entries)) ++ (padded 32 (map txnRow (m .txns)) ++ joined (map waitRow (m .waits))))
+    ++ (padded entriesWords (map entryWords (m .entries)) ++ (padded txnsWords (map txnWords (m .txns)) ++ joined (map waitWords (m .waits))))
 
 wide-map : {A : Type 0} (w : ℕ) (write : A → List ℕ) (xs : List A) → ((x : A) → length (write x) ≡ w) → AllWide w (map write xs)
 wide-map w write xs h l i = let r = Memᴰ·of-map write xs i in ap length (sym (r .2)) ∙ h (r .0)
@@ -169,70 +162,70 @@ record Fits (m : Model) : Type 0 where
 
 module _ (m : Model) (h : Fits m) where
   es : List (List ℕ)
-  es = map entryRow (m .entries)
+  es = map entryWords (m .entries)
 
   ts : List (List ℕ)
-  ts = map txnRow (m .txns)
+  ts = map txnWords (m .txns)
 
   vs : List (List ℕ)
-  vs = map waitRow (m .waits)
+  vs = map waitWords (m .waits)
 
-  es-wide : AllWide 9 es
-  unfolding es entryRow
-  es-wide = wide-map 9 entryRow (m .entries) (λ e. refl)
-
-  ts-wide : AllWide 4 ts
-  unfolding ts txnRow
-  ts-wide = wide-map 4 txnRow (m .txns) (λ t. refl)
-
-  vs-wide : AllWide 9 vs
-  unfolding vs waitRow
-  vs-wide = wide-map 9 waitRow (m .waits) (λ w. refl)
-
-  es-length : length (padded 576 es) ≡ 576
+  es-wide : AllWide entryWidth es
   unfolding es
-  es-length = padded-length 576 es (omega (arith, joined-length 9 es es-wide, length-map (m .entries) entryRow, h .bounded .entries-fit))
+  es-wide = wide-map entryWidth entryWords (m .entries) (λ e. refl)
 
-  ts-length : length (padded 32 ts) ≡ 32
+  ts-wide : AllWide txnWidth ts
   unfolding ts
-  ts-length = padded-length 32 ts (omega (arith, joined-length 4 ts ts-wide, length-map (m .txns) txnRow, h .bounded .txns-fit))
+  ts-wide = wide-map txnWidth txnWords (m .txns) (λ t. refl)
 
-  after-entries : drop 582 (wordsOf m) ≡ padded 32 ts ++ joined vs
+  vs-wide : AllWide waitWidth vs
+  unfolding vs
+  vs-wide = wide-map waitWidth waitWords (m .waits) (λ w. refl)
+
+  es-length : length (padded entriesWords es) ≡ entriesWords
+  unfolding es
+  es-length = padded-length entriesWords es (omega (arith, joined-length entryWidth es es-wide, length-map (m .entries) entryWords, h .bounded .entries-fit))
+
+  ts-length : length (padded txnsWords ts) ≡ txnsWords
+  unfolding ts
+  ts-length = padded-length txnsWords ts (omega (arith, joined-length txnWidth ts ts-wide, length-map (m .txns) txnWords, h .bounded .txns-fit))
+
+  after-entries : drop txnsAt (wordsOf m) ≡ padded txnsWords ts ++ joined vs
   unfolding wordsOf es ts vs
-  after-entries = sym (drop-drop 576 6 (wordsOf m)) ∙ drop-at (padded 576 es) (padded 32 ts ++ joined vs) 576 es-length
+  after-entries = sym (drop-drop entriesWords entriesAt (wordsOf m)) ∙ drop-at (padded entriesWords es) (padded txnsWords ts ++ joined vs) entriesWords es-length
 
-  after-txns : drop 614 (wordsOf m) ≡ joined vs
+  after-txns : drop waitsAt (wordsOf m) ≡ joined vs
   unfolding ts
-  after-txns = sym (drop-drop 32 582 (wordsOf m)) ∙ ap (drop 32) after-entries ∙ drop-at (padded 32 ts) (joined vs) 32 ts-length
+  after-txns = sym (drop-drop txnsWords txnsAt (wordsOf m)) ∙ ap (drop txnsWords) after-entries ∙ drop-at (padded txnsWords ts) (joined vs) txnsWords ts-length
 
-  entries-back : entries (min (length (m .entries)) 64) (wordsOf m) ≡ m .entries
+  entries-back : entries (min (length (m .entries)) maxEntries) (wordsOf m) ≡ m .entries
   unfolding entries wordsOf es padded
   entries-back =
-      let count : min (length (m .entries)) 64 ≡ length es = omega (arith, length-map (m .entries) entryRow, h .bounded .entries-fit) in
+      let count : min (length (m .entries)) maxEntries ≡ length es = omega (arith, length-map (m .entries) entryWords, h .bounded .entries-fit) in
       ap (λ k. entries k (wordsOf m)) count
-      ∙ table-read entryOf 9 6 (wordsOf m) es (replicate (576 - length (joined es)) 0 ++ (padded 32 (map txnRow (m .txns)) ++ joined (map waitRow (m .waits)))) (append-assoc (joined es) (replicate (576 - length (joined es)) 0) (padded 32 (map txnRow (m .txns)) ++ joined (map waitRow (m .waits)))) es-wide
-      ∙ map-back entryRow entryOf (m .entries) (λ e i. entry-back e (h .entries e i .0) (h .entries e i .1))
+      ∙ table-read entryOf entryWidth entriesAt (wordsOf m) es (replicate (entriesWords - length (joined es)) 0 ++ (padded txnsWords (map txnWords (m .txns)) ++ joined (map waitWords (m .waits)))) (append-assoc (joined es) (replicate (entriesWords - length (joined es)) 0) (padded txnsWords (map txnWords (m .txns)) ++ joined (map waitWords (m .waits)))) es-wide
+      ∙ map-back entryWords entryOf (m .entries) (λ e i. entry-back e (h .entries e i .0) (h .entries e i .1))
 
-  txns-back : txns (min (length (m .txns)) 8) (wordsOf m) ≡ m .txns
+  txns-back : txns (min (length (m .txns)) maxTxns) (wordsOf m) ≡ m .txns
   unfolding txns ts padded
   txns-back =
-      let count : min (length (m .txns)) 8 ≡ length ts = omega (arith, length-map (m .txns) txnRow, h .bounded .txns-fit) in
+      let count : min (length (m .txns)) maxTxns ≡ length ts = omega (arith, length-map (m .txns) txnWords, h .bounded .txns-fit) in
       ap (λ k. txns k (wordsOf m)) count
-      ∙ table-read txnOf 4 582 (wordsOf m) ts (replicate (32 - length (joined ts)) 0 ++ joined vs) (after-entries ∙ append-assoc (joined ts) (replicate (32 - length (joined ts)) 0) (joined vs)) ts-wide
-      ∙ map-back txnRow txnOf (m .txns) (λ t i. txn-back t (h .txns t i .0) (h .txns t i .1) (h .txns t i .2))
+      ∙ table-read txnOf txnWidth txnsAt (wordsOf m) ts (replicate (txnsWords - length (joined ts)) 0 ++ joined vs) (after-entries ∙ append-assoc (joined ts) (replicate (txnsWords - length (joined ts)) 0) (joined vs)) ts-wide
+      ∙ map-back txnWords txnOf (m .txns) (λ t i. txn-back t (h .txns t i .0) (h .txns t i .1) (h .txns t i .2))
 
-  waits-back : waits (min (length (m .waits)) 16) (wordsOf m) ≡ m .waits
+  waits-back : waits (min (length (m .waits)) maxWaits) (wordsOf m) ≡ m .waits
   unfolding waits vs
   waits-back =
-      let count : min (length (m .waits)) 16 ≡ length vs = omega (arith, length-map (m .waits) waitRow, h .bounded .waits-fit) in
+      let count : min (length (m .waits)) maxWaits ≡ length vs = omega (arith, length-map (m .waits) waitWords, h .bounded .waits-fit) in
       ap (λ k. waits k (wordsOf m)) count
-      ∙ table-read waitOf 9 614 (wordsOf m) vs [] (after-txns ∙ sym (append-nil (joined vs))) vs-wide
-      ∙ map-back waitRow waitOf (m .waits) (λ w i. wait-back w (h .waits w i .0) (h .waits w i .1) (h .waits w i .2))
+      ∙ table-read waitOf waitWidth waitsAt (wordsOf m) vs [] (after-txns ∙ sym (append-nil (joined vs))) vs-wide
+      ∙ map-back waitWords waitOf (m .waits) (λ w i. wait-back w (h .waits w i .0) (h .waits w i .1) (h .waits w i .2))
 
   words-back : view (wordsOf m) ≡ m
   unfolding view wordsOf
   words-back =
-      ap (λ (x : List Entry). modelOf x (txns (min (length (m .txns)) 8) (wordsOf m)) (waits (min (length (m .waits)) 16) (wordsOf m))) entries-back
+      ap (λ (x : List Entry). modelOf x (txns (min (length (m .txns)) maxTxns) (wordsOf m)) (waits (min (length (m .waits)) maxWaits) (wordsOf m))) entries-back
       ∙ ap₂ (λ (x : List Txn) (y : List LookUp). modelOf (m .entries) x y) txns-back waits-back
     where
       modelOf : List Entry → List Txn → List LookUp → Model

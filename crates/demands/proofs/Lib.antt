@@ -1,4 +1,5 @@
--- The theorems: Theorems has the three demands, Wrong what they rule out, the rest leads there.
+-- The theorems: Theorems has the three demands, Determining and Answering that they fix the space, RuledOut wrong spaces that
+-- they rule out; the rest leads there.
 
 -- runs of the rules, and histories carried to them
 pub mod Runs
@@ -39,13 +40,14 @@ pub mod Growth
 pub mod Finding
 pub mod Simulation
 pub mod Serializing
--- the demands, trays, a record's bytes
+-- trays, a record's bytes
 pub mod Trays
 pub mod RecordBytes
 pub mod Ranges
 -- the course's examples
 pub mod Computed
 pub mod Course
+-- the demands, what they leave open (nothing), what they rule out
 pub mod Theorems
 pub mod Determining
 pub mod Answering

@@ -14,7 +14,7 @@ use Rattle.rules.specs.LookUp.{lookUpOf}
 use Rattle.rules.specs.Refusals.{refusal}
 use Rattle.rules.specs.Step.{step, carriedOut}
 use Rattle.rules.specs.Allowed.{Answered}
-use Rattle.demands.specs.Machine.{Handed, Stepper, Stepped, answeredBy, spaceOf}
+use Rattle.demands.specs.Machine.{Handed, Stepper, StepsBy, answeredBy, spaceOf}
 use Rattle.demands.specs.History.{Logged, History, begun, handed, Made}
 use Rattle.demands.specs.SerialRun.{Kept, sameFields, isKept, failed, taking, carryOut, carryOutAll, perform}
 use Rattle.demands.specs.SerialRun.{listOf, thrownAway, lastTakes, advanced, follow, followAll, wasRefused}
@@ -53,7 +53,7 @@ logOf does m (f ∷ fs) =
 abbrev answerTo : Stepper → Model → List ℕ → Answered
 answerTo does m f = answeredBy (does choice m f 700) (replicate 700 0)
 
-one-step : (does : Stepper) (m : Model) (f : List ℕ) → Stepped does m (handIn f) (does choice m f 700 .model) (answerTo does m f)
+one-step : (does : Stepper) (m : Model) (f : List ℕ) → StepsBy does m (handIn f) (does choice m f 700 .model) (answerTo does m f)
 one-step does m f = record { choice = choice; space = refl; answered = refl }
 
 played : (does : Stepper) (m : Model) (fs : List (List ℕ)) → History (spaceOf does) m (logOf does m fs) (lastOf does m fs)

@@ -16,7 +16,7 @@ use Rattle.rules.specs.Tray.{pairsOf, frameCount, pairsEnd, pairs, badTray, bad
 use Rattle.rules.specs.Tray.{stopped, runFrames, runPairs, runTray, hostNumber}
 use Rattle.rules.specs.Allowed.{Answered}
 use Rattle.rules.proofs.StepCases.{cond-cases, or-left, or-right}
-use Rattle.demands.specs.Machine.{Stepped, answeredBy, theRules}
+use Rattle.demands.specs.Machine.{StepsBy, answeredBy, theRules}
 use Rattle.demands.specs.History.{Logged, recordsOf, History, begun, handed}
 use Rattle.rules.specs.State.{Bounded}
 use Rattle.demands.specs.Trays.{HandedIn, none-left, one-more, TraysAreHistories, ReadBack}
@@ -87,7 +87,7 @@ from choices m area (f ∷ fs) b =
     s : Bounded (o .model) × (length (o .records) ≤ 25)
     s = step-fits (choices 0) m f (length area) b
 
-    does : Stepped step m (record { frame = f; area = area }) (o .model) a
+    does : StepsBy step m (record { frame = f; area = area }) (o .model) a
     does = record { choice = choices 0; space = refl; answered = refl }
 
     more : ltb (length area) 700 ≡ false

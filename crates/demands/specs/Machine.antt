@@ -42,14 +42,14 @@ answeredBy o area =
 abbrev pub Stepper : Type 0
 Stepper = (ℕ → ℕ) → Model → List ℕ → ℕ → Outcome
 
-pub record Stepped (does : Stepper) (m : Model) (h : Handed) (n : Model) (a : Answered) : Type 0 where
+pub record StepsBy (does : Stepper) (m : Model) (h : Handed) (n : Model) (a : Answered) : Type 0 where
   pub choice : ℕ → ℕ
   pub space : n ≡ does choice m (h .frame) (length (h .area)) .model
   pub answered : a ≡ answeredBy (does choice m (h .frame) (length (h .area))) (h .area)
 
 abbrev pub spaceOf : Stepper → Machine
 spaceOf does =
-    record { State = Model; view = λ m. m; Empty = λ m. m ≡ empty; Steps = Stepped does }
+    record { State = Model; view = λ m. m; Empty = λ m. m ≡ empty; Steps = StepsBy does }
 
 -- the rules themselves
 abbrev pub theRules : Machine

@@ -12,7 +12,7 @@ use Rattle.rules.specs.Records.{answerBytes}
 use Rattle.rules.specs.Step.{step}
 use Rattle.rules.specs.Allowed.{Answered}
 use Rattle.rules.specs.Tray.{TrayOutcome, runFrames, runTray, hostNumber}
-use Rattle.demands.specs.Machine.{Stepped, theRules}
+use Rattle.demands.specs.Machine.{StepsBy, theRules}
 use Rattle.demands.specs.History.{Logged, logged, recordsOf, History}
 use Rattle.demands.specs.Bounds.{AllInRange}
 
@@ -22,7 +22,7 @@ pub data HandedIn : (ℕ → ℕ → ℕ) → Model → List ℕ → List (List 
   none-left : (choices : ℕ → ℕ → ℕ) (m : Model) (area : List ℕ) → HandedIn choices m area [] [] m
   one-more : (choices : ℕ → ℕ → ℕ) {m n o : Model} {area frame : List ℕ} {frames : List (List ℕ)} {log : List Logged}
       (a : Answered)
-      (s : Stepped step m (record { frame = frame; area = area }) n a)
+      (s : StepsBy step m (record { frame = frame; area = area }) n a)
       → s .choice ≡ choices 0
       → HandedIn (λ i. choices (suc i)) n (drop (recordSize * length (a .records)) (a .area)) frames log o
       → HandedIn choices m area (frame ∷ frames) (logged (record { frame = frame; area = area }) a ∷ log) o

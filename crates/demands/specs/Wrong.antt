@@ -24,7 +24,7 @@ use Rattle.rules.specs.Refusals.{refusal}
 use Rattle.rules.specs.Step.{after, quiet, newEntry, stored, write, carriedOut, accepted, refusedWith}
 use Rattle.rules.specs.Step.{step}
 use Rattle.rules.specs.Allowed.{Answered}
-use Rattle.demands.specs.Machine.{Machine, Stepper, Stepped, spaceOf, theRules}
+use Rattle.demands.specs.Machine.{Machine, Stepper, StepsBy, spaceOf, theRules}
 use Rattle.demands.specs.Demands.{Demand2, Demand3}
 use Rattle.demands.specs.Answering.{Answering}
 
@@ -76,7 +76,7 @@ inventedCount =
       State = Model;
       view = λ m. m;
       Empty = theRules .Empty;
-      Steps = λ m h n a. (b : Answered) × Stepped step m h n b × (a ≡ oneMore b);
+      Steps = λ m h n a. (b : Answered) × StepsBy step m h n b × (a ≡ oneMore b);
     }
 
 -- honours a commit and loses it: the record says committed, the private entries go

@@ -1,4 +1,4 @@
--- Conflicts by the place of the look-up's transaction are the rules'.
+-- Conflicts by the slot of the look-up's transaction are the rules'.
 use Prim.Native.Nat.{ℕ}
 use mathlib.Core.Bool.{Bool, true, false, not, _&&_, _||_}
 use mathlib.Core.Path.{_≡_, refl, sym, ap, fun-ext}

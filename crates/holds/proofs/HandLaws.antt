@@ -1,4 +1,4 @@
--- Handing out by passes over the entries, and availability by places, are the rules'.
+-- Handing out by passes over the entries, and availability by slots, are the rules'.
 use Prim.Native.Nat.{ℕ, zero, suc, _<_}
 use mathlib.Core.Bool.{Bool, true, false, cond, not, _&&_}
 use mathlib.Core.Option.{Option, none, some}
@@ -27,34 +27,34 @@ use Rattle.holds.specs.HandOut.{availableAt, handedOut}
 use Rattle.words.proofs.SearchLaws.{find-append-none, find-append-some, first-pick}
 use Rattle.rules.specs.Words.{txnsAt, txnWidth}
 
--- ---- a live transaction's place is one of eight
-abbrev LowPlace : Option Txn → Type 0
-LowPlace none = Unit {0}
-LowPlace (some t) = t .slot < 8
+-- ---- a live transaction's slot is one of eight
+abbrev LowSlot : Option Txn → Type 0
+LowSlot none = Unit {0}
+LowSlot (some t) = t .slot < 8
 
 module _ (p : Txn → Bool) where
-  last-low : (t : Txn) → t .slot < 8 → (o : Option Txn) → LowPlace o → (xs : List Txn) → findb p xs ≡ o → LowPlace (findb p (xs ++ (t ∷ [])))
-  last-low t h none l xs e = subst LowPlace (sym (find-append-none p xs (t ∷ []) e)) (cond-cases LowPlace (p t) (λ q. h) (λ q. tt))
-  last-low t h (some x) l xs e = subst LowPlace (sym (find-append-some p xs (t ∷ []) e)) l
+  last-low : (t : Txn) → t .slot < 8 → (o : Option Txn) → LowSlot o → (xs : List Txn) → findb p xs ≡ o → LowSlot (findb p (xs ++ (t ∷ [])))
+  last-low t h none l xs e = subst LowSlot (sym (find-append-none p xs (t ∷ []) e)) (cond-cases LowSlot (p t) (λ q. h) (λ q. tt))
+  last-low t h (some x) l xs e = subst LowSlot (sym (find-append-some p xs (t ∷ []) e)) l
 
-  all-low : (f : ℕ → Txn) → ((k : ℕ) → f k .slot < 8) → (n : ℕ) → LowPlace (findb p (upTo f n))
+  all-low : (f : ℕ → Txn) → ((k : ℕ) → f k .slot < 8) → (n : ℕ) → LowSlot (findb p (upTo f n))
   all-low f h zero = tt
   all-low f h (suc n) = last-low (f n) (h n) (findb p (upTo f n)) (all-low f h n) (upTo f n) refl
 
-pub live-low : (t : ℕ) (ws : List ℕ) → LowPlace (liveTxn t (view ws .txns))
+pub live-low : (t : ℕ) (ws : List ℕ) → LowSlot (liveTxn t (view ws .txns))
 unfolding liveTxn view txns txnOf
 live-low t ws = all-low (λ x. eqb (x .id .0) t) (λ k. txnOf (row txnsAt txnWidth ws k)) (λ k. omega arith) (txnCount ws)
 
--- ---- by a place, or by the live transaction
-pub drop-of : (o : Option Txn) (r : ℕ) → LowPlace o → dropReaderOf o r ≡ dropAt (slotOf o) r
+-- ---- by a slot, or by the live transaction
+pub drop-of : (o : Option Txn) (r : ℕ) → LowSlot o → dropReaderOf o r ≡ dropAt (slotOf o) r
 drop-of none r l = refl
 drop-of (some t) r l = rw (ne-eqb (t .slot) 8 (λ e. omega arith))
 
-pub add-of : (o : Option Txn) (r : ℕ) → LowPlace o → addReaderOf o r ≡ addAt (slotOf o) r
+pub add-of : (o : Option Txn) (r : ℕ) → LowSlot o → addReaderOf o r ≡ addAt (slotOf o) r
 add-of none r l = refl
 add-of (some t) r l = rw (ne-eqb (t .slot) 8 (λ e. omega arith))
 
-module _ (ts : List Txn) (w : LookUp) (l : LowPlace (liveTxn (w .txn .0) ts)) where
+module _ (ts : List Txn) (w : LookUp) (l : LowSlot (liveTxn (w .txn .0) ts)) where
   pub available-of : (e : Entry) → available ts w e ≡ availableAt (slotOf (liveTxn (w .txn .0) ts)) w e
   unfolding available availableAt readByOther
   available-of e = rw (drop-of (liveTxn (w .txn .0) ts) (e .readers) l)
@@ -79,17 +79,17 @@ pub drop-ended : (m : Model) → dropEnded m ≡ sweepModel (Expire (m .clock)) 
 unfolding dropEnded sweepModel
 drop-ended m = ap (λ es. withEntries es m) (sym (map-id _))
 
-module _ (ts : List Txn) (t : ℕ) (l : LowPlace (liveTxn t ts)) where
+module _ (ts : List Txn) (t : ℕ) (l : LowSlot (liveTxn t ts)) where
   pub released-of : (e : Entry) → released ts t e ≡ releasedAt t (slotOf (liveTxn t ts)) e
   unfolding released releasedAt
   released-of e = rw (drop-of (liveTxn t ts) (e .readers) l)
 
-pub commit-of : (t : ℕ) (m : Model) → LowPlace (liveTxn t (m .txns))
+pub commit-of : (t : ℕ) (m : Model) → LowSlot (liveTxn t (m .txns))
     → commit t m ≡ withTxns (withoutTxn t (m .txns)) (sweepModel (Commit (record { 0 = t }) (slotOf (liveTxn t (m .txns)))) m)
 unfolding commit sweepModel
 commit-of t m l = ap (λ f. withEntries (map f (filterb (λ e. not (takenBy t e)) (m .entries))) (withTxns (withoutTxn t (m .txns)) m)) (fun-ext (released-of (m .txns) t l))
 
-pub abort-of : (t : ℕ) (m : Model) → LowPlace (liveTxn t (m .txns))
+pub abort-of : (t : ℕ) (m : Model) → LowSlot (liveTxn t (m .txns))
     → abort t m
     ≡ withTxns (withoutTxn t (m .txns))
     (withWaits (filterb (λ w. not (eqb (w .txn .0) t)) (m .waits)) (sweepModel (Abort (record { 0 = t }) (slotOf (liveTxn t (m .txns)))) m))
@@ -98,7 +98,7 @@ abort-of t m l =
     ap (λ f. withEntries (map f (filterb (λ e. not (privateTo t e)) (m .entries))) (withTxns (withoutTxn t (m .txns)) (withWaits (filterb (λ w. not (eqb (w .txn .0) t)) (m .waits)) m)))
     (fun-ext (released-of (m .txns) t l))
 
--- the first entry that is available, by the look-up's place
+-- the first entry that is available, by the look-up's slot
 pub first-available : (ws : List ℕ) (w : LookUp) (p : ℕ) → p ≡ slotOf (liveTxn (w .txn .0) (view ws .txns))
     → pick 0 (availableTo (view ws .txns) w (view ws .entries)) ≡ findb (availableAt p w) (view ws .entries)
 first-available ws w p q =
@@ -118,9 +118,9 @@ handed-marked ws w e p q t =
     ∙ ap (λ es. withEntries es (view ws)) (sym (hand-marks (view ws .txns) w (live-low (w .txn .0) ws) e (view ws .entries) t))
 
 -- a read by no live transaction leaves the entries as they are
-no-place : (o : Option Txn) → LowPlace o → slotOf o ≡ 8 → o ≡ none
-no-place none l e = refl
-no-place (some t) l e = absurd (omega arith)
+no-slot : (o : Option Txn) → LowSlot o → slotOf o ≡ 8 → o ≡ none
+no-slot none l e = refl
+no-slot (some t) l e = absurd (omega arith)
 
 no-mark : (ts : List Txn) (w : LookUp) → w .takes ≡ false → liveTxn (w .txn .0) ts ≡ none → (x : Entry) → marked ts w x ≡ x
 unfolding marked withHold
@@ -144,7 +144,7 @@ pub handed-unmarked : (ws : List ℕ) (w : LookUp) (e : Entry) (p : ℕ) → p �
     → view ws ≡ handedOut w e (view ws)
 unfolding handedOut handOut removes
 handed-unmarked ws w e p q z t =
-    let n = no-place (liveTxn (w .txn .0) (view ws .txns)) (live-low (w .txn .0) ws) (sym q ∙ z) in
+    let n = no-slot (liveTxn (w .txn .0) (view ws .txns)) (live-low (w .txn .0) ws) (sym q ∙ z) in
     let same : (x : Entry) → cond (isEntry e x) (marked (view ws .txns) w x) x ≡ x
     = λ x. ap (λ y. cond (isEntry e x) y x) (no-mark (view ws .txns) w t n x) ∙ cond-cases (λ y. y ≡ x) (isEntry e x) (λ h. refl) (λ h. refl) in
     ap (λ es. withEntries es (view ws))

@@ -17,8 +17,7 @@ use Rattle.rules.specs.Holds.{dropReader}
 use Rattle.rules.specs.Transactions.{privateTo, takenBy}
 use Rattle.holds.specs.declared.sweep.Sweep.{Sweep}
 use Rattle.holds.specs.declared.sweep.Sweep.the-variants.{Expire, Commit, Abort, Remove, Mark}
-use Rattle.rules.specs.Words.{row, untilOf, untilWord, entryOf, entryFrom, entryCount, entries, view}
-use Rattle.words.specs.Rows.{entryWords}
+use Rattle.rules.specs.Words.{row, untilOf, untilWord, entryOf, entryFrom, entryWords, entryCount, entries, view}
 use Rattle.holds.specs.Sweep.{dropAt, releasedAt, heldAt, markedAt, keeps, changes, KeptAt, OthersBefore, Still, sweepModel}
 use Rattle.words.proofs.CompactLaws.{Compacting, compact-start, compact-passed, compact-same, compact-kept, compact-done}
 use Rattle.words.proofs.Tables.{entryTable, view-entries, until-back, entry-row, Storable, entry-back}

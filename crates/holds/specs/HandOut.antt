@@ -1,4 +1,4 @@
--- Availability and conflicts by the place of the look-up's transaction; and the model once an entry is handed out.
+-- Availability and conflicts by the slot of the look-up's transaction; and the model once an entry is handed out.
 use Prim.Native.Nat.{ℕ}
 use mathlib.Core.Bool.{Bool, not, _&&_, _||_}
 use lib.Dec.{eqb}

@@ -13,12 +13,16 @@ abbrev pub liveOf : Live → Option Txn
 liveOf (At t) = some t
 liveOf None = none
 
--- its place among the read holders; 8: there is none
+-- in place of a slot, which is below 8: there is none
+abbrev pub noSlot : ℕ
+noSlot = 8
+
+-- its slot among the read holders
 abbrev pub slotOf : Option Txn → ℕ
-slotOf none = 8
+slotOf none = noSlot
 slotOf (some t) = t .slot
 
 -- what the search for a transaction finds
 pub record Finds (ws : List ℕ) (id : ℕ) (r : Live) : Type 0 where
   pub live : liveOf r ≡ liveTxn id (view ws .txns)
-  pub low : slotOf (liveOf r) ≤ 8
+  pub low : slotOf (liveOf r) ≤ noSlot

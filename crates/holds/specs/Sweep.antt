@@ -14,19 +14,20 @@ use Rattle.rules.specs.Holds.{addReader, dropReader}
 use Rattle.rules.specs.Transactions.{noTxn, privateTo, takenBy}
 use Rattle.rules.specs.Words.{entryFrom}
 use Rattle.words.specs.Rows.{putEntry}
+use Rattle.holds.specs.Live.{noSlot}
 use Rattle.holds.specs.declared.sweep.Sweep.{Sweep}
 use Rattle.holds.specs.declared.sweep.Sweep.the-variants.{Expire, Commit, Abort, Remove, Mark}
 use Rattle.rules.specs.Words.{entriesAt, entryWidth}
 
--- read holders with the one at place p added; 8: none is
+-- read holders with the one at slot p added, unless p is none
 abbrev pub addAt : ℕ → ℕ → ℕ
-addAt p readers = cond (eqb p 8) readers (addReader p readers)
+addAt p readers = cond (eqb p noSlot) readers (addReader p readers)
 
 -- or dropped
 abbrev pub dropAt : ℕ → ℕ → ℕ
-dropAt p readers = cond (eqb p 8) readers (dropReader p readers)
+dropAt p readers = cond (eqb p noSlot) readers (dropReader p readers)
 
--- an entry that is t's own no longer and that t, at place p, holds no longer
+-- an entry that is t's own no longer and that t, at slot p, holds no longer
 unfoldable pub releasedAt : ℕ → ℕ → Entry → Entry
 releasedAt t p e =
     record {
@@ -38,7 +39,7 @@ releasedAt t p e =
       readers = dropAt p (e .readers);
     }
 
--- with the hold of the transaction t at place p
+-- with the hold of the transaction t at slot p
 unfoldable pub heldAt : Bool → TxnId → ℕ → Entry → Entry
 heldAt takes t p e =
     record {
@@ -68,7 +69,7 @@ changes (Abort t p) e = releasedAt (t .0) p e
 changes (Remove n) e = e
 changes (Mark n takes t p) e = cond (eqb (e .id .0) (n .0)) (markedAt takes t p e) e
 
--- the place that it goes by, at most 8
+-- the slot that it goes by, or none
 abbrev pub slotIn : Sweep → ℕ
 slotIn (Expire clock) = 0
 slotIn (Commit t p) = p

@@ -6,16 +6,16 @@ ghost use Rattle.rules.specs.Words.{view};
 ghost use mathlib.Core.Bool.{not};
 ghost use lib.Dec.{eqb};
 ghost use Rattle.rules.specs.Transactions.{commit, abort};
-use words::rows::WAIT_COUNT;
 use crate::live::remove_txn;
 use crate::live::slot_of;
+use crate::sweep::Sweep;
+use crate::sweep::pass_over;
+use rules::TxnId;
+use words::rows::WAIT_COUNT;
 use words::rows::Words;
 use words::rows::move_wait;
 use words::rows::wait_at;
 use words::rows::wait_count;
-use crate::sweep::Sweep;
-use crate::sweep::pass_over;
-use rules::TxnId;
 
 // Private entries become committed, take-held ones are removed, read holds go.
 pub fn commit_txn(space: &mut Words, id: TxnId)
@@ -27,7 +27,7 @@ pub fn commit_txn(space: &mut Words, id: TxnId)
 }
 
 // The look-ups that wait inside the transaction are closed.
-pub fn drop_waits(space: &mut Words, id: TxnId)
+pub(crate) fn drop_waits(space: &mut Words, id: TxnId)
     ensures { λ _. ⌜ view (now (space .exit)) ≡ withWaits (filterb (λ w. not (eqb (w .txn .0) (id .0))) (view (now (space .entry)) .waits)) (view (now (space .entry))) ⌝ }
 {
     let count = wait_count(space);

@@ -4,15 +4,15 @@ ghost use Prim.Native.Nat.{_≤_};
 ghost use Rattle.rules.specs.Lists.{pick};
 ghost use Rattle.rules.specs.Words.{view};
 ghost use Rattle.rules.specs.Holds.{liveTxn, availableTo, someConflicts};
-ghost use Rattle.holds.specs.Live.{slotOf};
+ghost use Rattle.holds.specs.Live.{noSlot, slotOf};
 ghost use Rattle.holds.specs.Find.{matchOf};
 use crate::holds::is_available;
 use crate::holds::is_conflicting;
+use rules::Entry;
+use rules::LookUp;
 use words::rows::Words;
 use words::rows::entry_at;
 use words::rows::entry_count;
-use rules::Entry;
-use rules::LookUp;
 
 // An available entry, or none.
 pub enum Match {
@@ -20,9 +20,9 @@ pub enum Match {
     None,
 }
 
-// The first entry that is available to the look-up, whose transaction has the place p among the read holders.
+// The first entry that is available to the look-up, whose transaction has the slot p.
 pub fn find_available(space: &Words, w: LookUp, p: u8) -> Match
-    requires { ⌜ (p ≤ 8) × (p ≡ slotOf (liveTxn (w .txn .0) (view (now space) .txns))) ⌝ }
+    requires { ⌜ (p ≤ noSlot) × (p ≡ slotOf (liveTxn (w .txn .0) (view (now space) .txns))) ⌝ }
     ensures { λ r. ⌜ matchOf r
         ≡ pick 0 (availableTo (view (now (space .entry)) .txns) w (view (now (space .entry)) .entries)) ⌝ }
 {
@@ -40,7 +40,7 @@ pub fn find_available(space: &Words, w: LookUp, p: u8) -> Match
 
 // Whether some entry conflicts with the look-up.
 pub fn any_conflict(space: &Words, w: LookUp, p: u8) -> bool
-    requires { ⌜ (p ≤ 8) × (p ≡ slotOf (liveTxn (w .txn .0) (view (now space) .txns))) ⌝ }
+    requires { ⌜ (p ≤ noSlot) × (p ≡ slotOf (liveTxn (w .txn .0) (view (now space) .txns))) ⌝ }
     ensures { λ r. ⌜ r ≡ someConflicts (view (now (space .entry)) .txns) w (view (now (space .entry)) .entries) ⌝ }
 {
     let n = entry_count(space);

@@ -3,16 +3,19 @@ ghost use mathlib.Core.Path.{_≡_};
 ghost use Prim.Native.Nat.{_^_, _≤_};
 ghost use Rattle.rules.specs.Template.{bit, agrees, matches};
 ghost use Rattle.rules.specs.Holds.{isOther};
+ghost use Rattle.holds.specs.Live.{noSlot};
 ghost use Rattle.holds.specs.HandOut.{availableAt, othersAt, conflictsAt};
 ghost use mathlib.Core.Bool.{not, _&&_, _||_};
 ghost use lib.Dec.{eqb};
 ghost use Rattle.holds.specs.Sweep.{addAt, dropAt};
+use crate::live::NO_SLOT;
 use rules::Entry;
 use rules::Fields;
 use rules::LookUp;
 use rules::TxnId;
 
-pub fn power(p: u8) -> u32
+// Two to the p, for a bit of a byte or the first above it.
+pub(crate) fn power(p: u8) -> u32
     requires { ⌜ p ≤ 8 ⌝ }
     ensures { λ r. ⌜ r ≡ 2 ^ p ⌝ }
 {
@@ -20,7 +23,7 @@ pub fn power(p: u8) -> u32
 }
 
 // Whether bit p of x is 1.
-pub fn has_bit(x: u8, p: u8) -> bool
+pub(crate) fn has_bit(x: u8, p: u8) -> bool
     requires { ⌜ p ≤ 8 ⌝ }
     ensures { λ r. ⌜ r ≡ bit p x ⌝ }
 {
@@ -29,12 +32,12 @@ pub fn has_bit(x: u8, p: u8) -> bool
     y / b % 2 == 1
 }
 
-// The read holders x without the one at place p; 8: none is dropped.
-pub fn drop_reader(x: u8, p: u8) -> u8
-    requires { ⌜ p ≤ 8 ⌝ }
+// The read holders x without the one at slot p; at none, none is dropped.
+pub(crate) fn drop_reader(x: u8, p: u8) -> u8
+    requires { ⌜ p ≤ noSlot ⌝ }
     ensures { λ r. ⌜ r ≡ dropAt p x ⌝ }
 {
-    if p == 8 {
+    if p == NO_SLOT {
         return x;
     }
     if has_bit(x, p) {
@@ -46,12 +49,12 @@ pub fn drop_reader(x: u8, p: u8) -> u8
     }
 }
 
-// The read holders x with the one at place p; 8: none is added.
-pub fn add_reader(x: u8, p: u8) -> u8
-    requires { ⌜ p ≤ 8 ⌝ }
+// The read holders x with the one at slot p; at none, none is added.
+pub(crate) fn add_reader(x: u8, p: u8) -> u8
+    requires { ⌜ p ≤ noSlot ⌝ }
     ensures { λ r. ⌜ r ≡ addAt p x ⌝ }
 {
-    if p == 8 {
+    if p == NO_SLOT {
         return x;
     }
     if has_bit(x, p) {
@@ -64,14 +67,14 @@ pub fn add_reader(x: u8, p: u8) -> u8
 }
 
 // Whether the template asks nothing of the field at bit p, or the two are equal.
-pub fn field_agrees(mask: u8, p: u8, want: u32, have: u32) -> bool
+pub(crate) fn field_agrees(mask: u8, p: u8, want: u32, have: u32) -> bool
     requires { ⌜ p ≤ 8 ⌝ }
     ensures { λ r. ⌜ r ≡ agrees (bit p mask) want have ⌝ }
 {
     if has_bit(mask, p) { want == have } else { true }
 }
 
-pub fn fields_match(mask: u8, want: Fields, have: Fields) -> bool
+pub(crate) fn fields_match(mask: u8, want: Fields, have: Fields) -> bool
     ensures { λ r. ⌜ r ≡ matches mask want have ⌝ }
 {
     let a = field_agrees(mask, 0, want.kind, have.kind);
@@ -85,9 +88,9 @@ pub fn fields_match(mask: u8, want: Fields, have: Fields) -> bool
     }
 }
 
-// Whether no live transaction but the one at place p holds a read: no bit is 1, or one, at p.
-pub fn free_but(x: u8, p: u8) -> bool
-    requires { ⌜ p ≤ 8 ⌝ }
+// Whether no live transaction but the one at slot p holds a read: no bit is 1, or one, at p.
+pub(crate) fn free_but(x: u8, p: u8) -> bool
+    requires { ⌜ p ≤ noSlot ⌝ }
     ensures { λ r. ⌜ r ≡ eqb (dropAt p x) 0 ⌝ }
 {
     let n = u8::count_ones(x);
@@ -103,7 +106,7 @@ pub fn free_but(x: u8, p: u8) -> bool
 }
 
 // Whether it is visible to a look-up in the transaction t.
-pub fn is_visible(private_to: TxnId, taken_by: TxnId, t: TxnId) -> bool
+pub(crate) fn is_visible(private_to: TxnId, taken_by: TxnId, t: TxnId) -> bool
     ensures { λ r. ⌜ r ≡ (eqb («taken_by» .0) 0 && (eqb («private_to» .0) 0 || eqb («private_to» .0) (t .0))) ⌝ }
 {
     if taken_by.0 == 0 {
@@ -117,17 +120,17 @@ pub fn is_visible(private_to: TxnId, taken_by: TxnId, t: TxnId) -> bool
     }
 }
 
-// Whether a read hold of another than the transaction at place p bars the look-up.
-pub fn is_barred(takes: bool, readers: u8, p: u8) -> bool
-    requires { ⌜ p ≤ 8 ⌝ }
+// Whether a read hold of another than the transaction at slot p bars the look-up.
+pub(crate) fn is_barred(takes: bool, readers: u8, p: u8) -> bool
+    requires { ⌜ p ≤ noSlot ⌝ }
     ensures { λ r. ⌜ r ≡ (takes && not (eqb (dropAt p readers) 0)) ⌝ }
 {
     if takes { !free_but(readers, p) } else { false }
 }
 
-// Whether the entry is available to the look-up, whose transaction has the place p among the read holders.
+// Whether the entry is available to the look-up, whose transaction has the slot p.
 pub fn is_available(e: Entry, w: LookUp, p: u8) -> bool
-    requires { ⌜ p ≤ 8 ⌝ }
+    requires { ⌜ p ≤ noSlot ⌝ }
     ensures { λ r. ⌜ r ≡ availableAt p w e ⌝ }
 {
     let mask = w.mask;
@@ -147,15 +150,15 @@ pub fn is_available(e: Entry, w: LookUp, p: u8) -> bool
 }
 
 // Whether n is the number of a transaction other than t.
-pub fn is_other(t: TxnId, n: TxnId) -> bool
+pub(crate) fn is_other(t: TxnId, n: TxnId) -> bool
     ensures { λ r. ⌜ r ≡ isOther (t .0) (n .0) ⌝ }
 {
     if n.0 == 0 { false } else { n.0 != t.0 }
 }
 
 // Whether another transaction than the look-up's has the entry: it is private to it, take-held by it, or (for a take) read-held.
-pub fn is_others(e: Entry, w: LookUp, p: u8) -> bool
-    requires { ⌜ p ≤ 8 ⌝ }
+pub(crate) fn is_others(e: Entry, w: LookUp, p: u8) -> bool
+    requires { ⌜ p ≤ noSlot ⌝ }
     ensures { λ r. ⌜ r ≡ othersAt p w e ⌝ }
 {
     let txn = w.txn;
@@ -173,8 +176,8 @@ pub fn is_others(e: Entry, w: LookUp, p: u8) -> bool
 }
 
 // Whether the entry conflicts with the look-up. Where another transaction has it, it is not available: that needs no test.
-pub fn is_conflicting(e: Entry, w: LookUp, p: u8) -> bool
-    requires { ⌜ p ≤ 8 ⌝ }
+pub(crate) fn is_conflicting(e: Entry, w: LookUp, p: u8) -> bool
+    requires { ⌜ p ≤ noSlot ⌝ }
     ensures { λ r. ⌜ r ≡ conflictsAt p w e ⌝ }
 {
     let mask = w.mask;

@@ -3,16 +3,19 @@ ghost use mathlib.Core.Path.{_≡_};
 ghost use Prim.Native.Nat.{_≤_};
 ghost use Rattle.rules.specs.State.{withTxns};
 ghost use Rattle.rules.specs.Words.{view};
-ghost use Rattle.holds.specs.Live.{Finds, slotOf};
+ghost use Rattle.holds.specs.Live.{Finds, noSlot, slotOf};
 ghost use Rattle.rules.specs.Holds.{liveTxn};
 ghost use Rattle.rules.specs.Transactions.{withoutTxn};
+use rules::Txn;
+use rules::TxnId;
 use words::rows::TXN_COUNT;
 use words::rows::Words;
 use words::rows::move_txn;
 use words::rows::txn_at;
 use words::rows::txn_count;
-use rules::Txn;
-use rules::TxnId;
+
+// In place of a slot, which is below 8: there is none.
+pub(crate) const NO_SLOT: u8 = 8;
 
 // A live transaction, or none.
 pub enum Live {
@@ -36,19 +39,19 @@ pub fn find_txn(space: &Words, id: TxnId) -> Live
     Live::None
 }
 
-// The place of a live transaction among the read holders, or 8 where the number is none's.
+// The slot of a live transaction among the read holders, or none where the number is none's.
 pub fn slot_of(space: &Words, id: TxnId) -> u8
-    ensures { λ r. ⌜ (r ≡ slotOf (liveTxn (id .0) (view (now (space .entry)) .txns))) × (r ≤ 8) ⌝ }
+    ensures { λ r. ⌜ (r ≡ slotOf (liveTxn (id .0) (view (now (space .entry)) .txns))) × (r ≤ noSlot) ⌝ }
 {
     let live = find_txn(space, id);
     match live {
         Live::At(t) => t.slot,
-        Live::None => 8,
+        Live::None => NO_SLOT,
     }
 }
 
 // The transaction is live no longer.
-pub fn remove_txn(space: &mut Words, id: TxnId)
+pub(crate) fn remove_txn(space: &mut Words, id: TxnId)
     ensures { λ _. ⌜ view (now (space .exit)) ≡ withTxns (withoutTxn (id .0) (view (now (space .entry)) .txns)) (view (now (space .entry))) ⌝ }
 {
     let count = txn_count(space);

@@ -2,57 +2,49 @@
 ghost use mathlib.Core.Path.{_≡_};
 ghost use Prim.Native.Nat.{_≤_, _<_};
 ghost use lib.ListN.{length};
+ghost use Rattle.rules.specs.Numbers.{maxEntries};
 ghost use Rattle.rules.specs.Tick.{dropEnded};
 ghost use Rattle.rules.specs.Words.{view, spaceWords};
-ghost use Rattle.holds.specs.Live.{slotOf};
+ghost use Rattle.holds.specs.Live.{noSlot, slotOf};
 ghost use Rattle.holds.specs.HandOut.{handedOut};
 ghost use Rattle.rules.specs.Holds.{liveTxn};
 ghost use mathlib.Core.Bool.{true, not, cond, _&&_, _||_};
 ghost use lib.Dec.{eqb};
 ghost use Rattle.rules.specs.Transactions.{noTxn};
-ghost use Rattle.rules.specs.Time.{reached};
 ghost use Rattle.holds.specs.Sweep.{releasedAt, markedAt, keeps, changes, slotIn, KeptAt, OthersBefore, Still, sweepModel};
-use words::rows::ENTRY_COUNT;
-use words::rows::CLOCK;
 use crate::holds::add_reader;
 use crate::holds::drop_reader;
 use crate::holds::has_bit;
+use crate::live::NO_SLOT;
+use rules::Entry;
+use rules::EntryId;
+use rules::LookUp;
+use rules::TxnId;
+use words::rows::CLOCK;
+use words::rows::ENTRY_COUNT;
 use words::rows::Words;
 use words::rows::entry_at;
 use words::rows::entry_count;
 use words::rows::entry_id;
 use words::rows::put_entry;
-use rules::Entry;
-use rules::EntryId;
-use rules::LookUp;
-use rules::TxnId;
-use rules::Until;
-
-// Whether the clock has reached an end.
-pub fn reached_at(clock: u32, end: Until) -> bool
-    ensures { λ r. ⌜ r ≡ reached clock end ⌝ }
-{
-    match end {
-        Until::Tick(t) => t <= clock,
-        Until::Forever => false,
-    }
-}
+use words::rows::whole;
+use words::time::reached_at;
 
 // A pass over the entries.
-pub enum Sweep {
+pub(crate) enum Sweep {
     // Those whose lease has ended at the clock go.
     Expire(u32),
-    // The transaction, at its place, commits: what it has taken goes, the rest is released.
+    // The transaction, at its slot, commits: what it has taken goes, the rest is released.
     Commit(TxnId, u8),
     // It aborts: what it has written goes, the rest is released.
     Abort(TxnId, u8),
     // The entry with the number goes.
     Remove(EntryId),
-    // It gets the mark of a read, or of a take, by the transaction at its place.
+    // It gets the mark of a read, or of a take, by the transaction at its slot.
     Mark(EntryId, bool, TxnId, u8),
 }
 
-pub fn keeps_entry(s: Sweep, e: Entry) -> bool
+pub(crate) fn keeps_entry(s: Sweep, e: Entry) -> bool
     ensures { λ r. ⌜ r ≡ keeps s e ⌝ }
 {
     match s {
@@ -68,14 +60,14 @@ pub fn keeps_entry(s: Sweep, e: Entry) -> bool
 }
 
 // A transaction's number, or 0 in place of t.
-pub fn cleared(x: TxnId, t: TxnId) -> TxnId
+pub(crate) fn cleared(x: TxnId, t: TxnId) -> TxnId
     ensures { λ r. ⌜ r ≡ cond (eqb (x .0) (t .0)) noTxn x ⌝ }
 {
     if x.0 == t.0 { TxnId(0) } else { x }
 }
 
-pub fn release(e: Entry, t: TxnId, p: u8) -> Entry
-    requires { ⌜ p ≤ 8 ⌝ }
+pub(crate) fn release(e: Entry, t: TxnId, p: u8) -> Entry
+    requires { ⌜ p ≤ noSlot ⌝ }
     ensures { λ r. ⌜ r ≡ releasedAt (t .0) p e ⌝ }
 {
     let private_to = cleared(e.private_to, t);
@@ -94,8 +86,8 @@ pub fn release(e: Entry, t: TxnId, p: u8) -> Entry
     }
 }
 
-pub fn mark(e: Entry, takes: bool, t: TxnId, p: u8) -> Entry
-    requires { ⌜ p ≤ 8 ⌝ }
+pub(crate) fn mark(e: Entry, takes: bool, t: TxnId, p: u8) -> Entry
+    requires { ⌜ p ≤ noSlot ⌝ }
     ensures { λ r. ⌜ r ≡ markedAt takes t p e ⌝ }
 {
     if e.private_to.0 == t.0 {
@@ -129,8 +121,8 @@ pub fn mark(e: Entry, takes: bool, t: TxnId, p: u8) -> Entry
     }
 }
 
-pub fn change_entry(s: Sweep, e: Entry) -> Entry
-    requires { ⌜ slotIn s ≤ 8 ⌝ }
+pub(crate) fn change_entry(s: Sweep, e: Entry) -> Entry
+    requires { ⌜ slotIn s ≤ noSlot ⌝ }
     ensures { λ r. ⌜ r ≡ changes s e ⌝ }
 {
     match s {
@@ -148,9 +140,9 @@ pub fn change_entry(s: Sweep, e: Entry) -> Entry
     }
 }
 
-// Whether the transaction t, at place p, has nothing to release: the entry is not its own, and it holds none on it.
-pub fn is_free_of(e: Entry, t: TxnId, p: u8) -> bool
-    requires { ⌜ p ≤ 8 ⌝ }
+// Whether the transaction t, at slot p, has nothing to release: the entry is not its own, and it holds none on it.
+pub(crate) fn is_free_of(e: Entry, t: TxnId, p: u8) -> bool
+    requires { ⌜ p ≤ noSlot ⌝ }
     ensures { λ r. ⌜ (r ≡ true → releasedAt (t .0) p e ≡ e) ⌝ }
 {
     if e.private_to.0 == t.0 {
@@ -163,8 +155,8 @@ pub fn is_free_of(e: Entry, t: TxnId, p: u8) -> bool
 }
 
 // Whether the pass leaves the entry as it is.
-pub fn is_untouched(s: Sweep, e: Entry) -> bool
-    requires { ⌜ slotIn s ≤ 8 ⌝ }
+pub(crate) fn is_untouched(s: Sweep, e: Entry) -> bool
+    requires { ⌜ slotIn s ≤ noSlot ⌝ }
     ensures { λ r. ⌜ (r ≡ true → changes s e ≡ e) ⌝ }
 {
     match s {
@@ -177,16 +169,16 @@ pub fn is_untouched(s: Sweep, e: Entry) -> bool
 }
 
 // Whether it also stays in its row.
-pub fn is_in_place(s: Sweep, e: Entry, i: usize, n: usize) -> bool
-    requires { ⌜ slotIn s ≤ 8 ⌝ }
+pub(crate) fn is_in_place(s: Sweep, e: Entry, i: usize, n: usize) -> bool
+    requires { ⌜ slotIn s ≤ noSlot ⌝ }
     ensures { λ r. ⌜ (r ≡ true → (n ≡ i) × (changes s e ≡ e)) ⌝ }
 {
     if n == i { is_untouched(s, e) } else { false }
 }
 
 // The entry of row i, which is kept, stands at row n. A row that stays as it is is not written.
-pub fn keep_entry(space: &mut Words, s: Sweep, e: Entry, i: usize, n: usize)
-    requires { ⌜ (slotIn s ≤ 8) × (n < 64) ⌝ }
+pub(crate) fn keep_entry(space: &mut Words, s: Sweep, e: Entry, i: usize, n: usize)
+    requires { ⌜ (slotIn s ≤ noSlot) × (n < maxEntries) ⌝ }
     ensures { λ _. ⌜ KeptAt s e i n (now (space .entry)) (now (space .exit)) ⌝ }
 {
     if is_in_place(s, e, i, n) {
@@ -197,8 +189,8 @@ pub fn keep_entry(space: &mut Words, s: Sweep, e: Entry, i: usize, n: usize)
 }
 
 // The first of the rows whose entry has the number, or else their count.
-pub fn row_of(space: &Words, id: EntryId, count: usize) -> usize
-    requires { ⌜ count ≤ 64 ⌝ }
+pub(crate) fn row_of(space: &Words, id: EntryId, count: usize) -> usize
+    requires { ⌜ count ≤ maxEntries ⌝ }
     ensures { λ r. ⌜ (r ≤ count) × OthersBefore (id .0) (now (space .entry)) r ⌝ }
 {
     let mut i: usize = 0;
@@ -212,8 +204,8 @@ pub fn row_of(space: &Words, id: EntryId, count: usize) -> usize
 }
 
 // A row before which the pass leaves every row as it is.
-pub fn first_touched(space: &Words, s: Sweep, count: usize) -> usize
-    requires { ⌜ count ≤ 64 ⌝ }
+pub(crate) fn first_touched(space: &Words, s: Sweep, count: usize) -> usize
+    requires { ⌜ count ≤ maxEntries ⌝ }
     ensures { λ r. ⌜ (r ≤ count) × Still s (now (space .entry)) r ⌝ }
 {
     match s {
@@ -226,8 +218,8 @@ pub fn first_touched(space: &Words, s: Sweep, count: usize) -> usize
 }
 
 // One pass over the entries, in place.
-pub fn pass_over(space: &mut Words, s: Sweep)
-    requires { ⌜ slotIn s ≤ 8 ⌝ }
+pub(crate) fn pass_over(space: &mut Words, s: Sweep)
+    requires { ⌜ slotIn s ≤ noSlot ⌝ }
     ensures { λ _. ⌜ (view (now (space .exit)) ≡ sweepModel s (view (now (space .entry)))) × (length (now (space .exit)) ≡ spaceWords) ⌝ }
 {
     let count = entry_count(space);
@@ -246,22 +238,22 @@ pub fn pass_over(space: &mut Words, s: Sweep)
 }
 
 // Whether handing the entry out removes it.
-pub fn is_removed(takes: bool, private_to: TxnId, t: TxnId) -> bool
+pub(crate) fn is_removed(takes: bool, private_to: TxnId, t: TxnId) -> bool
     ensures { λ r. ⌜ r ≡ (takes && eqb («private_to» .0) (t .0)) ⌝ }
 {
     if takes { private_to.0 == t.0 } else { false }
 }
 
 // Whether handing out leaves a mark where it does not remove: a read outside transactions leaves none.
-pub fn is_marked(takes: bool, p: u8) -> bool
-    ensures { λ r. ⌜ r ≡ (takes || not (eqb p 8)) ⌝ }
+pub(crate) fn is_marked(takes: bool, p: u8) -> bool
+    ensures { λ r. ⌜ r ≡ (takes || not (eqb p noSlot)) ⌝ }
 {
-    if takes { true } else { p != 8 }
+    if takes { true } else { p != NO_SLOT }
 }
 
-// The entry is handed out to the look-up, whose transaction has the place p among the read holders.
+// The entry is handed out to the look-up, whose transaction has the slot p.
 pub fn hand_out(space: &mut Words, e: Entry, w: LookUp, p: u8)
-    requires { ⌜ (p ≤ 8) × (p ≡ slotOf (liveTxn (w .txn .0) (view (now space) .txns))) ⌝ }
+    requires { ⌜ (p ≤ noSlot) × (p ≡ slotOf (liveTxn (w .txn .0) (view (now space) .txns))) ⌝ }
     ensures { λ _. ⌜ (view (now (space .exit)) ≡ handedOut w e (view (now (space .entry)))) × (length (now (space .exit)) ≡ spaceWords) ⌝ }
 {
     let id = e.id;
@@ -276,7 +268,7 @@ pub fn hand_out(space: &mut Words, e: Entry, w: LookUp, p: u8)
         pass_over(space, Sweep::Mark(id, takes, txn, p));
         return;
     }
-    entry_count(space);
+    whole(space);
 }
 
 // Stored entries that end now are removed.

@@ -7,20 +7,22 @@ ghost use Rattle.rules.specs.Lists.{anyb};
 ghost use Rattle.rules.specs.Requests.{frameOf};
 ghost use Rattle.rules.specs.Transactions.{freeSlot, create};
 ghost use Rattle.rules.specs.Words.{view};
+ghost use Rattle.holds.specs.Live.{noSlot};
 ghost use Rattle.holds.specs.Txns.{Creatable};
-use words::rows::NEXT_TXN;
+use crate::live::NO_SLOT;
+use rules::Txn;
+use rules::TxnId;
 use words::rows::CLOCK;
+use words::rows::NEXT_TXN;
 use words::rows::Words;
 use words::rows::add_txn;
 use words::rows::set_next_txn;
 use words::rows::txn_at;
 use words::rows::txn_count;
 use words::time::end_of;
-use rules::Txn;
-use rules::TxnId;
 
 // Whether a live transaction has the slot.
-pub fn has_slot(space: &Words, p: u8) -> bool
+pub(crate) fn has_slot(space: &Words, p: u8) -> bool
     ensures { λ r. ⌜ r ≡ anyb (λ t. eqb (t .slot) p) (view (now (space .entry)) .txns) ⌝ }
 {
     let n = txn_count(space);
@@ -36,11 +38,11 @@ pub fn has_slot(space: &Words, p: u8) -> bool
 }
 
 // The first of the eight slots that no live transaction has; 0 where there is none.
-pub fn free_slot(space: &Words) -> u8
-    ensures { λ r. ⌜ (r ≡ freeSlot (view (now (space .entry)) .txns)) × (r < 8) ⌝ }
+pub(crate) fn free_slot(space: &Words) -> u8
+    ensures { λ r. ⌜ (r ≡ freeSlot (view (now (space .entry)) .txns)) × (r < noSlot) ⌝ }
 {
     let mut p: u8 = 0;
-    while p < 8 {
+    while p < NO_SLOT {
         if !has_slot(space, p) {
             return p;
         }

@@ -15,12 +15,12 @@ use Rattle.rules.specs.Frame.{Frame}
 use Rattle.rules.specs.Records.{created}
 use Rattle.rules.specs.LookUp.{Done}
 
--- the first of the eight slots that no live transaction has ("Freed places are used again"); create is refused where
--- there is none
 abbrev pub orZero : Option ℕ → ℕ
 orZero none = 0
 orZero (some p) = p
 
+-- the first of the eight slots that no live transaction has ("Freed places are used again"); create is refused where
+-- there is none
 unfoldable pub freeSlot : List Txn → ℕ
 freeSlot ts =
     orZero (findb (λ p. not (anyb (λ (t : Txn). eqb (t .slot) p) ts)) (0 ∷ 1 ∷ 2 ∷ 3 ∷ 4 ∷ 5 ∷ 6 ∷ 7 ∷ []))

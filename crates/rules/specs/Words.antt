@@ -1,6 +1,6 @@
 -- A space as words, and how they are read as the rules' model.
 use Prim.Native.Nat.{ℕ, zero, suc, _+_, _*_, _%_, min}
-use mathlib.Core.Bool.{cond}
+use mathlib.Core.Bool.{Bool, cond}
 use mathlib.Core.List.{List, [], _∷_, _++_}
 use lib.Dec.{eqb}
 use lib.ListN.{getD, take, drop}
@@ -10,7 +10,7 @@ use Rattle.rules.specs.declared.LookUp.{LookUp}
 use Rattle.rules.specs.declared.Until.{Until}
 use Rattle.rules.specs.declared.Until.the-variants.{Tick, Forever}
 use Rattle.rules.specs.Frame.{isTake, isIfExists}
-use Rattle.rules.specs.Numbers.{maxEntries, maxTxns, maxWaits}
+use Rattle.rules.specs.Numbers.{forever, maxEntries, maxTxns, maxWaits, opRead, opTake, opReadIfExists, opTakeIfExists}
 use Rattle.rules.specs.State.{Model}
 
 -- where the three tables begin behind the six numbers and counts, the words of a row, and the words of a space
@@ -48,13 +48,13 @@ row b w ws k = take w (drop (b + w * k) ws)
 abbrev pub table : {A : Type 0} → (List ℕ → A) → ℕ → ℕ → ℕ → List ℕ → List A
 table read b w n ws = upTo (λ k. read (row b w ws k)) n
 
--- the end of a lease or a deadline: 4294967295 is never
+-- the end of a lease or a deadline, as a word: FOREVER is never
 unfoldable pub untilOf : ℕ → Until
-untilOf n = cond (eqb n 4294967295) Forever (Tick n)
+untilOf n = cond (eqb n forever) Forever (Tick n)
 
 abbrev pub untilWord : Until → ℕ
 untilWord (Tick t) = t
-untilWord Forever = 4294967295
+untilWord Forever = forever
 
 -- the words of a row from the offset o on
 abbrev pub entryFrom : List ℕ → ℕ → Entry
@@ -74,7 +74,7 @@ txnFrom ws o =
       id = record { 0 = getD ws o 0 };
       party = getD ws (o + 1) 0 % 256;
       end = untilOf (getD ws (o + 2) 0);
-      slot = getD ws (o + 3) 0 % 8;
+      slot = getD ws (o + 3) 0 % maxTxns;
     }
 
 abbrev pub waitFrom : List ℕ → ℕ → LookUp
@@ -89,6 +89,24 @@ waitFrom ws o =
       deadline = untilOf (getD ws (o + 8) 0);
     }
 
+-- and the words that are read so
+abbrev pub entryWords : Entry → List ℕ
+entryWords e =
+    e .id .0 ∷ e .fields .kind ∷ e .fields .side ∷ e .fields .image ∷ e .fields .place ∷ untilWord (e .end)
+    ∷ e .«private_to» .0 ∷ e .«taken_by» .0 ∷ e .readers ∷ []
+
+abbrev pub txnWords : Txn → List ℕ
+txnWords t = t .id .0 ∷ t .party ∷ untilWord (t .end) ∷ t .slot ∷ []
+
+-- the word of a look-up's operation
+abbrev pub opWord : Bool → Bool → ℕ
+opWord takes ifExists = cond takes (cond ifExists opTakeIfExists opTake) (cond ifExists opReadIfExists opRead)
+
+abbrev pub waitWords : LookUp → List ℕ
+waitWords w =
+    w .party ∷ opWord (w .takes) (w .«if_exists») ∷ w .mask ∷ w .fields .kind ∷ w .fields .side ∷ w .fields .image ∷ w .fields .place
+    ∷ w .txn .0 ∷ untilWord (w .deadline) ∷ []
+
 unfoldable pub entryOf : List ℕ → Entry
 entryOf r = entryFrom r 0
 
@@ -99,13 +117,13 @@ unfoldable pub waitOf : List ℕ → LookUp
 waitOf r = waitFrom r 0
 
 abbrev pub entryCount : List ℕ → ℕ
-entryCount ws = min (getD ws 3 0) 64
+entryCount ws = min (getD ws 3 0) maxEntries
 
 abbrev pub txnCount : List ℕ → ℕ
-txnCount ws = min (getD ws 4 0) 8
+txnCount ws = min (getD ws 4 0) maxTxns
 
 abbrev pub waitCount : List ℕ → ℕ
-waitCount ws = min (getD ws 5 0) 16
+waitCount ws = min (getD ws 5 0) maxWaits
 
 unfoldable pub entries : ℕ → List ℕ → List Entry
 entries n ws = table entryOf entriesAt entryWidth n ws

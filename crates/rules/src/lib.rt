@@ -1,4 +1,5 @@
-// The types that the space's code and rules share.
+// The types that the space's code and rules share, and the numbers of document 01.
+pub mod numbers;
 
 // The number of an entry. Counted from 1.
 pub struct EntryId(pub u32);

@@ -9,7 +9,7 @@ use Rattle.rules.specs.declared.Record.{Record}
 use Rattle.rules.specs.Records.{recordBytes, answerBytes}
 use Rattle.rules.specs.Records.{areaAfter}
 use Rattle.codec.specs.Area.{over}
-pub use Rattle.codec.proofs.FrontLaws.{set4-over, Front, front-length, front-more, record-length}
+pub use Rattle.codec.proofs.FrontLaws.{Front, front-length, front-more, record-length}
 
 pub answers-append : (rs ss : List Record) → answerBytes (rs ++ ss) ≡ answerBytes rs ++ answerBytes ss
 unfolding answerBytes

@@ -4,7 +4,6 @@ ghost use lib.ListN.{length};
 ghost use mathlib.Core.List.{[], _∷_};
 ghost use Rattle.space.specs.Does.{Adds};
 use codec::put_record;
-pub(crate) use codec::records::plain_record;
 use rules::Record;
 
 // One record more, in the part of the area that starts where the last record ended.

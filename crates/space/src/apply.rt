@@ -15,40 +15,23 @@ ghost use Rattle.rules.specs.Transactions.{create as createFrame};
 ghost use Rattle.rules.specs.Words.{view};
 ghost use Rattle.space.specs.Does.{Does, first};
 ghost use Rattle.space.specs.Judge.{earlyRefusal, lateRefusal, noWaitLeft};
-ghost use Rattle.holds.specs.Live.{slotOf};
+ghost use Rattle.holds.specs.Live.{noSlot, slotOf};
 ghost use Rattle.space.specs.Outcome.{Ends};
-ghost use Rattle.words.specs.Rows.{Holds};
+ghost use Rattle.words.specs.Rows.{FitsWord};
 ghost use Rattle.words.specs.Time.{InTime};
-use words::rows::MAX_WAITS;
-use words::rows::NEXT_ENTRY;
-use words::rows::CLOCK;
 use crate::answers::add_record;
+use crate::service::serve_waits;
+use codec::records::found_record;
+use codec::records::plain_record;
+use codec::records::written_record;
 use holds::endings::abort_txn;
 use holds::endings::commit_txn;
 use holds::find::Match;
 use holds::find::any_conflict;
 use holds::find::find_available;
 use holds::live::slot_of;
-use words::rows::Words;
-use words::rows::add_entry;
-use words::rows::add_wait;
-use words::rows::is_if_exists;
-use words::rows::is_take;
-use words::rows::set_next_entry;
-use words::rows::wait_count;
-use crate::service::serve_waits;
 use holds::sweep::hand_out;
-use words::time::end_of;
 use holds::txns::create_txn;
-use codec::numbers::KIND_ABORTED;
-use codec::numbers::KIND_COMMITTED;
-use codec::numbers::KIND_CREATED;
-use codec::numbers::KIND_NOTHING;
-use codec::numbers::KIND_WAITING;
-use codec::numbers::WAITS_REFUSED;
-use codec::records::found_record;
-use codec::records::plain_record;
-use codec::records::written_record;
 use rules::Entry;
 use rules::EntryId;
 use rules::FindRequest;
@@ -57,6 +40,23 @@ use rules::Record;
 use rules::Request;
 use rules::TxnId;
 use rules::WriteRequest;
+use rules::numbers::KIND_ABORTED;
+use rules::numbers::KIND_COMMITTED;
+use rules::numbers::KIND_CREATED;
+use rules::numbers::KIND_NOTHING;
+use rules::numbers::KIND_WAITING;
+use rules::numbers::WAITS_REFUSED;
+use words::rows::CLOCK;
+use words::rows::MAX_WAITS;
+use words::rows::NEXT_ENTRY;
+use words::rows::Words;
+use words::rows::add_entry;
+use words::rows::add_wait;
+use words::rows::is_if_exists;
+use words::rows::is_take;
+use words::rows::set_next_entry;
+use words::rows::wait_count;
+use words::time::end_of;
 
 // What becomes of a request: it is carried out, with so many records, or refused with a number.
 pub(crate) enum Outcome {
@@ -152,7 +152,7 @@ pub(crate) fn write(space: &mut Words, answers: &mut [u8], w: WriteRequest) -> u
 // The look-up that a request asks for.
 pub(crate) fn look_up_of(space: &Words, l: FindRequest) -> LookUp
     requires { ⌜ InTime (view (now space) .clock) (l .timeout) ⌝ }
-    ensures { λ r. ⌜ (r ≡ lookUpOf (view (now (space .entry))) (frameOf (Request.Find l))) × Holds (r .deadline) ⌝ }
+    ensures { λ r. ⌜ (r ≡ lookUpOf (view (now (space .entry))) (frameOf (Request.Find l))) × FitsWord (r .deadline) ⌝ }
 {
     let op = l.op as u32;
     let takes = is_take(op);
@@ -173,7 +173,7 @@ pub(crate) fn look_up_of(space: &Words, l: FindRequest) -> LookUp
 
 // Whether a look-up to which no entry is available gets nothing: at timeout 0, and for the IfExists kinds where none conflicts.
 pub(crate) fn gives_nothing(space: &Words, w: LookUp, p: u8, timeout: u32) -> bool
-    requires { ⌜ (p ≤ 8) × (p ≡ slotOf (liveTxn (w .txn .0) (view (now space) .txns))) ⌝ }
+    requires { ⌜ (p ≤ noSlot) × (p ≡ slotOf (liveTxn (w .txn .0) (view (now space) .txns))) ⌝ }
     ensures { λ r. ⌜ r ≡ givesNothing (view (now (space .entry))) w timeout ⌝ }
 {
     if timeout == 0 {
@@ -194,8 +194,8 @@ pub(crate) fn wait_or_nothing(
     p: u8,
     timeout: u32,
 ) -> Outcome
-    requires { ⌜ (p ≤ 8) × (p ≡ slotOf (liveTxn (w .txn .0) (view (now space) .txns)))
-        × Holds (w .deadline) × (stepArea ≤ length (now answers)) ⌝ }
+    requires { ⌜ (p ≤ noSlot) × (p ≡ slotOf (liveTxn (w .txn .0) (view (now space) .txns)))
+        × FitsWord (w .deadline) × (stepArea ≤ length (now answers)) ⌝ }
     ensures { λ r. ⌜ Ends (cond (noWaitLeft (view (now (space .entry))) w timeout) waitsRefused 0)
         (answer (view (now (space .entry))) w timeout none)
         (now (space .entry)) (now (space .exit)) (now (answers .entry)) (now (answers .exit)) r ⌝ }

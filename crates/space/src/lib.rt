@@ -11,13 +11,13 @@ ghost use Rattle.rules.specs.State.{empty};
 ghost use Rattle.rules.specs.Words.{view};
 ghost use Rattle.rules.specs.Allowed.{Stepped};
 ghost use Rattle.space.specs.Empty.{emptyWords};
-use words::rows::NEXT_TXN;
-use words::rows::NEXT_ENTRY;
 use crate::apply::Outcome;
-use words::rows::WORDS;
-use words::rows::Words;
 use crate::step::refuse;
 use crate::step::take_frame;
+use words::rows::NEXT_ENTRY;
+use words::rows::NEXT_TXN;
+use words::rows::WORDS;
+use words::rows::Words;
 
 // An empty space: clock 0, nothing stored, live or waiting, and 1 as both next numbers.
 #[no_mangle]

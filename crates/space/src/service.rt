@@ -4,18 +4,18 @@ ghost use lib.ListN.{length};
 ghost use Rattle.rules.specs.Service.{service};
 ghost use Rattle.rules.specs.Words.{view};
 ghost use Rattle.space.specs.Does.{Does, first};
-use words::rows::WAIT_COUNT;
+use codec::put_record;
+use codec::records::found_record;
 use holds::holds::is_available;
 use holds::live::slot_of;
+use holds::sweep::hand_out;
+use words::rows::WAIT_COUNT;
 use words::rows::Words;
 use words::rows::entry_at;
 use words::rows::entry_count;
 use words::rows::move_wait;
 use words::rows::wait_at;
 use words::rows::wait_count;
-use holds::sweep::hand_out;
-use codec::put_record;
-use codec::records::found_record;
 
 // The waiting look-ups are gone through once in order of arrival, and each with an available entry is answered found.
 // `count` records stand in the answers area before; the number afterwards is returned.

@@ -23,12 +23,12 @@ use crate::apply::create;
 use crate::apply::find;
 use crate::apply::write;
 use crate::judge::judge;
-use words::rows::Words;
 use crate::tick::tick;
 use codec::decode;
 use codec::records::refused_record;
 use rules::Decoded;
 use rules::Request;
+use words::rows::Words;
 
 // What a request does that the refusals 6 to 13 let pass.
 pub(crate) fn carry_out(space: &mut Words, answers: &mut [u8], q: Request) -> Outcome

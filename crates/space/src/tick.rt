@@ -12,12 +12,18 @@ ghost use Rattle.rules.specs.Words.{view};
 ghost use Rattle.space.specs.Does.{Adds, Does, first};
 ghost use Rattle.holds.specs.Live.{liveOf};
 ghost use Rattle.space.specs.Tick.{expired};
-use words::rows::WAIT_COUNT;
-use words::rows::CLOCK;
 use crate::answers::add_record;
-use crate::answers::plain_record;
+use crate::service::serve_waits;
+use codec::records::plain_record;
 use holds::endings::abort_txn;
 use holds::live::Live;
+use holds::sweep::drop_ended;
+use rules::TxnId;
+use rules::numbers::KIND_EXCEPTION;
+use rules::numbers::KIND_NOTHING;
+use rules::numbers::KIND_TICKED;
+use words::rows::CLOCK;
+use words::rows::WAIT_COUNT;
 use words::rows::Words;
 use words::rows::move_wait;
 use words::rows::set_clock;
@@ -25,13 +31,7 @@ use words::rows::txn_at;
 use words::rows::txn_count;
 use words::rows::wait_at;
 use words::rows::wait_count;
-use crate::service::serve_waits;
-use holds::sweep::drop_ended;
-use holds::sweep::reached_at;
-use codec::numbers::KIND_EXCEPTION;
-use codec::numbers::KIND_NOTHING;
-use codec::numbers::KIND_TICKED;
-use rules::TxnId;
+use words::time::reached_at;
 
 // An exception for each transaction that ends now, by number.
 pub(crate) fn put_exceptions(space: &Words, answers: &mut [u8], count: usize) -> usize

@@ -6,8 +6,8 @@ ghost use lib.ListN.{length};
 ghost use Rattle.rules.specs.Frame.{numberAt};
 ghost use Rattle.rules.specs.Tray.{pairsEnd, pairs, badTray, badPairs, trayRefusal};
 use codec::number_at;
-use codec::numbers::PAIRS_REFUSED;
-use codec::numbers::TRAY_REFUSED;
+use rules::numbers::PAIRS_REFUSED;
+use rules::numbers::TRAY_REFUSED;
 
 // A number of the tray as a size.
 pub(crate) fn size_at(tray: &[u8], at: usize) -> usize

@@ -4,7 +4,7 @@ ghost use Prim.Native.Nat.{_+_, _*_, _≤_};
 ghost use Rattle.rules.specs.Allowed.{TrayRan};
 ghost use Rattle.rules.specs.Tray.{trayRefusal};
 use crate::judge::size_at;
-use codec::numbers::AREA_REFUSED;
+use rules::numbers::AREA_REFUSED;
 use space::space_empty;
 use space::space_step;
 

@@ -1,4 +1,4 @@
--- A table after a row is written over, and its elements.
+-- The first n values of a function: the elements, the first of them, and a function that differs at one place.
 use Prim.Native.Nat.{ℕ, zero, suc, _+_, _≤_, _<_}
 use mathlib.Core.Logic.{_≢_}
 use mathlib.Core.Path.{_≡_, refl, sym, ap, ap₂, _∙_}

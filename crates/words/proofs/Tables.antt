@@ -14,11 +14,11 @@ use Rattle.rules.specs.declared.LookUp.{LookUp}
 use Rattle.rules.specs.declared.Txn.{Txn}
 use Rattle.rules.proofs.StepCases.{cond-cases}
 use Rattle.rules.specs.Frame.{isTake, isIfExists}
-use Rattle.rules.specs.Numbers.{maxEntries, maxTxns, maxWaits}
+use Rattle.rules.specs.Numbers.{forever, maxEntries, maxTxns, maxWaits}
 use Rattle.rules.specs.State.{withEntries, withTxns, withWaits, withClock, withNextEntry, withNextTxn}
-use Rattle.rules.specs.Words.{row, untilOf, untilWord, entryCount, txnCount, waitCount, entryFrom, txnFrom, waitFrom, entryOf, txnOf, waitOf, entries, txns, waits, view}
+use Rattle.rules.specs.Words.{row, untilOf, untilWord, entryCount, txnCount, waitCount, entryFrom, txnFrom, waitFrom, entryWords, txnWords, opWord, waitWords, entryOf, txnOf, waitOf, entries, txns, waits, view}
 use Rattle.rules.specs.Words.{entriesAt, entryWidth, txnsAt, txnWidth, waitsAt, waitWidth, spaceWords}
-use Rattle.words.specs.Rows.{entryWords, txnWords, waitWords, opWord, Holds}
+use Rattle.words.specs.Rows.{FitsWord}
 use Rattle.words.proofs.RowLaws.{upTo-ext, row-word, row-first, but-set, word-kept}
 use Rattle.words.proofs.SearchLaws.{Rows}
 use Rattle.words.proofs.Table.{Table, kept, Turned, length-all}
@@ -123,11 +123,11 @@ length-waits ws = length-all waitTable ws
 -- an end that was read from a word is written as that word
 pub until-back : (n : ℕ) → untilWord (untilOf n) ≡ n
 unfolding untilOf
-until-back n = cond-cases (λ u. untilWord u ≡ n) (eqb n 4294967295) (λ e. sym (eqb-true n 4294967295 e)) (λ e. refl)
+until-back n = cond-cases (λ u. untilWord u ≡ n) (eqb n forever) (λ e. sym (eqb-true n forever e)) (λ e. refl)
 
 pub record Storable (e : Entry) : Type 0 where
   pub readers-fit : e .readers < 256
-  pub end-fits : Holds (e .end)
+  pub end-fits : FitsWord (e .end)
 
 pub entry-back : (e : Entry) → Storable e → entryOf (entryWords e) ≡ e
 unfolding entryOf
@@ -135,8 +135,8 @@ entry-back e s = rw (s .end-fits, mod-eq-of-lt (s .readers-fit))
 
 pub record Txnable (t : Txn) : Type 0 where
   pub party-fits : t .party < 256
-  pub slot-fits : t .slot < 8
-  pub end-fits : Holds (t .end)
+  pub slot-fits : t .slot < maxTxns
+  pub end-fits : FitsWord (t .end)
 
 pub txn-back : (t : Txn) → Txnable t → txnOf (txnWords t) ≡ t
 unfolding txnOf
@@ -145,7 +145,7 @@ txn-back t s = rw (s .end-fits, mod-eq-of-lt (s .party-fits), mod-eq-of-lt (s .s
 pub record Waitable (w : LookUp) : Type 0 where
   pub party-fits : w .party < 256
   pub mask-fits : w .mask < 256
-  pub deadline-fits : Holds (w .deadline)
+  pub deadline-fits : FitsWord (w .deadline)
 
 op-back : (t i : Bool) → (isTake (opWord t i) ≡ t) × (isIfExists (opWord t i) ≡ i)
 op-back true true = (refl, refl)

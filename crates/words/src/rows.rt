@@ -3,10 +3,11 @@ ghost use mathlib.Core.Path.{_≡_};
 ghost use Prim.Native.Nat.{_+_, _*_, _<_};
 ghost use lib.ListN.{length, getD};
 ghost use mathlib.Core.List.{[], _∷_, _++_};
+ghost use Rattle.rules.specs.Numbers.{maxEntries, maxTxns, maxWaits};
 ghost use Rattle.rules.specs.State.{withEntries, withTxns, withWaits, withClock, withNextEntry, withNextTxn};
 ghost use Rattle.rules.specs.Words.{untilOf, untilWord, entryFrom, txnFrom, waitFrom, entryCount, txnCount, waitCount};
-ghost use Rattle.words.specs.Rows.{putEntry, moveRow, opWord, putWait, putTxn, Holds, moveTxn};
-ghost use Rattle.rules.specs.Words.{view};
+ghost use Rattle.words.specs.Rows.{putEntry, moveRow, putWait, putTxn, FitsWord, moveTxn};
+ghost use Rattle.rules.specs.Words.{view, opWord};
 ghost use Rattle.rules.specs.Words.{entriesAt, entryWidth, txnsAt, txnWidth, waitsAt, waitWidth, spaceWords};
 ghost use Rattle.rules.specs.Frame.{isTake, isIfExists};
 use rules::Entry;
@@ -19,28 +20,46 @@ use rules::Until;
 
 // How many words a space has, and where its numbers and counts stand.
 pub const WORDS: usize = WAITS + WAIT_WORDS * MAX_WAITS;
+
 pub type Words = [u32; WORDS];
+
 pub const CLOCK: usize = 0;
+
 pub const NEXT_ENTRY: usize = 1;
+
 pub const NEXT_TXN: usize = 2;
+
 pub const ENTRY_COUNT: usize = 3;
+
 pub const TXN_COUNT: usize = 4;
+
 pub const WAIT_COUNT: usize = 5;
+
 // The three tables: where each begins, the words of a row, and how many rows it has at most.
-pub const ENTRIES: usize = 6;
-pub const ENTRY_WORDS: usize = 9;
+pub(crate) const ENTRIES: usize = 6;
+
+pub(crate) const ENTRY_WORDS: usize = 9;
+
 pub const MAX_ENTRIES: usize = 64;
-pub const TXNS: usize = ENTRIES + ENTRY_WORDS * MAX_ENTRIES;
-pub const TXN_WORDS: usize = 4;
+
+pub(crate) const TXNS: usize = ENTRIES + ENTRY_WORDS * MAX_ENTRIES;
+
+pub(crate) const TXN_WORDS: usize = 4;
+
 pub const MAX_TXNS: usize = 8;
-pub const WAITS: usize = TXNS + TXN_WORDS * MAX_TXNS;
-pub const WAIT_WORDS: usize = 9;
+
+pub(crate) const WAITS: usize = TXNS + TXN_WORDS * MAX_TXNS;
+
+pub(crate) const WAIT_WORDS: usize = 9;
+
 pub const MAX_WAITS: usize = 16;
+
+// An end that is never reached, as a word; and the last value of the clock.
 pub const FOREVER: u32 = 4294967295;
+
 pub const LAST_CLOCK: u32 = 4294967294;
 
-
-pub fn until_of(n: u32) -> Until
+pub(crate) fn until_of(n: u32) -> Until
     ensures { λ r. ⌜ r ≡ untilOf n ⌝ }
 {
     if n == FOREVER {
@@ -50,13 +69,21 @@ pub fn until_of(n: u32) -> Until
     }
 }
 
-pub fn until_word(u: Until) -> u32
+pub(crate) fn until_word(u: Until) -> u32
     ensures { λ r. ⌜ r ≡ untilWord u ⌝ }
 {
     match u {
         Until::Tick(t) => t,
         Until::Forever => FOREVER,
     }
+}
+
+// Does nothing. A call tells the proof of what stands around it how many words there are, which it has from no index.
+pub fn whole(space: &Words)
+    ensures { λ _. ⌜ length (now (space .entry)) ≡ spaceWords ⌝ }
+{
+    let all = &space[..];
+    all.len();
 }
 
 pub fn entry_count(space: &Words) -> usize
@@ -68,7 +95,7 @@ pub fn entry_count(space: &Words) -> usize
 }
 
 pub fn entry_at(space: &Words, i: usize) -> Entry
-    requires { ⌜ i < 64 ⌝ }
+    requires { ⌜ i < maxEntries ⌝ }
     ensures { λ r. ⌜ r ≡ entryFrom (now (space .entry)) (entriesAt + entryWidth * i) ⌝ }
 {
     let o = ENTRIES + ENTRY_WORDS * i;
@@ -91,14 +118,14 @@ pub fn entry_at(space: &Words, i: usize) -> Entry
 
 // The number of the entry in row i: the one word that a search by number reads.
 pub fn entry_id(space: &Words, i: usize) -> u32
-    requires { ⌜ i < 64 ⌝ }
+    requires { ⌜ i < maxEntries ⌝ }
     ensures { λ r. ⌜ r ≡ entryFrom (now (space .entry)) (entriesAt + entryWidth * i) .id .0 ⌝ }
 {
     space[ENTRIES + ENTRY_WORDS * i]
 }
 
 pub fn put_entry(space: &mut Words, i: usize, e: Entry)
-    requires { ⌜ i < 64 ⌝ }
+    requires { ⌜ i < maxEntries ⌝ }
     ensures { λ _. ⌜ now (space .exit) ≡ putEntry (now (space .entry)) (entriesAt + entryWidth * i) e ⌝ }
 {
     let o = ENTRIES + ENTRY_WORDS * i;
@@ -132,7 +159,7 @@ pub fn wait_count(space: &Words) -> usize
 }
 
 pub fn txn_at(space: &Words, i: usize) -> Txn
-    requires { ⌜ i < 8 ⌝ }
+    requires { ⌜ i < maxTxns ⌝ }
     ensures { λ r. ⌜ r ≡ txnFrom (now (space .entry)) (txnsAt + txnWidth * i) ⌝ }
 {
     let o = TXNS + TXN_WORDS * i;
@@ -158,7 +185,7 @@ pub fn is_if_exists(op: u32) -> bool
 }
 
 pub fn wait_at(space: &Words, i: usize) -> LookUp
-    requires { ⌜ i < 16 ⌝ }
+    requires { ⌜ i < maxWaits ⌝ }
     ensures { λ r. ⌜ r ≡ waitFrom (now (space .entry)) (waitsAt + waitWidth * i) ⌝ }
 {
     let o = WAITS + WAIT_WORDS * i;
@@ -184,7 +211,7 @@ pub fn wait_at(space: &Words, i: usize) -> LookUp
 
 // Row `from` of the waiting look-ups also stands at row `to`.
 pub fn move_wait(space: &mut Words, from: usize, to: usize)
-    requires { ⌜ (from < 16) × (to < 16) ⌝ }
+    requires { ⌜ (from < maxWaits) × (to < maxWaits) ⌝ }
     ensures { λ _. ⌜ now (space .exit) ≡ moveRow (now (space .entry)) (waitsAt + waitWidth * from) (waitsAt + waitWidth * to) ⌝ }
 {
     let f = WAITS + WAIT_WORDS * from;
@@ -210,7 +237,7 @@ pub fn move_wait(space: &mut Words, from: usize, to: usize)
 }
 
 // A look-up's operation as a word.
-pub fn op_word(takes: bool, exists: bool) -> u32
+pub(crate) fn op_word(takes: bool, exists: bool) -> u32
     ensures { λ r. ⌜ r ≡ opWord takes exists ⌝ }
 {
     if takes {
@@ -220,8 +247,8 @@ pub fn op_word(takes: bool, exists: bool) -> u32
     }
 }
 
-pub fn put_wait(space: &mut Words, i: usize, w: LookUp)
-    requires { ⌜ i < 16 ⌝ }
+pub(crate) fn put_wait(space: &mut Words, i: usize, w: LookUp)
+    requires { ⌜ i < maxWaits ⌝ }
     ensures { λ _. ⌜ now (space .exit) ≡ putWait (now (space .entry)) (waitsAt + waitWidth * i) w ⌝ }
 {
     let o = WAITS + WAIT_WORDS * i;
@@ -241,7 +268,7 @@ pub fn put_wait(space: &mut Words, i: usize, w: LookUp)
 
 // The entry stands behind the others.
 pub fn add_entry(space: &mut Words, e: Entry)
-    requires { ⌜ (getD (now space) 3 0 < 64) × Holds (e .end) ⌝ }
+    requires { ⌜ (getD (now space) 3 0 < maxEntries) × FitsWord (e .end) ⌝ }
     ensures { λ _. ⌜ view (now (space .exit)) ≡ withEntries (view (now (space .entry)) .entries ++ (e ∷ [])) (view (now (space .entry))) ⌝ }
 {
     let n = entry_count(space);
@@ -249,8 +276,8 @@ pub fn add_entry(space: &mut Words, e: Entry)
     space[ENTRY_COUNT] = (n + 1) as u32;
 }
 
-pub fn put_txn(space: &mut Words, i: usize, t: Txn)
-    requires { ⌜ i < 8 ⌝ }
+pub(crate) fn put_txn(space: &mut Words, i: usize, t: Txn)
+    requires { ⌜ i < maxTxns ⌝ }
     ensures { λ _. ⌜ now (space .exit) ≡ putTxn (now (space .entry)) (txnsAt + txnWidth * i) t ⌝ }
 {
     let o = TXNS + TXN_WORDS * i;
@@ -264,7 +291,7 @@ pub fn put_txn(space: &mut Words, i: usize, t: Txn)
 
 // The transaction stands behind the others.
 pub fn add_txn(space: &mut Words, t: Txn)
-    requires { ⌜ (getD (now space) 4 0 < 8) × (t .slot < 8) × Holds (t .end) ⌝ }
+    requires { ⌜ (getD (now space) 4 0 < maxTxns) × (t .slot < maxTxns) × FitsWord (t .end) ⌝ }
     ensures { λ _. ⌜ view (now (space .exit)) ≡ withTxns (view (now (space .entry)) .txns ++ (t ∷ [])) (view (now (space .entry))) ⌝ }
 {
     let n = txn_count(space);
@@ -274,7 +301,7 @@ pub fn add_txn(space: &mut Words, t: Txn)
 
 // The look-up stands behind the others.
 pub fn add_wait(space: &mut Words, w: LookUp)
-    requires { ⌜ (getD (now space) 5 0 < 16) × Holds (w .deadline) ⌝ }
+    requires { ⌜ (getD (now space) 5 0 < maxWaits) × FitsWord (w .deadline) ⌝ }
     ensures { λ _. ⌜ view (now (space .exit)) ≡ withWaits (view (now (space .entry)) .waits ++ (w ∷ [])) (view (now (space .entry))) ⌝ }
 {
     let n = wait_count(space);
@@ -286,7 +313,7 @@ pub fn add_wait(space: &mut Words, w: LookUp)
 pub fn set_clock(space: &mut Words, t: u32)
     ensures { λ _. ⌜ view (now (space .exit)) ≡ withClock t (view (now (space .entry))) ⌝ }
 {
-    wait_count(space);
+    whole(space);
     space[CLOCK] = t;
 }
 
@@ -294,7 +321,7 @@ pub fn set_clock(space: &mut Words, t: u32)
 pub fn set_next_entry(space: &mut Words, n: u32)
     ensures { λ _. ⌜ view (now (space .exit)) ≡ withNextEntry n (view (now (space .entry))) ⌝ }
 {
-    entry_count(space);
+    whole(space);
     space[NEXT_ENTRY] = n;
 }
 
@@ -302,13 +329,13 @@ pub fn set_next_entry(space: &mut Words, n: u32)
 pub fn set_next_txn(space: &mut Words, n: u32)
     ensures { λ _. ⌜ view (now (space .exit)) ≡ withNextTxn n (view (now (space .entry))) ⌝ }
 {
-    txn_count(space);
+    whole(space);
     space[NEXT_TXN] = n;
 }
 
 // Row `from` of the transactions also stands at row `to`.
 pub fn move_txn(space: &mut Words, from: usize, to: usize)
-    requires { ⌜ (from < 8) × (to < 8) ⌝ }
+    requires { ⌜ (from < maxTxns) × (to < maxTxns) ⌝ }
     ensures { λ _. ⌜ now (space .exit) ≡ moveTxn (now (space .entry)) (txnsAt + txnWidth * from) (txnsAt + txnWidth * to) ⌝ }
 {
     let f = TXNS + TXN_WORDS * from;

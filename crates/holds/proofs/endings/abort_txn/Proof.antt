@@ -1,4 +1,4 @@
--- `space::abort_txn` meets its contract. Assumes nothing.
+-- `holds::endings::abort_txn` meets its contract. Assumes nothing.
 use borrow.Author.Needs.{needs}
 use Rattle.holds.proofs.HandLaws.{aborted-model}
 use Rattle.holds.proofs.endings.abort_txn.Statement.{statement}

@@ -1,4 +1,4 @@
--- `space::commit_txn` meets its contract. Assumes nothing.
+-- `holds::endings::commit_txn` meets its contract. Assumes nothing.
 use borrow.Author.Needs.{needs}
 use Rattle.holds.proofs.HandLaws.{committed-model}
 use Rattle.holds.proofs.endings.commit_txn.Statement.{statement}

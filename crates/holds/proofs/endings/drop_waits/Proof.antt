@@ -1,4 +1,4 @@
--- `space::drop_waits` meets its contract. The loop's invariant: the first i look-ups are gone through. Assumes nothing.
+-- `holds::endings::drop_waits` meets its contract. The loop's invariant: the first i look-ups are gone through. Assumes nothing.
 use Prim.Native.Nat.{ℕ, _≤_, _-_, _+_}
 use mathlib.Core.Logic.{⊎-elim}
 use mathlib.Core.Bool.{Bool, not}

@@ -1,4 +1,4 @@
--- `space::any_conflict` meets its contract. The loop's invariant: none of the entries passed conflicts. Assumes nothing.
+-- `holds::find::any_conflict` meets its contract. The loop's invariant: none of the entries passed conflicts. Assumes nothing.
 use Prim.Native.Nat.{_≤_, _-_}
 use mathlib.Core.Path.{_≡_, sym, _∙_}
 use native.Mathlib.Omega.{arith}

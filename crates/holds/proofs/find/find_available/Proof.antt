@@ -1,4 +1,4 @@
--- `space::find_available` meets its contract. The loop's invariant: none of the entries passed is available. Assumes nothing.
+-- `holds::find::find_available` meets its contract. The loop's invariant: none of the entries passed is available. Assumes nothing.
 use Prim.Native.Nat.{_≤_, _-_}
 use mathlib.Core.Path.{_≡_, sym, _∙_}
 use native.Mathlib.Omega.{arith}

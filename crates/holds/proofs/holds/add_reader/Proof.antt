@@ -1,4 +1,4 @@
--- `space::add_reader` meets its contract. Assumes nothing.
+-- `holds::holds::add_reader` meets its contract. Assumes nothing.
 use borrow.Author.Needs.{needs}
 use Prim.Native.Nat.{_+_, _^_, _<_}
 use native.Mathlib.Omega.{arith}

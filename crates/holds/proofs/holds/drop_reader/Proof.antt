@@ -1,4 +1,4 @@
--- `space::drop_reader` meets its contract. Assumes nothing.
+-- `holds::holds::drop_reader` meets its contract. Assumes nothing.
 use borrow.Author.Needs.{needs}
 use borrow.Author.Tests.{eq-eqb, ne-eqb}
 use native.Mathlib.Omega.{arith}

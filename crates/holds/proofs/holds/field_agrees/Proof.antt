@@ -1,4 +1,4 @@
--- `space::field_agrees` meets its contract. Assumes nothing.
+-- `holds::holds::field_agrees` meets its contract. Assumes nothing.
 use borrow.Author.Needs.{needs}
 use mathlib.Core.Path.{sym, _∙_}
 use Rattle.holds.proofs.holds.field_agrees.Statement.{statement}

@@ -1,4 +1,4 @@
--- `space::fields_match` meets its contract. Assumes nothing.
+-- `holds::holds::fields_match` meets its contract. Assumes nothing.
 use borrow.Author.Needs.{needs}
 use mathlib.Core.Path.{sym, _∙_}
 use Rattle.rules.specs.Template.{matches}

@@ -1,4 +1,4 @@
--- `space::free_but` meets its contract. Assumes nothing.
+-- `holds::holds::free_but` meets its contract. Assumes nothing.
 use Rattle.holds.proofs.BitLaws.{freeBut, free-but}
 use native.Mathlib.Omega.{arith}
 use mathlib.Core.Bool.{true, false}

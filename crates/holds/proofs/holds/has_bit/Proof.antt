@@ -1,4 +1,4 @@
--- `space::has_bit` meets its contract. Assumes nothing.
+-- `holds::holds::has_bit` meets its contract. Assumes nothing.
 use borrow.Author.Needs.{needs}
 use lib.Pow.{pow-pos}
 use native.Mathlib.Omega.{arith}

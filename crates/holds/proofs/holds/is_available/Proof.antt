@@ -1,4 +1,4 @@
--- `space::is_available` meets its contract. Assumes nothing.
+-- `holds::holds::is_available` meets its contract. Assumes nothing.
 use borrow.Author.Needs.{needs}
 use mathlib.Core.Path.{sym, _∙_}
 use Rattle.rules.specs.Holds.{visible}

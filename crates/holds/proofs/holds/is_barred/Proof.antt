@@ -1,4 +1,4 @@
--- `space::is_barred` meets its contract. Assumes nothing.
+-- `holds::holds::is_barred` meets its contract. Assumes nothing.
 use borrow.Author.Needs.{needs}
 use Rattle.holds.proofs.holds.is_barred.Statement.{statement}
 use Rattle.holds.proofs.holds.is_barred.Tie as tie

@@ -1,4 +1,4 @@
--- `space::holds::is_conflicting` meets its contract. Assumes nothing.
+-- `holds::holds::is_conflicting` meets its contract. Assumes nothing.
 use borrow.Author.Needs.{needs}
 use mathlib.Core.Path.{sym, _∙_}
 use Rattle.holds.proofs.ConflictLaws.{others-conflict}

@@ -1,4 +1,4 @@
--- `space::holds::is_other` meets its contract. Assumes nothing.
+-- `holds::holds::is_other` meets its contract. Assumes nothing.
 use borrow.Author.Tests.{eq-eqb, ne-eqb}
 use Rattle.holds.proofs.holds.is_other.Statement.{statement}
 use Rattle.holds.proofs.holds.is_other.Tie as tie

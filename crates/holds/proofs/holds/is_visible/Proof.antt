@@ -1,4 +1,4 @@
--- `space::is_visible` meets its contract. Assumes nothing.
+-- `holds::holds::is_visible` meets its contract. Assumes nothing.
 use borrow.Author.Tests.{eq-eqb, ne-eqb}
 use Rattle.holds.proofs.holds.is_visible.Statement.{statement}
 use Rattle.holds.proofs.holds.is_visible.Tie as tie

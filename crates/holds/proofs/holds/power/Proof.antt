@@ -1,4 +1,4 @@
--- `space::power` meets its contract. Assumes nothing.
+-- `holds::holds::power` meets its contract. Assumes nothing.
 use Prim.Native.Nat.{_<_, _^_}
 use native.Mathlib.Nat.{one-mul, mod-eq-of-lt}
 use borrow.Author.Needs.{needs}

@@ -1,4 +1,4 @@
--- `space::find_txn` meets its contract. The loop's invariant: none of the rows passed has the number. Assumes nothing.
+-- `holds::live::find_txn` meets its contract. The loop's invariant: none of the rows passed has the number. Assumes nothing.
 use Prim.Native.Nat.{ℕ, _≤_, _-_}
 use mathlib.Core.Bool.{Bool}
 use mathlib.Core.Path.{_≡_, sym}

@@ -1,4 +1,4 @@
--- `space::remove_txn` meets its contract. The loop's invariant: the first i transactions are gone through. Assumes nothing.
+-- `holds::live::remove_txn` meets its contract. The loop's invariant: the first i transactions are gone through. Assumes nothing.
 use Prim.Native.Nat.{ℕ, _≤_, _-_, _+_}
 use mathlib.Core.Bool.{Bool, not}
 use mathlib.Core.Logic.{⊎-elim}

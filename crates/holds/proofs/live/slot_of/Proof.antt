@@ -1,4 +1,4 @@
--- `space::slot_of` meets its contract. Assumes nothing.
+-- `holds::live::slot_of` meets its contract. Assumes nothing.
 use borrow.Author.Needs.{needs}
 use mathlib.Core.Path.{ap, sym, _∙_, subst}
 use Prim.Native.Nat.{_≤_}

@@ -1,4 +1,4 @@
--- `space::change_entry` meets its contract. Assumes nothing.
+-- `holds::sweep::change_entry` meets its contract. Assumes nothing.
 use borrow.Author.Needs.{needs}
 use Prim.Native.Nat.{_≤_}
 use mathlib.Core.Path.{subst}

@@ -1,4 +1,4 @@
--- `space::cleared` meets its contract. Assumes nothing.
+-- `holds::sweep::cleared` meets its contract. Assumes nothing.
 use borrow.Author.Tests.{eq-eqb, ne-eqb}
 use Rattle.holds.proofs.sweep.cleared.Statement.{statement}
 use Rattle.holds.proofs.sweep.cleared.Tie as tie

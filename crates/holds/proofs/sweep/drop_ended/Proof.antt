@@ -1,4 +1,4 @@
--- `space::drop_ended` meets its contract. Assumes nothing.
+-- `holds::sweep::drop_ended` meets its contract. Assumes nothing.
 use borrow.Author.Needs.{needs}
 use mathlib.Core.Path.{sym, _∙_}
 use Rattle.rules.specs.Words.{view}

@@ -1,4 +1,4 @@
--- `space::sweep::first_touched` meets its contract. Assumes nothing.
+-- `holds::sweep::first_touched` meets its contract. Assumes nothing.
 use mathlib.Core.Path.{sym, subst}
 use native.Mathlib.Omega.{arith}
 use borrow.Author.Needs.{needs}

@@ -1,4 +1,4 @@
--- `space::hand_out` meets its contract. Assumes nothing.
+-- `holds::sweep::hand_out` meets its contract. Assumes nothing.
 use borrow.Author.Needs.{needs}
 use mathlib.Core.Bool.{not}
 use mathlib.Core.Path.{sym, _∙_}
@@ -29,7 +29,7 @@ returns-3 c =
     let a = c .before .before .before .before .before .before .before .before .before .args in
     let u = sym (c .before .before .before .is-marked .ensures) ∙ c .before .before .if2 .left in
     let z = eqb-true (a .p) 8 (not-false (eqb (a .p) 8) (or-right (a .w .takes) (not (eqb (a .p) 8)) u)) in
-    (handed-unmarked (a .space .now) (a .w) (a .e) (a .p) (c .before .before .before .before .before .before .before .before .before .pre .1) z (or-left (a .w .takes) (not (eqb (a .p) 8)) u), c .entry-count .ensures .1)
+    (handed-unmarked (a .space .now) (a .w) (a .e) (a .p) (c .before .before .before .before .before .before .before .before .before .pre .1) z (or-left (a .w .takes) (not (eqb (a .p) 8)) u), c .whole .ensures)
 
 pub hand-out-spec : {M : Type 1} → statement M
 hand-out-spec =

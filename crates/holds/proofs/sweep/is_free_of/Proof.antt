@@ -1,4 +1,4 @@
--- `space::sweep::is_free_of` meets its contract. Assumes nothing.
+-- `holds::sweep::is_free_of` meets its contract. Assumes nothing.
 use borrow.Author.Needs.{needs}
 use mathlib.Core.Bool.{true≢false}
 use mathlib.Core.Path.{sym, _∙_}

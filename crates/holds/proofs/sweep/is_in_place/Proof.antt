@@ -1,4 +1,4 @@
--- `space::sweep::is_in_place` meets its contract. Assumes nothing.
+-- `holds::sweep::is_in_place` meets its contract. Assumes nothing.
 use borrow.Author.Needs.{needs}
 use mathlib.Core.Bool.{true≢false}
 use mathlib.Core.Path.{sym}

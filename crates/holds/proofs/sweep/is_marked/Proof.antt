@@ -1,4 +1,4 @@
--- `space::is_marked` meets its contract. Assumes nothing.
+-- `holds::sweep::is_marked` meets its contract. Assumes nothing.
 use borrow.Author.Needs.{needs}
 use Rattle.holds.proofs.sweep.is_marked.Statement.{statement}
 use Rattle.holds.proofs.sweep.is_marked.Tie as tie

@@ -1,4 +1,4 @@
--- `space::is_removed` meets its contract. Assumes nothing.
+-- `holds::sweep::is_removed` meets its contract. Assumes nothing.
 use borrow.Author.Needs.{needs}
 use Rattle.holds.proofs.sweep.is_removed.Statement.{statement}
 use Rattle.holds.proofs.sweep.is_removed.Tie as tie

@@ -1,4 +1,4 @@
--- `space::sweep::is_untouched` meets its contract. Assumes nothing.
+-- `holds::sweep::is_untouched` meets its contract. Assumes nothing.
 use borrow.Author.Needs.{needs}
 use Prim.Native.Nat.{_≤_}
 use mathlib.Core.Path.{subst}

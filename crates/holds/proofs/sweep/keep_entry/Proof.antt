@@ -1,4 +1,4 @@
--- `space::sweep::keep_entry` meets its contract. Assumes nothing.
+-- `holds::sweep::keep_entry` meets its contract. Assumes nothing.
 use borrow.Author.Needs.{needs}
 use Prim.Native.Nat.{_<_, _+_, _*_}
 use mathlib.Core.Logic.{inl, inr}

@@ -1,4 +1,4 @@
--- `space::keeps_entry` meets its contract. Assumes nothing.
+-- `holds::sweep::keeps_entry` meets its contract. Assumes nothing.
 use borrow.Author.Needs.{needs}
 use Rattle.holds.proofs.sweep.keeps_entry.Statement.{statement}
 use Rattle.holds.proofs.sweep.keeps_entry.Tie as tie

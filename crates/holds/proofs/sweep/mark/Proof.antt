@@ -1,4 +1,4 @@
--- `space::mark` meets its contract. Assumes nothing.
+-- `holds::sweep::mark` meets its contract. Assumes nothing.
 use borrow.Author.Needs.{needs}
 use borrow.Author.Tests.{eq-eqb, ne-eqb}
 use Rattle.holds.specs.Sweep.{markedAt, heldAt}

@@ -1,4 +1,4 @@
--- `space::pass_over` meets its contract. The loop's invariant: the first i entries are gone through. Assumes nothing.
+-- `holds::sweep::pass_over` meets its contract. The loop's invariant: the first i entries are gone through. Assumes nothing.
 use Prim.Native.Nat.{_≤_, _-_, _+_}
 use mathlib.Core.Logic.{⊎-elim}
 use mathlib.Core.Path.{sym, _∙_, subst₂}

@@ -1,4 +1,4 @@
--- `space::release` meets its contract. Assumes nothing.
+-- `holds::sweep::release` meets its contract. Assumes nothing.
 use borrow.Author.Needs.{needs}
 use Rattle.holds.specs.Sweep.{releasedAt}
 use Rattle.holds.proofs.sweep.release.Statement.{statement}

@@ -1,4 +1,4 @@
--- `space::sweep::row_of` meets its contract. The loop's invariant: no row before i has the number. Assumes nothing.
+-- `holds::sweep::row_of` meets its contract. The loop's invariant: no row before i has the number. Assumes nothing.
 use Prim.Native.Nat.{ℕ, _≤_, _-_}
 use mathlib.Core.Bool.{Bool}
 use mathlib.Core.Path.{refl, sym, ap, _∙_}

@@ -1,4 +1,4 @@
--- `space::txns::create_txn` meets its contract. Assumes nothing.
+-- `holds::txns::create_txn` meets its contract. Assumes nothing.
 use borrow.Author.Needs.{needs}
 use Prim.Native.Nat.{_+_}
 use mathlib.Core.Path.{refl, ap, ap₂, _∙_}

@@ -1,4 +1,4 @@
--- `space::txns::free_slot` meets its contract. Assumes nothing.
+-- `holds::txns::free_slot` meets its contract. Assumes nothing.
 use Prim.Native.Nat.{ℕ, _≤_, _-_}
 use mathlib.Core.Bool.{Bool, not}
 use mathlib.Core.Path.{refl, sym, ap, _∙_}

@@ -1,4 +1,4 @@
--- `space::txns::has_slot` meets its contract. Assumes nothing.
+-- `holds::txns::has_slot` meets its contract. Assumes nothing.
 use Prim.Native.Nat.{ℕ, _≤_, _-_}
 use mathlib.Core.Bool.{Bool}
 use mathlib.Core.Path.{_≡_, sym}

@@ -1,4 +1,4 @@
--- `space::abort` meets its contract. Assumes nothing.
+-- `space::apply::abort` meets its contract. Assumes nothing.
 use borrow.Author.Needs.{needs}
 use mathlib.Core.Path.{ap₂}
 use Rattle.rules.specs.Records.{aborted}

@@ -1,4 +1,4 @@
--- `space::answer_and_serve` meets its contract. Assumes nothing.
+-- `space::apply::answer_and_serve` meets its contract. Assumes nothing.
 use borrow.Author.Needs.{needs}
 use native.Mathlib.Omega.{arith}
 use Rattle.space.proofs.DoesLaws.{adds-of, adds-then, does-adds}

@@ -1,4 +1,4 @@
--- `space::create` meets its contract. Assumes nothing.
+-- `space::apply::create` meets its contract. Assumes nothing.
 use borrow.Author.Needs.{needs}
 use mathlib.Core.Path.{ap, _∙_}
 use mathlib.Core.List.{[], _∷_}

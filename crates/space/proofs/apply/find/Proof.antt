@@ -1,4 +1,4 @@
--- `space::find` meets its contract. Assumes nothing.
+-- `space::apply::find` meets its contract. Assumes nothing.
 use borrow.Author.Needs.{needs}
 use mathlib.Core.Path.{refl, sym, ap, ap₂, _∙_}
 use mathlib.Core.List.{[], _∷_}

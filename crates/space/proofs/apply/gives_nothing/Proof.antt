@@ -1,4 +1,4 @@
--- `space::gives_nothing` meets its contract. Assumes nothing.
+-- `space::apply::gives_nothing` meets its contract. Assumes nothing.
 use borrow.Author.Needs.{needs}
 use mathlib.Core.Bool.{not, _&&_, _||_}
 use mathlib.Core.Path.{sym, ap, ap₂, _∙_}

@@ -1,4 +1,4 @@
--- `space::look_up_of` meets its contract. Assumes nothing.
+-- `space::apply::look_up_of` meets its contract. Assumes nothing.
 use borrow.Author.Needs.{needs}
 use Rattle.rules.specs.LookUp.{lookUpOf}
 use Rattle.rules.specs.Words.{view}

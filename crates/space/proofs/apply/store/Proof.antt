@@ -1,4 +1,4 @@
--- `space::store` meets its contract. Assumes nothing.
+-- `space::apply::store` meets its contract. Assumes nothing.
 use borrow.Author.Needs.{needs}
 use Prim.Native.Nat.{_+_}
 use mathlib.Core.Path.{ap, _∙_}

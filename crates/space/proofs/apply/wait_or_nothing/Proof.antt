@@ -1,4 +1,4 @@
--- `space::wait_or_nothing` meets its contract. Assumes nothing.
+-- `space::apply::wait_or_nothing` meets its contract. Assumes nothing.
 use borrow.Author.Needs.{needs}
 use mathlib.Core.Path.{refl, sym, ap, ap₂, _∙_}
 use mathlib.Core.List.{[], _∷_}

@@ -1,4 +1,4 @@
--- `space::write` meets its contract. Assumes nothing.
+-- `space::apply::write` meets its contract. Assumes nothing.
 use borrow.Author.Needs.{needs}
 use mathlib.Core.Path.{refl, ap₂}
 use borrow.Author.Tests.{eq-eqb, ne-eqb}

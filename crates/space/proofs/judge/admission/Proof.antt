@@ -1,4 +1,4 @@
--- `space::admission` meets its contract. Assumes nothing.
+-- `space::judge::admission` meets its contract. Assumes nothing.
 use borrow.Author.Needs.{needs}
 use mathlib.Core.Path.{sym, _∙_}
 use Rattle.space.specs.Judge.{admissionRefusal}

@@ -1,4 +1,4 @@
--- `space::judge` meets its contract. Assumes nothing.
+-- `space::judge::judge` meets its contract. Assumes nothing.
 use borrow.Author.Needs.{needs}
 use mathlib.Core.Bool.{true}
 use mathlib.Core.Path.{_≡_, sym, ap, _∙_, subst}

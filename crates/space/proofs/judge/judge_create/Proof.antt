@@ -1,4 +1,4 @@
--- `space::judge_create` meets its contract. Assumes nothing.
+-- `space::judge::judge_create` meets its contract. Assumes nothing.
 use borrow.Author.Needs.{needs}
 use mathlib.Core.Bool.{false}
 use mathlib.Core.Path.{refl, sym, _∙_}

@@ -1,4 +1,4 @@
--- `space::judge_find` meets its contract. Assumes nothing.
+-- `space::judge::judge_find` meets its contract. Assumes nothing.
 use borrow.Author.Needs.{needs}
 use mathlib.Core.Path.{sym, _∙_}
 use Rattle.rules.specs.Refusals.{noLease, tooLate, entriesFull, txnsFull, noNumber}

@@ -1,4 +1,4 @@
--- `space::judge_write` meets its contract. Assumes nothing.
+-- `space::judge::judge_write` meets its contract. Assumes nothing.
 use borrow.Author.Needs.{needs}
 use mathlib.Core.Path.{sym, _∙_}
 use borrow.Author.Tests.{le-leb, lt-leb}

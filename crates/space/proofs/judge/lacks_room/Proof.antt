@@ -1,4 +1,4 @@
--- `space::lacks_room` meets its contract. Assumes nothing.
+-- `space::judge::lacks_room` meets its contract. Assumes nothing.
 use borrow.Author.Needs.{needs}
 use borrow.Author.Tests.{eq-eqb, ne-eqb}
 use Rattle.words.proofs.Tables.{length-entries}

@@ -1,4 +1,4 @@
--- `space::too_late` meets its contract. Assumes nothing.
+-- `space::judge::too_late` meets its contract. Assumes nothing.
 use borrow.Author.Needs.{needs}
 use native.Mathlib.Omega.{arith}
 use borrow.Author.Tests.{eq-eqb, ne-eqb}

@@ -1,4 +1,4 @@
--- `space::txn_refusal` meets its contract. Assumes nothing.
+-- `space::judge::txn_refusal` meets its contract. Assumes nothing.
 use borrow.Author.Needs.{needs}
 use mathlib.Core.Path.{sym, ap, _∙_}
 use borrow.Author.Tests.{not-true, not-false, eq-eqb, ne-eqb}

@@ -1,4 +1,4 @@
--- `space::waits_already` meets its contract. The loop's invariant: none of the look-ups passed is the party's. Assumes nothing.
+-- `space::judge::waits_already` meets its contract. The loop's invariant: none of the look-ups passed is the party's. Assumes nothing.
 use Prim.Native.Nat.{ℕ, _≤_, _-_}
 use mathlib.Core.Bool.{Bool}
 use mathlib.Core.Path.{_≡_, sym}

@@ -1,4 +1,4 @@
--- `space::serve_waits` meets its contract. The outer loop's invariant: the first i look-ups are gone through (`Turns`).
+-- `space::service::serve_waits` meets its contract. The outer loop's invariant: the first i look-ups are gone through (`Turns`).
 -- The inner loop's: nothing is changed yet, and none of the first j entries is available (`Looking`). Assumes nothing.
 use Prim.Native.Nat.{_≤_, _<_, _-_, _+_, _*_}
 use mathlib.Core.Path.{_≡_, refl, sym, ap, _∙_, subst}

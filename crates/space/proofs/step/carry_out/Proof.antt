@@ -1,4 +1,4 @@
--- `space::carry_out` meets its contract. Assumes nothing.
+-- `space::step::carry_out` meets its contract. Assumes nothing.
 use borrow.Author.Needs.{needs}
 use Prim.Native.Nat.{ℕ}
 use mathlib.Core.Bool.{true, cond}

@@ -1,4 +1,4 @@
--- `space::refuse` meets its contract. Assumes nothing.
+-- `space::step::refuse` meets its contract. Assumes nothing.
 use borrow.Author.Needs.{needs}
 use mathlib.Core.Path.{refl, subst}
 use mathlib.Core.List.{[], _∷_}

@@ -1,4 +1,4 @@
--- `space::take_frame` meets its contract. Assumes nothing.
+-- `space::step::take_frame` meets its contract. Assumes nothing.
 use borrow.Author.Needs.{needs}
 use mathlib.Core.Path.{refl, sym, ap, subst}
 use lib.ListN.{length}

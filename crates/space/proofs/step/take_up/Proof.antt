@@ -1,4 +1,4 @@
--- `space::take_up` meets its contract. Assumes nothing.
+-- `space::step::take_up` meets its contract. Assumes nothing.
 use borrow.Author.Needs.{needs}
 use mathlib.Core.Path.{refl, sym, _∙_}
 use Rattle.rules.specs.Requests.{frameOf}

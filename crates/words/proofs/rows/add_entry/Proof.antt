@@ -1,11 +1,10 @@
--- `space::add_entry` meets its contract. Assumes nothing.
+-- `words::rows::add_entry` meets its contract. Assumes nothing.
 use borrow.Author.Needs.{needs}
 use native.Mathlib.Omega.{arith}
 use mathlib.Core.Path.{refl, ap, _∙_}
 use lib.ListN.{set}
 use Prim.Native.Nat.{_+_}
-use Rattle.rules.specs.Words.{view, entries}
-use Rattle.words.specs.Rows.{entryWords}
+use Rattle.rules.specs.Words.{view, entries, entryWords}
 use Rattle.words.proofs.Table.{appended}
 use Rattle.words.proofs.Tables.{entryTable, view-entries, entry-back}
 use Rattle.words.proofs.rows.add_entry.Statement.{statement}

@@ -1,11 +1,10 @@
--- `space::rows::add_txn` meets its contract. Assumes nothing.
+-- `words::rows::add_txn` meets its contract. Assumes nothing.
 use Prim.Native.Nat.{_+_}
 use mathlib.Core.Path.{refl, ap, _∙_}
 use native.Mathlib.Omega.{arith}
 use lib.ListN.{set}
 use borrow.Author.Needs.{needs}
-use Rattle.rules.specs.Words.{view, txns}
-use Rattle.words.specs.Rows.{txnWords}
+use Rattle.rules.specs.Words.{view, txns, txnWords}
 use Rattle.words.proofs.Table.{appended}
 use Rattle.words.proofs.Tables.{txnTable, view-txns, txn-back}
 use Rattle.words.proofs.rows.add_txn.Statement.{statement}

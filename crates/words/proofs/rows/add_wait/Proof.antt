@@ -1,11 +1,10 @@
--- `space::add_wait` meets its contract. Assumes nothing.
+-- `words::rows::add_wait` meets its contract. Assumes nothing.
 use borrow.Author.Needs.{needs}
 use native.Mathlib.Omega.{arith}
 use mathlib.Core.Path.{refl, ap, _∙_}
 use lib.ListN.{set}
 use Prim.Native.Nat.{_+_}
-use Rattle.rules.specs.Words.{view, waits}
-use Rattle.words.specs.Rows.{waitWords}
+use Rattle.rules.specs.Words.{view, waits, waitWords}
 use Rattle.words.proofs.Table.{appended}
 use Rattle.words.proofs.Tables.{waitTable, view-waits, wait-back}
 use Rattle.words.proofs.rows.add_wait.Statement.{statement}

@@ -1,4 +1,4 @@
--- `space::entry_at` meets its contract. Assumes nothing.
+-- `words::rows::entry_at` meets its contract. Assumes nothing.
 use borrow.Author.Needs.{needs}
 use Rattle.words.proofs.rows.entry_at.Statement.{statement}
 use Rattle.words.proofs.rows.entry_at.Tie as tie

@@ -1,4 +1,4 @@
--- `space::is_if_exists` meets its contract. Assumes nothing.
+-- `words::rows::is_if_exists` meets its contract. Assumes nothing.
 use borrow.Author.Tests.{eq-eqb, ne-eqb}
 use Rattle.words.proofs.rows.is_if_exists.Statement.{statement}
 use Rattle.words.proofs.rows.is_if_exists.Tie as tie

@@ -1,4 +1,4 @@
--- `space::is_take` meets its contract. Assumes nothing.
+-- `words::rows::is_take` meets its contract. Assumes nothing.
 use borrow.Author.Tests.{eq-eqb, ne-eqb}
 use Rattle.words.proofs.rows.is_take.Statement.{statement}
 use Rattle.words.proofs.rows.is_take.Tie as tie

@@ -1,4 +1,4 @@
--- `space::put_entry` meets its contract. Assumes nothing.
+-- `words::rows::put_entry` meets its contract. Assumes nothing.
 use borrow.Author.Needs.{needs}
 use Rattle.words.proofs.rows.put_entry.Statement.{statement}
 use Rattle.words.proofs.rows.put_entry.Tie as tie

@@ -1,4 +1,4 @@
--- `space::rows::put_txn` meets its contract. Assumes nothing.
+-- `words::rows::put_txn` meets its contract. Assumes nothing.
 use borrow.Author.Needs.{needs}
 use Rattle.words.proofs.rows.put_txn.Statement.{statement}
 use Rattle.words.proofs.rows.put_txn.Tie as tie

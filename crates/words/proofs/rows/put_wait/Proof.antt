@@ -1,4 +1,4 @@
--- `space::put_wait` meets its contract. Assumes nothing.
+-- `words::rows::put_wait` meets its contract. Assumes nothing.
 use borrow.Author.Needs.{needs}
 use Rattle.words.proofs.rows.put_wait.Statement.{statement}
 use Rattle.words.proofs.rows.put_wait.Tie as tie

@@ -1,4 +1,4 @@
--- `space::txn_at` meets its contract. Assumes nothing.
+-- `words::rows::txn_at` meets its contract. Assumes nothing.
 use borrow.Author.Needs.{needs}
 use Rattle.words.proofs.rows.txn_at.Statement.{statement}
 use Rattle.words.proofs.rows.txn_at.Tie as tie

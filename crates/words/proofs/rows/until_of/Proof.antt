@@ -1,4 +1,4 @@
--- `space::until_of` meets its contract. Assumes nothing.
+-- `words::rows::until_of` meets its contract. Assumes nothing.
 use borrow.Author.Tests.{eq-eqb, ne-eqb}
 use Rattle.rules.specs.Words.{untilOf}
 use Rattle.words.proofs.rows.until_of.Statement.{statement}

@@ -1,4 +1,4 @@
--- `space::wait_at` meets its contract. Assumes nothing.
+-- `words::rows::wait_at` meets its contract. Assumes nothing.
 use borrow.Author.Needs.{needs}
 use Rattle.words.proofs.rows.wait_at.Statement.{statement}
 use Rattle.words.proofs.rows.wait_at.Tie as tie

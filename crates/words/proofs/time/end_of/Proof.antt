@@ -1,4 +1,4 @@
--- `space::time::end_of` meets its contract. Assumes nothing.
+-- `words::time::end_of` meets its contract. Assumes nothing.
 use Prim.Native.Nat.{_+_}
 use mathlib.Core.Path.{refl}
 use native.Mathlib.Omega.{arith}

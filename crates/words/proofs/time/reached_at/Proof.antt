@@ -1,8 +1,8 @@
--- `space::reached_at` meets its contract. Assumes nothing.
+-- `words::time::reached_at` meets its contract. Assumes nothing.
 use borrow.Author.Needs.{needs}
 use Rattle.rules.specs.Time.{reached}
-use Rattle.holds.proofs.sweep.reached_at.Statement.{statement}
-use Rattle.holds.proofs.sweep.reached_at.Tie as tie
+use Rattle.words.proofs.time.reached_at.Statement.{statement}
+use Rattle.words.proofs.time.reached_at.Tie as tie
 
 returns : tie.Need-returns
 unfolding reached
