@@ -21,7 +21,7 @@ use Rattle.rules.specs.Holds.{liveTxn}
 use Rattle.rules.specs.Transactions.{noTxn, privateTo, released, withoutTxn, abort}
 use Rattle.rules.specs.Tick.{endedTxns, abortAll}
 use Rattle.rules.proofs.ListLaws.{mem-filter, filter-pass, filter-comm, find-fail, map-same, length-split, count-mem}
-use Rattle.rules.proofs.StepCases.{cond-cases, bool-cases}
+use Rattle.rules.proofs.BoolLaws.{cond-cases, bool-cases}
 
 -- a transaction's number, or none in place of t
 abbrev cleared : ℕ → TxnId → TxnId

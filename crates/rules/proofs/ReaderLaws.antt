@@ -9,7 +9,7 @@ use borrow.Author.Tests.{eqb-true, eqb-false, eq-eqb, ne-eqb}
 use lib.Dec.{eqb}
 use Rattle.rules.specs.Template.{bit}
 use Rattle.rules.specs.Holds.{addReader, dropReader}
-use Rattle.rules.proofs.StepCases.{cond-cases}
+use Rattle.rules.proofs.BoolLaws.{cond-cases}
 
 pub bit-zero : (n : ℕ) → bit 0 n ≡ eqb (n % 2) 1
 unfolding bit

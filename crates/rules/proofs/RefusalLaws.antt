@@ -1,26 +1,46 @@
 -- What is known of a frame that is not refused: none of the table's rows applies. The table in parts.
-use Prim.Native.Nat.{ℕ, suc}
+use Prim.Native.Nat.{ℕ, zero, suc}
 use mathlib.Core.Bool.{Bool, true, false, not, cond, _&&_}
 use mathlib.Core.Path.{_≡_, refl, ap}
 use mathlib.Core.List.{List, [], _∷_, _++_}
 use native.Mathlib.Omega.{arith}
-use borrow.Author.Tests.{not-true}
+use borrow.Author.Tests.{not-true, not-false, eqb-false}
 use lib.Dec.{eqb, ltb}
+use lib.ListN.{length}
 use Rattle.rules.specs.Lists.{firstRow}
 use Rattle.rules.specs.Numbers.{stepArea, areaRefused}
 use Rattle.rules.specs.State.{Model}
-use Rattle.rules.specs.Frame.{Frame, decode}
+use Rattle.rules.specs.Frame.{Frame, decode, isOperation}
 use Rattle.rules.specs.Refusals.{noOperation, wrongLength, malformed, wrongParty, partyWaits, notLive, notOwn}
 use Rattle.rules.specs.Refusals.{noLease, tooLate, entriesFull, txnsFull, noNumber, waitsFull, refusal, formRows, admissionRows, roomRows, waitRows}
 use Rattle.rules.specs.Requests.{formRefusal, spaceRefusal}
-use Rattle.rules.proofs.StepCases.{cond-cases, and-left, and-right}
+use Rattle.rules.proofs.BoolLaws.{cond-cases, and-left, and-right, or-right}
 
-pub row : (b : Bool) (n rest : ℕ) → cond b (suc n) rest ≡ 0 → (b ≡ false) × (rest ≡ 0)
-row true n rest e = absurd (omega arith)
-row false n rest e = (refl, e)
+-- no row has the number k
+abbrev pub without : ℕ → List (Bool × ℕ) → Bool
+without k [] = true
+without k (r ∷ rs) = not (eqb (r .1) k) && without k rs
+
+-- the test of the row at a place
+abbrev pub testAt : List (Bool × ℕ) → ℕ → Bool
+testAt [] k = false
+testAt (r ∷ rs) zero = r .0
+testAt (r ∷ rs) (suc k) = testAt rs k
+
+-- where no number is given none of the rows applies
+pub none-applies : (rs : List (Bool × ℕ)) → without 0 rs ≡ true → firstRow rs ≡ 0 → (k : ℕ) → testAt rs k ≡ false
+none-applies [] w e k = refl
+none-applies (r ∷ rs) w e k =
+    go (r .0) k (not-true (eqb (r .1) 0) (and-left (not (eqb (r .1) 0)) (without 0 rs) w)) e (none-applies rs (and-right (not (eqb (r .1) 0)) (without 0 rs) w))
+  where
+    go : (b : Bool) (k : ℕ) → eqb (r .1) 0 ≡ false → cond b (r .1) (firstRow rs) ≡ 0 → (firstRow rs ≡ 0 → (k : ℕ) → testAt rs k ≡ false)
+        → testAt ((b, r .1) ∷ rs) k ≡ false
+    go true k z e below = absurd (eqb-false (r .1) 0 z e)
+    go false zero z e below = refl
+    go false (suc k) z e below = below e k
 
 pub record Clear (m : Model) (bs : List ℕ) (area : ℕ) : Type 0 where
-  pub room : ltb area 700 ≡ false
+  pub room : ltb area stepArea ≡ false
   pub operation : noOperation bs (decode bs) ≡ false
   pub size : wrongLength bs (decode bs) ≡ false
   pub form : malformed (decode bs) ≡ false
@@ -38,43 +58,28 @@ pub record Clear (m : Model) (bs : List ℕ) (area : ℕ) : Type 0 where
 pub clear : (m : Model) (bs : List ℕ) (area : ℕ) → refusal m bs area ≡ 0 → Clear m bs area
 unfolding refusal
 clear m bs area e =
-    let r1 = row _ 0 _ e in
-    let r2 = row _ 1 _ (r1 .1) in
-    let r3 = row _ 2 _ (r2 .1) in
-    let r4 = row _ 3 _ (r3 .1) in
-    let r5 = row _ 4 _ (r4 .1) in
-    let r6 = row _ 5 _ (r5 .1) in
-    let r7 = row _ 6 _ (r6 .1) in
-    let r8 = row _ 7 _ (r7 .1) in
-    let r9 = row _ 8 _ (r8 .1) in
-    let r10 = row _ 9 _ (r9 .1) in
-    let r11 = row _ 10 _ (r10 .1) in
-    let r12 = row _ 11 _ (r11 .1) in
-    let r13 = row _ 12 _ (r12 .1) in
-    let r14 = row _ 13 _ (r13 .1) in
+    let f = decode bs in
+    let r =
+    none-applies ((ltb area stepArea, areaRefused) ∷ formRows bs f ++ admissionRows m f ++ roomRows m f ++ waitRows m f) refl
+    e in
     record {
-      room = r1 .0;
-      operation = r2 .0;
-      size = r3 .0;
-      form = r4 .0;
-      party = r5 .0;
-      free = r6 .0;
-      live = r7 .0;
-      own = r8 .0;
-      lease = r9 .0;
-      time = r10 .0;
-      entry-room = r11 .0;
-      txn-room = r12 .0;
-      numbers = r13 .0;
-      wait-room = r14 .0;
+      room = r 0;
+      operation = r 1;
+      size = r 2;
+      form = r 3;
+      party = r 4;
+      free = r 5;
+      live = r 6;
+      own = r 7;
+      lease = r 8;
+      time = r 9;
+      entry-room = r 10;
+      txn-room = r 11;
+      numbers = r 12;
+      wait-room = r 13;
     }
 
 -- ---- the table in parts
--- no row has the number k
-abbrev pub without : ℕ → List (Bool × ℕ) → Bool
-without k [] = true
-without k (r ∷ rs) = not (eqb (r .1) k) && without k rs
-
 -- and so none is given; k is not 0, which says that none applies
 pub first-without : (k : ℕ) (rs : List (Bool × ℕ)) → eqb 0 k ≡ false → without k rs ≡ true → eqb (firstRow rs) k ≡ false
 first-without k [] z e = z
@@ -110,3 +115,12 @@ form-not-area bs = first-without areaRefused (formRows bs (decode bs)) refl refl
 pub space-not-area : (m : Model) (f : Frame) → eqb (spaceRefusal m f) areaRefused ≡ false
 unfolding spaceRefusal
 space-not-area m f = first-without areaRefused (admissionRows m f ++ roomRows m f ++ waitRows m f) refl refl
+
+-- a frame that 2 lets pass has an operation
+pub is-one : (bs : List ℕ) → noOperation bs (decode bs) ≡ false → isOperation (decode bs .op) ≡ true
+unfolding noOperation
+is-one bs e = not-false _ (or-right (eqb (length bs) 0) _ e)
+
+pub row : (b : Bool) (n rest : ℕ) → cond b (suc n) rest ≡ 0 → (b ≡ false) × (rest ≡ 0)
+row true n rest e = absurd (omega arith)
+row false n rest e = (refl, e)

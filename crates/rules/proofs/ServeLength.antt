@@ -11,7 +11,8 @@ use Rattle.rules.specs.declared.LookUp.{LookUp}
 use Rattle.rules.specs.LookUp.{removes, isEntry, marked, handOut}
 use Rattle.rules.specs.Service.{Served, serve}
 use Rattle.rules.proofs.ListLaws.{length-filter}
-use Rattle.rules.proofs.StepCases.{cond-cases, serve-ind}
+use Rattle.rules.proofs.StepCases.{serve-ind}
+use Rattle.rules.proofs.BoolLaws.{cond-cases}
 
 pub handOut-length : (ts : List Txn) (w : LookUp) (e : Entry) (es : List Entry) → length (handOut ts w e es) ≤ length es
 unfolding handOut

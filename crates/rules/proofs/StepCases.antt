@@ -1,8 +1,8 @@
--- Proofs by cases of a test, of a search's answer, of a step and of service.
+-- Proofs by cases of a step, of a frame's own part and of service.
 use Prim.Native.Nat.{ℕ}
-use mathlib.Core.Bool.{Bool, true, false, cond, _&&_, _||_, true≢false}
+use mathlib.Core.Bool.{true, false}
 use mathlib.Core.Logic.{_⊎_, inl, inr}
-use mathlib.Core.Path.{_≡_, refl, sym, subst⁻¹}
+use mathlib.Core.Path.{_≡_, subst⁻¹}
 use mathlib.Core.Option.{Option, none, some}
 use mathlib.Core.List.{List, [], _∷_}
 use borrow.Author.Tests.{eqb-true}
@@ -13,50 +13,17 @@ use Rattle.rules.specs.declared.LookUp.{LookUp}
 use Rattle.rules.specs.Lists.{pick}
 use Rattle.rules.specs.State.{Model}
 use Rattle.rules.specs.Holds.{availableTo}
-use Rattle.rules.specs.Frame.{Frame, decode, isWrite, isLookUp, isCreate, isCommit, isAbort}
-use Rattle.rules.specs.LookUp.{Done, lookUp, handOut}
+use Rattle.rules.specs.Frame.{Frame, decode, isOperation, isWrite, isLookUp, isCreate, isCommit, isAbort, isTick}
+use Rattle.rules.specs.Done.{Carried}
+use Rattle.rules.specs.Write.{write}
+use Rattle.rules.specs.LookUp.{lookUp, handOut}
 use Rattle.rules.specs.Transactions.{create}
 use Rattle.rules.specs.Service.{Served, serve, foundFirst, waitsFirst}
 use Rattle.rules.specs.Tick.{tick}
 use Rattle.rules.specs.Refusals.{refusal}
-use Rattle.rules.specs.Step.{Outcome, step, accepted, refusedWith, carriedOut, write, commitFrame, abortFrame}
-
-pub cond-cases : {A : Type 0} (Q : A → Type 0) (b : Bool) {x y : A} → (b ≡ true → Q x) → (b ≡ false → Q y) → Q (cond b x y)
-cond-cases Q true f g = f refl
-cond-cases Q false f g = g refl
-
-pub option-cases : {A : Type 0} (o : Option A) → (o ≡ none) ⊎ ((x : A) × (o ≡ some x))
-option-cases none = inl refl
-option-cases (some x) = inr (x, refl)
-
-pub bool-cases : (b : Bool) → (b ≡ true) ⊎ (b ≡ false)
-bool-cases true = inl refl
-bool-cases false = inr refl
-
--- the parts of a test
-pub and-left : (a b : Bool) → (a && b) ≡ true → a ≡ true
-and-left true b e = refl
-and-left false b e = e
-
-pub and-right : (a b : Bool) → (a && b) ≡ true → b ≡ true
-and-right true b e = e
-and-right false b e = absurd (true≢false (sym e))
-
-pub and-false-right : (a b : Bool) → a ≡ true → (a && b) ≡ false → b ≡ false
-and-false-right true b t e = e
-and-false-right false b t e = absurd (true≢false (sym t))
-
-pub or-left : (a b : Bool) → (a || b) ≡ false → a ≡ false
-or-left true b e = e
-or-left false b e = refl
-
-pub or-right : (a b : Bool) → (a || b) ≡ false → b ≡ false
-or-right true b e = absurd (true≢false e)
-or-right false b e = e
-
-pub or-cases : (a b : Bool) → (a || b) ≡ true → (a ≡ true) ⊎ (b ≡ true)
-or-cases true b e = inl refl
-or-cases false b e = inr e
+use Rattle.rules.specs.Step.{Outcome, step, accepted, refusedWith, ownPart, carriedOut, commitFrame, abortFrame}
+use Rattle.rules.proofs.BoolLaws.{cond-cases, option-cases}
+use Rattle.rules.proofs.LayoutLaws.{left-is-tick}
 
 -- a frame is refused, or carried out
 pub step-cases : (Q : Outcome → Type 0) (choice : ℕ → ℕ) (m : Model) (bs : List ℕ) (area : ℕ)
@@ -67,23 +34,23 @@ unfolding step
 step-cases Q choice m bs area refused done =
     cond-cases Q (eqb (refusal m bs area) 0) (λ e. done (eqb-true (refusal m bs area) 0 e)) (λ e. refused (refusal m bs area))
 
--- one of the six things is done
-pub done-cases : (Q : Done → Type 0) (choice : ℕ → ℕ) (m : Model) (f : Frame)
-    → (isWrite (f .op) ≡ true → Q (write choice m f))
+-- one of the six things is the frame's own part
+pub own-cases : (Q : Carried → Type 0) (choice : ℕ → ℕ) (m : Model) (f : Frame) → isOperation (f .op) ≡ true
+    → (isWrite (f .op) ≡ true → Q (write m f))
     → (isLookUp (f .op) ≡ true → Q (lookUp choice m f))
     → (isCreate (f .op) ≡ true → Q (create m f))
-    → (isCommit (f .op) ≡ true → Q (commitFrame choice m f))
-    → (isAbort (f .op) ≡ true → Q (abortFrame choice m f))
-    → Q (tick choice m)
-    → Q (carriedOut choice m f)
-unfolding carriedOut
-done-cases Q choice m f onWrite onLookUp onCreate onCommit onAbort onTick =
+    → (isCommit (f .op) ≡ true → Q (commitFrame m f))
+    → (isAbort (f .op) ≡ true → Q (abortFrame m f))
+    → (isTick (f .op) ≡ true → Q (tick m))
+    → Q (ownPart choice m f)
+unfolding ownPart
+own-cases Q choice m f is onWrite onLookUp onCreate onCommit onAbort onTick =
     cond-cases Q (isWrite (f .op)) onWrite
     (λ e₁. cond-cases Q (isLookUp (f .op)) onLookUp
     (λ e₂. cond-cases Q (isCreate (f .op)) onCreate
     (λ e₃. cond-cases Q (isCommit (f .op)) onCommit
     (λ e₄. cond-cases Q (isAbort (f .op)) onAbort
-    (λ e₅. onTick)))))
+    (λ e₅. onTick (left-is-tick (f .op) is e₁ e₂ e₃ e₄ e₅))))))
 
 -- service: a look-up's turn
 module _ (choice : ℕ → ℕ) (ts : List Txn) (es : List Entry) (w : LookUp) (ws : List LookUp) where

@@ -1,10 +1,11 @@
 -- "Frame layout": byte 0 operation, 1 party, 2 mask, 3 zero, 4-7 transaction, 8-11 lease or timeout, 12-27 fields.
-use Prim.Native.Nat.{ℕ, _+_, _*_}
-use mathlib.Core.Bool.{Bool, _&&_, _||_}
-use mathlib.Core.List.{List, [], _∷_}
-use lib.Dec.{eqb, leb}
-use lib.ListN.{getD}
+use Prim.Native.Nat.{ℕ, _+_, _*_, _/_, _%_}
+use mathlib.Core.Bool.{Bool, true, false, not, cond, _&&_, _||_}
+use mathlib.Core.List.{List, [], _∷_, _++_}
+use lib.Dec.{eqb, leb, ltb}
+use lib.ListN.{getD, length, take}
 use Rattle.rules.specs.declared.Fields.{Fields}
+use Rattle.rules.specs.Template.{fourFields}
 use Rattle.rules.specs.Numbers.{opWrite, opRead, opTake, opReadIfExists, opTakeIfExists, opCreate, opCommit}
 use Rattle.rules.specs.Numbers.{opAbort, opTick}
 
@@ -14,6 +15,14 @@ byteAt bs i = getD bs i 0
 
 unfoldable pub numberAt : List ℕ → ℕ → ℕ
 numberAt bs i = byteAt bs i + 256 * byteAt bs (i + 1) + 65536 * byteAt bs (i + 2) + 16777216 * byteAt bs (i + 3)
+
+-- the four bytes of a number
+abbrev pub fourBytes : ℕ → List ℕ
+fourBytes n = n % 256 ∷ n / 256 % 256 ∷ n / 65536 % 256 ∷ n / 16777216 % 256 ∷ []
+
+-- the four fields, from a place on
+abbrev pub fieldsAt : List ℕ → ℕ → Fields
+fieldsAt bs i = fourFields (numberAt bs i) (numberAt bs (i + 4)) (numberAt bs (i + 8)) (numberAt bs (i + 12))
 
 pub record Frame : Type 0 where
   pub op : ℕ
@@ -33,8 +42,10 @@ decode bs =
       byte3 = byteAt bs 3;
       txn = numberAt bs 4;
       leaseOrTimeout = numberAt bs 8;
-      fields = record { kind = numberAt bs 12; side = numberAt bs 16; image = numberAt bs 20; place = numberAt bs 24 };
+      fields = fieldsAt bs 12;
     }
+
+-- Operations
 
 abbrev pub isWrite : ℕ → Bool
 isWrite op = eqb op opWrite
@@ -49,6 +60,10 @@ isTake op = eqb op opTake || eqb op opTakeIfExists
 abbrev pub isIfExists : ℕ → Bool
 isIfExists op = eqb op opReadIfExists || eqb op opTakeIfExists
 
+-- the operation of a look-up that takes or reads, waits or goes by conflicts
+abbrev pub lookUpOp : Bool → Bool → ℕ
+lookUpOp takes ifExists = cond takes (cond ifExists opTakeIfExists opTake) (cond ifExists opReadIfExists opRead)
+
 abbrev pub isCreate : ℕ → Bool
 isCreate op = eqb op opCreate
 
@@ -58,13 +73,81 @@ isCommit op = eqb op opCommit
 abbrev pub isAbort : ℕ → Bool
 isAbort op = eqb op opAbort
 
--- the operations whose bytes 8-11 are a lease or a timeout: write, the look-ups, create
-abbrev pub hasLeaseOrTimeout : ℕ → Bool
-hasLeaseOrTimeout op = leb op opCreate
-
 abbrev pub isTick : ℕ → Bool
 isTick op = eqb op opTick
 
--- "The lengths are a constant table", by operation
+-- What the frames of an operation have
+pub record Layout : Type 0 where
+  -- "length"
+  pub size : ℕ
+  -- mask and fields are a template; elsewhere the mask is 0
+  pub template : Bool
+  -- bytes 8-11 are a lease or a timeout
+  pub lease : Bool
+  -- it names no transaction: bytes 4-7 are 0
+  pub outside : Bool
+  -- it ends a transaction: 0 is none
+  pub ends : Bool
+  -- service follows: "After a write outside transactions, a commit, an abort, and within a tick"
+  pub serves : Bool
+
+abbrev layout : ℕ → Bool → Bool → Bool → Bool → Bool → Layout
+layout n t l o e s = record { size = n; template = t; lease = l; outside = o; ends = e; serves = s }
+
+abbrev noLayout : Layout
+noLayout = layout 0 false false false false false
+
+-- The table of operations, by number; none has the number 0
+abbrev pub layouts : List Layout
+layouts =
+    --      size template lease outside ends  serves
+    noLayout
+    ∷ layout 28 false true false false true  -- write
+    ∷ layout 28 true true false false false  -- read
+    ∷ layout 28 true true false false false  -- take
+    ∷ layout 28 true true false false false  -- readIfExists
+    ∷ layout 28 true true false false false  -- takeIfExists
+    ∷ layout 12 false true true false false  -- create
+    ∷ layout 8 false false false true true  -- commit
+    ∷ layout 8 false false false true true  -- abort
+    ∷ layout 4 false false false false true  -- tick
+    ∷ []
+
+unfoldable pub layoutOf : ℕ → Layout
+layoutOf op = getD layouts op noLayout
+
+-- and its columns
+abbrev pub isOperation : ℕ → Bool
+isOperation op = ltb 0 op && ltb op (length layouts)
+
+-- "The lengths are a constant table"
 unfoldable pub frameLength : ℕ → ℕ
-frameLength op = getD (0 ∷ 28 ∷ 28 ∷ 28 ∷ 28 ∷ 28 ∷ 12 ∷ 8 ∷ 8 ∷ 4 ∷ []) op 0
+frameLength op = layoutOf op .size
+
+abbrev pub hasTemplate : ℕ → Bool
+hasTemplate op = layoutOf op .template
+
+abbrev pub hasLeaseOrTimeout : ℕ → Bool
+hasLeaseOrTimeout op = layoutOf op .lease
+
+abbrev pub namesNoTxn : ℕ → Bool
+namesNoTxn op = layoutOf op .outside
+
+abbrev pub endsTxn : ℕ → Bool
+endsTxn op = layoutOf op .ends
+
+-- whether service follows the frame: not after a write inside a transaction
+unfoldable pub serves : Frame → Bool
+serves f = layoutOf (f .op) .serves && not (isWrite (f .op) && not (eqb (f .txn) 0))
+
+-- the bytes of a frame: as many as its operation has
+unfoldable pub frameBytes : Frame → List ℕ
+frameBytes f =
+    take (frameLength (f .op))
+    ((f .op ∷ f .party ∷ f .mask ∷ f .byte3 ∷ [])
+    ++ fourBytes (f .txn)
+    ++ fourBytes (f .leaseOrTimeout)
+    ++ fourBytes (f .fields .kind)
+    ++ fourBytes (f .fields .side)
+    ++ fourBytes (f .fields .image)
+    ++ fourBytes (f .fields .place))

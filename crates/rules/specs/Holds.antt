@@ -44,22 +44,26 @@ unfoldable pub visible : ℕ → Entry → Bool
 visible t e = eqb (e .«taken_by» .0) 0 && (eqb (e .«private_to» .0) 0 || eqb (e .«private_to» .0) t)
 
 -- "available to a read if it matches and is visible", "to a take if, besides, no live transaction other than its own
--- holds a read on it"
-unfoldable pub available : List Txn → LookUp → Entry → Bool
-available ts w e =
-    matches (w .mask) (w .fields) (e .fields)
-    && visible (w .txn .0) e
-    && not (w .takes && readByOther ts (w .txn .0) e)
+-- holds a read on it": `read` says whether one does
+abbrev pub availableIf : Bool → LookUp → Entry → Bool
+availableIf read w e =
+    matches (w .mask) (w .fields) (e .fields) && visible (w .txn .0) e && not (w .takes && read)
 
--- "conflicts if it matches, is not available, and is private to another transaction, take-held by another, or (for a
--- take) read-held by another". (T's own take hold makes an entry neither: demands, `OwnTakeHold`.)
+unfoldable pub available : List Txn → LookUp → Entry → Bool
+available ts w e = availableIf (readByOther ts (w .txn .0) e) w e
+
+-- "private to another transaction, take-held by another, or (for a take) read-held by another"
+abbrev pub othersIf : Bool → LookUp → Entry → Bool
+othersIf read w e =
+    isOther (w .txn .0) (e .«private_to» .0) || isOther (w .txn .0) (e .«taken_by» .0) || w .takes && read
+
+-- "conflicts if it matches, is not available, and is" so. (T's own take hold makes an entry neither: demands,
+-- `OwnTakeHold`.)
 unfoldable pub conflicts : List Txn → LookUp → Entry → Bool
 conflicts ts w e =
     matches (w .mask) (w .fields) (e .fields)
     && not (available ts w e)
-    && (isOther (w .txn .0) (e .«private_to» .0)
-    || isOther (w .txn .0) (e .«taken_by» .0)
-    || w .takes && readByOther ts (w .txn .0) e)
+    && othersIf (readByOther ts (w .txn .0) e) w e
 
 -- the entries that are available to a look-up
 abbrev pub availableTo : List Txn → LookUp → List Entry → List Entry

@@ -1,26 +1,31 @@
--- The rules of document 01.
+-- The rules of document 01, under its headings.
 
 -- numbers, lists
 pub mod Numbers
 pub mod Lists
--- entries, templates, time
+-- Entries, templates, time
 pub mod Time
 pub mod State
 pub mod Template
--- who holds what
+-- Who holds what
 pub mod Holds
--- frame layout, answer records
+-- Frame layout, Answer records
 pub mod Frame
 pub mod Records
--- what each frame does
+pub mod Fits
+-- What each frame does
+pub mod Done
+pub mod Write
 pub mod LookUp
 pub mod Transactions
 pub mod Service
 pub mod Tick
--- refused, a step
+-- Refused frames, a step
 pub mod Refusals
 pub mod Step
--- trays, what is printed
+-- The serial run
+pub mod SerialRun
+-- Trays, what is printed
 pub mod Tray
 pub mod Print
 -- how the code is tied to it: its words, its requests, what it ensures

@@ -5,20 +5,16 @@ use mathlib.Core.List.{List, [], _∷_, _++_, map}
 use mathlib.Core.Option.{Option, none, some}
 use lib.Dec.{eqb}
 use Rattle.rules.specs.declared.Entry.{Entry}
-use Rattle.rules.specs.declared.Record.{Record}
 use Rattle.rules.specs.declared.Txn.{Txn}
+use Rattle.rules.specs.declared.TxnId.{TxnId}
 use Rattle.rules.specs.declared.LookUp.{LookUp}
 use Rattle.rules.specs.Lists.{filterb, pick}
 use Rattle.rules.specs.Time.{until}
-use Rattle.rules.specs.State.{Model, withEntries, withWaits}
+use Rattle.rules.specs.State.{Model, holding, withEntries, withWaits}
 use Rattle.rules.specs.Holds.{liveTxn, addReaderOf, dropReaderOf, availableTo, someAvailable, someConflicts}
 use Rattle.rules.specs.Frame.{Frame, isTake, isIfExists}
 use Rattle.rules.specs.Records.{found, nothing, waiting}
-
--- a step's new model and the records that it writes
-pub record Done : Type 0 where
-  pub model : Model
-  pub records : List Record
+use Rattle.rules.specs.Done.{Carried}
 
 -- the look-up that a frame asks for
 unfoldable pub lookUpOf : Model → Frame → LookUp
@@ -37,19 +33,15 @@ lookUpOf m f =
 unfoldable pub removes : LookUp → Entry → Bool
 removes w e = w .takes && eqb (e .«private_to» .0) (w .txn .0)
 
--- a committed entry with the transaction's read hold, or with its take hold and no longer its read hold
+-- a committed entry with the transaction's read hold, or with its take hold and no longer its read hold; `add` puts it
+-- among the read holders, `drop` takes it from them
+abbrev pub heldBy : (ℕ → ℕ) → (ℕ → ℕ) → Bool → TxnId → Entry → Entry
+heldBy add drop takes t e =
+    holding e (e .«private_to») (cond takes t (e .«taken_by»)) (cond takes (drop (e .readers)) (add (e .readers)))
+
 unfoldable pub withHold : List Txn → LookUp → Entry → Entry
 withHold ts w e =
-    record {
-      id = e .id;
-      fields = e .fields;
-      end = e .end;
-      «private_to» = e .«private_to»;
-      «taken_by» = cond (w .takes) (w .txn) (e .«taken_by»);
-      readers =
-          cond (w .takes) (dropReaderOf (liveTxn (w .txn .0) ts) (e .readers))
-          (addReaderOf (liveTxn (w .txn .0) ts) (e .readers));
-    }
+    let own = liveTxn (w .txn .0) ts in heldBy (addReaderOf own) (dropReaderOf own) (w .takes) (w .txn) e
 
 -- the entry as it stays: a read outside transactions, or of the transaction's own private entry, leaves no mark
 unfoldable pub marked : List Txn → LookUp → Entry → Entry
@@ -73,22 +65,21 @@ unfoldable pub mustWait : Model → LookUp → ℕ → Bool
 mustWait m w timeout = not (someAvailable (m .txns) w (m .entries)) && not (givesNothing m w timeout)
 
 -- the three answers
-unfoldable pub answerFound : Model → LookUp → Entry → Done
-answerFound m w e =
-    record { model = withEntries (handOut (m .txns) w e (m .entries)) m; records = found w e ∷ [] }
+unfoldable pub answerFound : Model → LookUp → Entry → Carried
+answerFound m w e = record { model = withEntries (handOut (m .txns) w e (m .entries)) m; own = found w e }
 
-unfoldable pub answerNothing : Model → LookUp → Done
-answerNothing m w = record { model = m; records = nothing w ∷ [] }
+unfoldable pub answerNothing : Model → LookUp → Carried
+answerNothing m w = record { model = m; own = nothing w }
 
-unfoldable pub answerWaiting : Model → LookUp → Done
-answerWaiting m w = record { model = withWaits (m .waits ++ (w ∷ [])) m; records = waiting w ∷ [] }
+unfoldable pub answerWaiting : Model → LookUp → Carried
+answerWaiting m w = record { model = withWaits (m .waits ++ (w ∷ [])) m; own = waiting w }
 
-unfoldable pub answer : Model → LookUp → ℕ → Option Entry → Done
+unfoldable pub answer : Model → LookUp → ℕ → Option Entry → Carried
 answer m w timeout (some e) = answerFound m w e
 answer m w timeout none = cond (givesNothing m w timeout) (answerNothing m w) (answerWaiting m w)
 
 -- `choice` is the free choice: from the party that is answered to a place among the entries available to it
-unfoldable pub lookUp : (ℕ → ℕ) → Model → Frame → Done
+unfoldable pub lookUp : (ℕ → ℕ) → Model → Frame → Carried
 lookUp choice m f =
     let w = lookUpOf m f in
     answer m w (f .leaseOrTimeout) (pick (choice (w .party)) (availableTo (m .txns) w (m .entries)))

@@ -1,5 +1,5 @@
 -- "Answer records": kind, party, refusal number, zero, transaction, entry number, four fields; and their 28 bytes.
-use Prim.Native.Nat.{ℕ, _*_, _/_, _%_}
+use Prim.Native.Nat.{ℕ, _+_, _*_}
 use mathlib.Core.List.{List, [], _∷_, _++_, map}
 use lib.ListN.{length, drop}
 use Rattle.rules.specs.declared.Entry.{Entry}
@@ -10,15 +10,23 @@ use Rattle.rules.specs.declared.LookUp.{LookUp}
 use Rattle.rules.specs.Lists.{joined}
 use Rattle.rules.specs.Numbers.{recordSize, kindWritten, kindFound, kindNothing, kindWaiting, kindCreated}
 use Rattle.rules.specs.Numbers.{kindCommitted, kindAborted, kindException, kindTicked, kindRefused}
-use Rattle.rules.specs.Frame.{Frame, byteAt}
+use Rattle.rules.specs.Template.{fourFields}
+use Rattle.rules.specs.Frame.{Frame, byteAt, numberAt, fourBytes, fieldsAt}
 
 abbrev pub noFields : Fields
-noFields = record { kind = 0; side = 0; image = 0; place = 0 }
+noFields = fourFields 0 0 0 0
 
 -- a record with no entry: its kind, party and transaction
 abbrev pub plain : ℕ → ℕ → ℕ → Record
 plain kind party txn =
-    record { kind = kind; party = party; refusal = 0; txn = record { 0 = txn }; entry = record { 0 = 0 }; fields = noFields }
+    record {
+      kind = kind;
+      party = party;
+      refusal = 0;
+      txn = record { 0 = txn };
+      entry = record { 0 = 0 };
+      fields = noFields;
+    }
 
 unfoldable pub written : Frame → ℕ → Record
 written f n =
@@ -68,10 +76,6 @@ refused bs n =
       fields = noFields;
     }
 
--- the four bytes of a number
-abbrev pub fourBytes : ℕ → List ℕ
-fourBytes n = n % 256 ∷ n / 256 % 256 ∷ n / 65536 % 256 ∷ n / 16777216 % 256 ∷ []
-
 -- the 28 bytes of a record
 unfoldable pub recordBytes : Record → List ℕ
 recordBytes r =
@@ -82,6 +86,18 @@ recordBytes r =
     ++ fourBytes (r .fields .side)
     ++ fourBytes (r .fields .image)
     ++ fourBytes (r .fields .place)
+
+-- the record whose 28 bytes stand at a place
+unfoldable pub recordAt : List ℕ → ℕ → Record
+recordAt bs i =
+    record {
+      kind = byteAt bs i;
+      party = byteAt bs (i + 1);
+      refusal = byteAt bs (i + 2);
+      txn = record { 0 = numberAt bs (i + 4) };
+      entry = record { 0 = numberAt bs (i + 8) };
+      fields = fieldsAt bs (i + 12);
+    }
 
 -- each record "into the part of the answers area that starts where the last record ended"
 unfoldable pub answerBytes : List Record → List ℕ

@@ -9,20 +9,20 @@ use lib.ListN.{length}
 use Rattle.rules.specs.declared.Txn.{Txn}
 use Rattle.rules.specs.declared.LookUp.{LookUp}
 use Rattle.rules.specs.Lists.{anyb, firstRow}
-use Rattle.rules.specs.Numbers.{forever, lastClock, maxParty, maxEntries, maxTxns, maxWaits, stepArea, opTick}
+use Rattle.rules.specs.Numbers.{forever, lastClock, maxParty, maxEntries, maxTxns, maxWaits, stepArea}
 use Rattle.rules.specs.Numbers.{areaRefused, operationRefused, lengthRefused, formRefused, partyRefused}
 use Rattle.rules.specs.Numbers.{waitingRefused, notLiveRefused, notOwnRefused, leaseRefused, clockRefused}
 use Rattle.rules.specs.Numbers.{entriesRefused, txnsRefused, numberRefused, waitsRefused}
 use Rattle.rules.specs.State.{Model}
 use Rattle.rules.specs.Template.{bit}
 use Rattle.rules.specs.Holds.{liveTxn}
-use Rattle.rules.specs.Frame.{Frame, decode, frameLength, isWrite, isLookUp, isCreate, isCommit, isAbort, isTick}
-use Rattle.rules.specs.Frame.{hasLeaseOrTimeout}
+use Rattle.rules.specs.Frame.{Frame, decode, frameLength, isOperation, isWrite, isLookUp, isCreate, isTick}
+use Rattle.rules.specs.Frame.{hasTemplate, hasLeaseOrTimeout, namesNoTxn, endsTxn}
 use Rattle.rules.specs.LookUp.{lookUpOf, mustWait}
 
 -- 2: empty frame, or operation not 1-9
 unfoldable pub noOperation : List ℕ → Frame → Bool
-noOperation bs f = eqb (length bs) 0 || eqb (f .op) 0 || ltb opTick (f .op)
+noOperation bs f = eqb (length bs) 0 || not (isOperation (f .op))
 
 -- 3: length not the operation's
 unfoldable pub wrongLength : List ℕ → Frame → Bool
@@ -44,9 +44,9 @@ unfoldable pub malformed : Frame → Bool
 malformed f =
     not (eqb (f .byte3) 0)
     || ltb 15 (f .mask)
-    || not (isLookUp (f .op)) && not (eqb (f .mask) 0)
-    || isLookUp (f .op) && badTemplate f
-    || isCreate (f .op) && not (eqb (f .txn) 0)
+    || not (hasTemplate (f .op)) && not (eqb (f .mask) 0)
+    || hasTemplate (f .op) && badTemplate f
+    || namesNoTxn (f .op) && not (eqb (f .txn) 0)
 
 -- 5: party not 1-16, or not 0 for tick
 unfoldable pub wrongParty : Frame → Bool
@@ -58,7 +58,7 @@ partyWaits m f = anyb (λ (w : LookUp). eqb (w .party) (f .party)) (m .waits)
 
 -- a frame in a transaction: a number other than 0, and every commit and abort
 abbrev pub inTxn : Frame → Bool
-inTxn f = not (eqb (f .txn) 0) || isCommit (f .op) || isAbort (f .op)
+inTxn f = not (eqb (f .txn) 0) || endsTxn (f .op)
 
 -- 7: the transaction is not live (commit and abort: also 0)
 unfoldable pub notLive : Model → Frame → Bool

@@ -5,6 +5,7 @@ use mathlib.Core.Path.{_≡_}
 use mathlib.Core.List.{List, _++_}
 use mathlib.Core.Option.{Option, none, some}
 use lib.Dec.{eqb}
+use Rattle.rules.specs.declared.Fields.{Fields}
 use Rattle.rules.specs.declared.Request.{Request}
 use Rattle.rules.specs.declared.Request.the-variants.{Write, Find, Create, Commit, Abort, Tick}
 use Rattle.rules.specs.declared.Decoded.{Decoded}
@@ -12,21 +13,32 @@ use Rattle.rules.specs.declared.Decoded.the-variants.{Asks, Refused}
 use Rattle.rules.specs.Numbers.{opWrite, opCreate, opCommit, opAbort, opTick}
 use Rattle.rules.specs.Lists.{firstRow}
 use Rattle.rules.specs.State.{Model}
-use Rattle.rules.specs.Frame.{Frame, decode}
+use Rattle.rules.specs.Frame.{Frame, decode, lookUpOp}
 use Rattle.rules.specs.Records.{noFields}
 use Rattle.rules.specs.Refusals.{formRows, admissionRows, roomRows, waitRows}
 
--- a frame without mask and fields
+-- a frame by operation, party, mask, transaction, lease or timeout, and fields; byte 3 is 0
+abbrev pub frame : ℕ → ℕ → ℕ → ℕ → ℕ → Fields → Frame
+frame op party mask txn leaseOrTimeout xs =
+    record {
+      op = op;
+      party = party;
+      mask = mask;
+      byte3 = 0;
+      txn = txn;
+      leaseOrTimeout = leaseOrTimeout;
+      fields = xs;
+    }
+
+-- one without mask and fields
 abbrev pub plainFrame : ℕ → ℕ → ℕ → ℕ → Frame
-plainFrame op party txn leaseOrTimeout =
-    record { op = op; party = party; mask = 0; byte3 = 0; txn = txn; leaseOrTimeout = leaseOrTimeout; fields = noFields }
+plainFrame op party txn leaseOrTimeout = frame op party 0 txn leaseOrTimeout noFields
 
 -- the frame that a request stands for
 abbrev pub frameOf : Request → Frame
-frameOf (Write w) =
-    record { op = opWrite; party = w .party; mask = 0; byte3 = 0; txn = w .txn .0; leaseOrTimeout = w .lease; fields = w .fields }
+frameOf (Write w) = frame opWrite (w .party) 0 (w .txn .0) (w .lease) (w .fields)
 frameOf (Find l) =
-    record { op = l .op; party = l .party; mask = l .mask; byte3 = 0; txn = l .txn .0; leaseOrTimeout = l .timeout; fields = l .fields }
+    frame (lookUpOp (l .takes) (l .«if_exists»)) (l .party) (l .mask) (l .txn .0) (l .timeout) (l .fields)
 frameOf (Create party lease) = plainFrame opCreate party 0 lease
 frameOf (Commit party txn) = plainFrame opCommit party (txn .0) 0
 frameOf (Abort party txn) = plainFrame opAbort party (txn .0) 0

@@ -11,7 +11,8 @@ use Rattle.rules.specs.Lists.{pick}
 use Rattle.rules.specs.State.{Model, withEntries, withWaits}
 use Rattle.rules.specs.Holds.{availableTo}
 use Rattle.rules.specs.Records.{found}
-use Rattle.rules.specs.LookUp.{Done, handOut}
+use Rattle.rules.specs.Done.{Done}
+use Rattle.rules.specs.LookUp.{handOut}
 
 -- the entries, the look-ups that wait on, and the founds in the order served
 pub record Served : Type 0 where

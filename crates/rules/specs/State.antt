@@ -4,6 +4,7 @@ use mathlib.Core.List.{List, []}
 use lib.ListN.{length}
 use Rattle.rules.specs.declared.Entry.{Entry}
 use Rattle.rules.specs.declared.Txn.{Txn}
+use Rattle.rules.specs.declared.TxnId.{TxnId}
 use Rattle.rules.specs.declared.LookUp.{LookUp}
 use Rattle.rules.specs.Numbers.{maxEntries, maxTxns, maxWaits}
 
@@ -18,6 +19,12 @@ pub record Model : Type 0 where
   pub txns : List Txn
   -- the waiting look-ups, by arrival
   pub waits : List LookUp
+
+-- an entry with the same number, fields and end, and with other holders: to whom it is private, by whom it is taken and
+-- read
+abbrev pub holding : Entry → TxnId → TxnId → ℕ → Entry
+holding e owner taker holders =
+    record { id = e .id; fields = e .fields; end = e .end; «private_to» = owner; «taken_by» = taker; readers = holders }
 
 -- "An empty space has clock 0, nothing stored, live or waiting, and 1 as both next numbers."
 abbrev pub empty : Model

@@ -1,65 +1,49 @@
 -- What a frame does to the space, and what it is answered.
-use Prim.Native.Nat.{ℕ, _+_}
+use Prim.Native.Nat.{ℕ}
 use mathlib.Core.Bool.{cond}
 use mathlib.Core.List.{List, [], _∷_, _++_}
 use lib.Dec.{eqb}
-use Rattle.rules.specs.declared.Entry.{Entry}
 use Rattle.rules.specs.declared.Record.{Record}
 use Rattle.rules.specs.Numbers.{areaRefused}
-use Rattle.rules.specs.Time.{until}
-use Rattle.rules.specs.State.{Model, withEntries, withNextEntry}
-use Rattle.rules.specs.Frame.{Frame, decode, isWrite, isLookUp, isCreate, isCommit, isAbort}
-use Rattle.rules.specs.Records.{written, committed, aborted, refused}
-use Rattle.rules.specs.LookUp.{Done, lookUp}
+use Rattle.rules.specs.State.{Model}
+use Rattle.rules.specs.Frame.{Frame, decode, isWrite, isLookUp, isCreate, isCommit, isAbort, isTick, serves}
+use Rattle.rules.specs.Records.{committed, aborted, refused}
+use Rattle.rules.specs.Done.{Carried, Done, quiet, after}
+use Rattle.rules.specs.Write.{write}
+use Rattle.rules.specs.LookUp.{lookUp}
 use Rattle.rules.specs.Transactions.{create, commit, abort}
 use Rattle.rules.specs.Service.{service}
-use Rattle.rules.specs.Tick.{tick}
+use Rattle.rules.specs.Tick.{tick, lapsed, closeWaits}
 use Rattle.rules.specs.Refusals.{refusal}
 
--- a record before those of what follows
-abbrev pub after : Record → Done → Done
-after r d = record { model = d .model; records = r ∷ d .records }
+-- "Commit", "Abort": the transaction's own frame ends it
+unfoldable pub commitFrame : Model → Frame → Carried
+commitFrame m f = record { model = commit (f .txn) m; own = committed f }
 
-abbrev pub quiet : Model → Done
-quiet m = record { model = m; records = [] }
+unfoldable pub abortFrame : Model → Frame → Carried
+abortFrame m f = record { model = abort (f .txn) m; own = aborted f }
 
--- the entry that a write makes
-unfoldable pub newEntry : Model → Frame → Entry
-newEntry m f =
-    record {
-      id = record { 0 = m .nextEntry };
-      fields = f .fields;
-      end = until (m .clock) (f .leaseOrTimeout);
-      «private_to» = record { 0 = f .txn };
-      «taken_by» = record { 0 = 0 };
-      readers = 0;
-    }
+-- what a frame that is not refused does of its own
+unfoldable pub ownPart : (ℕ → ℕ) → Model → Frame → Carried
+ownPart choice m f =
+    cond (isWrite (f .op)) (write m f)
+    (cond (isLookUp (f .op)) (lookUp choice m f)
+    (cond (isCreate (f .op)) (create m f)
+    (cond (isCommit (f .op)) (commitFrame m f)
+    (cond (isAbort (f .op)) (abortFrame m f) (tick m)))))
 
--- the model with the entry, or with its number used up alone where the lease is 0
-unfoldable pub stored : Model → Frame → Model
-stored m f =
-    withNextEntry (m .nextEntry + 1)
-    (withEntries (cond (eqb (f .leaseOrTimeout) 0) (m .entries) (m .entries ++ (newEntry m f ∷ []))) m)
-
--- a write outside transactions is followed by service
-unfoldable pub write : (ℕ → ℕ) → Model → Frame → Done
-write choice m f =
-    after (written f (m .nextEntry)) (cond (eqb (f .txn) 0) (service choice (stored m f)) (quiet (stored m f)))
-
-unfoldable pub commitFrame : (ℕ → ℕ) → Model → Frame → Done
-commitFrame choice m f = after (committed f) (service choice (commit (f .txn) m))
-
-unfoldable pub abortFrame : (ℕ → ℕ) → Model → Frame → Done
-abortFrame choice m f = after (aborted f) (service choice (abort (f .txn) m))
+-- What it ends with, "in this order": what ends now, in a tick; service, where it follows; look-ups whose deadline is
+-- reached, in a tick. "then exceptions, founds in the order served, nothings"
+unfoldable pub finish : (ℕ → ℕ) → Frame → Model → Done
+finish choice f m =
+    let ended = cond (isTick (f .op)) (lapsed m) (quiet m) in
+    let served = cond (serves f) (service choice (ended .model)) (quiet (ended .model)) in
+    let closed = cond (isTick (f .op)) (closeWaits (served .model)) (quiet (served .model)) in
+    record { model = closed .model; records = ended .records ++ served .records ++ closed .records }
 
 -- what a frame that is not refused does
 unfoldable pub carriedOut : (ℕ → ℕ) → Model → Frame → Done
-carriedOut choice m f =
-    cond (isWrite (f .op)) (write choice m f)
-    (cond (isLookUp (f .op)) (lookUp choice m f)
-    (cond (isCreate (f .op)) (create m f)
-    (cond (isCommit (f .op)) (commitFrame choice m f)
-    (cond (isAbort (f .op)) (abortFrame choice m f) (tick choice m)))))
+carriedOut choice m f = let c = ownPart choice m f in after (c .own) (finish choice f (c .model))
 
 -- the new space, the records written and the number returned
 pub record Outcome : Type 0 where

@@ -9,11 +9,11 @@ use Rattle.rules.specs.declared.TxnId.{TxnId}
 use Rattle.rules.specs.declared.Txn.{Txn}
 use Rattle.rules.specs.Lists.{filterb, findb, anyb}
 use Rattle.rules.specs.Time.{until}
-use Rattle.rules.specs.State.{Model, withEntries, withTxns, withWaits, withNextTxn}
+use Rattle.rules.specs.State.{Model, holding, withEntries, withTxns, withWaits, withNextTxn}
 use Rattle.rules.specs.Holds.{liveTxn, dropReaderOf}
 use Rattle.rules.specs.Frame.{Frame}
 use Rattle.rules.specs.Records.{created}
-use Rattle.rules.specs.LookUp.{Done}
+use Rattle.rules.specs.Done.{Carried}
 
 abbrev pub orZero : Option ℕ → ℕ
 orZero none = 0
@@ -25,7 +25,7 @@ unfoldable pub freeSlot : List Txn → ℕ
 freeSlot ts =
     orZero (findb (λ p. not (anyb (λ (t : Txn). eqb (t .slot) p) ts)) (0 ∷ 1 ∷ 2 ∷ 3 ∷ 4 ∷ 5 ∷ 6 ∷ 7 ∷ []))
 
-unfoldable pub create : Model → Frame → Done
+unfoldable pub create : Model → Frame → Carried
 create m f =
     let t : Txn =
     record {
@@ -36,7 +36,7 @@ create m f =
     } in
     record {
       model = withNextTxn (m .nextTxn + 1) (withTxns (m .txns ++ (t ∷ [])) m);
-      records = created f (m .nextTxn) ∷ [];
+      own = created f (m .nextTxn);
     }
 
 abbrev pub noTxn : TxnId
@@ -48,17 +48,14 @@ privateTo t e = eqb (e .«private_to» .0) t
 abbrev pub takenBy : ℕ → Entry → Bool
 takenBy t e = eqb (e .«taken_by» .0) t
 
--- an entry that is t's own no longer and that t holds no longer
+-- an entry that is t's own no longer and that t holds no longer; `drop` takes t from the read holders
+abbrev pub releasedBy : (ℕ → ℕ) → ℕ → Entry → Entry
+releasedBy drop t e =
+    holding e (cond (privateTo t e) noTxn (e .«private_to»)) (cond (takenBy t e) noTxn (e .«taken_by»))
+    (drop (e .readers))
+
 unfoldable pub released : List Txn → ℕ → Entry → Entry
-released ts t e =
-    record {
-      id = e .id;
-      fields = e .fields;
-      end = e .end;
-      «private_to» = cond (privateTo t e) noTxn (e .«private_to»);
-      «taken_by» = cond (takenBy t e) noTxn (e .«taken_by»);
-      readers = dropReaderOf (liveTxn t ts) (e .readers);
-    }
+released ts t e = releasedBy (dropReaderOf (liveTxn t ts)) t e
 
 unfoldable pub withoutTxn : ℕ → List Txn → List Txn
 withoutTxn t ts = filterb (λ x. not (eqb (x .id .0) t)) ts

@@ -1,6 +1,6 @@
 -- A space as words, and how they are read as the rules' model.
 use Prim.Native.Nat.{ℕ, zero, suc, _+_, _*_, _%_, min}
-use mathlib.Core.Bool.{Bool, cond}
+use mathlib.Core.Bool.{cond}
 use mathlib.Core.List.{List, [], _∷_, _++_}
 use lib.Dec.{eqb}
 use lib.ListN.{getD, take, drop}
@@ -9,11 +9,31 @@ use Rattle.rules.specs.declared.Txn.{Txn}
 use Rattle.rules.specs.declared.LookUp.{LookUp}
 use Rattle.rules.specs.declared.Until.{Until}
 use Rattle.rules.specs.declared.Until.the-variants.{Tick, Forever}
-use Rattle.rules.specs.Frame.{isTake, isIfExists}
-use Rattle.rules.specs.Numbers.{forever, maxEntries, maxTxns, maxWaits, opRead, opTake, opReadIfExists, opTakeIfExists}
+use Rattle.rules.specs.Template.{fourFields}
+use Rattle.rules.specs.Frame.{isTake, isIfExists, lookUpOp}
+use Rattle.rules.specs.Numbers.{forever, maxEntries, maxTxns, maxWaits}
 use Rattle.rules.specs.State.{Model}
 
--- where the three tables begin behind the six numbers and counts, the words of a row, and the words of a space
+-- where the clock, the next numbers and the counts of rows stand
+abbrev pub clockAt : ℕ
+clockAt = 0
+
+abbrev pub nextEntryAt : ℕ
+nextEntryAt = 1
+
+abbrev pub nextTxnAt : ℕ
+nextTxnAt = 2
+
+abbrev pub entryCountAt : ℕ
+entryCountAt = 3
+
+abbrev pub txnCountAt : ℕ
+txnCountAt = 4
+
+abbrev pub waitCountAt : ℕ
+waitCountAt = 5
+
+-- where the three tables begin behind them, the words of a row, and the words of a space
 abbrev pub entriesAt : ℕ
 entriesAt = 6
 
@@ -61,7 +81,7 @@ abbrev pub entryFrom : List ℕ → ℕ → Entry
 entryFrom ws o =
     record {
       id = record { 0 = getD ws o 0 };
-      fields = record { kind = getD ws (o + 1) 0; side = getD ws (o + 2) 0; image = getD ws (o + 3) 0; place = getD ws (o + 4) 0 };
+      fields = fourFields (getD ws (o + 1) 0) (getD ws (o + 2) 0) (getD ws (o + 3) 0) (getD ws (o + 4) 0);
       end = untilOf (getD ws (o + 5) 0);
       «private_to» = record { 0 = getD ws (o + 6) 0 };
       «taken_by» = record { 0 = getD ws (o + 7) 0 };
@@ -84,7 +104,7 @@ waitFrom ws o =
       takes = isTake (getD ws (o + 1) 0);
       «if_exists» = isIfExists (getD ws (o + 1) 0);
       mask = getD ws (o + 2) 0 % 256;
-      fields = record { kind = getD ws (o + 3) 0; side = getD ws (o + 4) 0; image = getD ws (o + 5) 0; place = getD ws (o + 6) 0 };
+      fields = fourFields (getD ws (o + 3) 0) (getD ws (o + 4) 0) (getD ws (o + 5) 0) (getD ws (o + 6) 0);
       txn = record { 0 = getD ws (o + 7) 0 };
       deadline = untilOf (getD ws (o + 8) 0);
     }
@@ -98,13 +118,10 @@ entryWords e =
 abbrev pub txnWords : Txn → List ℕ
 txnWords t = t .id .0 ∷ t .party ∷ untilWord (t .end) ∷ t .slot ∷ []
 
--- the word of a look-up's operation
-abbrev pub opWord : Bool → Bool → ℕ
-opWord takes ifExists = cond takes (cond ifExists opTakeIfExists opTake) (cond ifExists opReadIfExists opRead)
-
 abbrev pub waitWords : LookUp → List ℕ
 waitWords w =
-    w .party ∷ opWord (w .takes) (w .«if_exists») ∷ w .mask ∷ w .fields .kind ∷ w .fields .side ∷ w .fields .image ∷ w .fields .place
+    w .party ∷ lookUpOp (w .takes) (w .«if_exists») ∷ w .mask
+    ∷ w .fields .kind ∷ w .fields .side ∷ w .fields .image ∷ w .fields .place
     ∷ w .txn .0 ∷ untilWord (w .deadline) ∷ []
 
 unfoldable pub entryOf : List ℕ → Entry
@@ -117,13 +134,13 @@ unfoldable pub waitOf : List ℕ → LookUp
 waitOf r = waitFrom r 0
 
 abbrev pub entryCount : List ℕ → ℕ
-entryCount ws = min (getD ws 3 0) maxEntries
+entryCount ws = min (getD ws entryCountAt 0) maxEntries
 
 abbrev pub txnCount : List ℕ → ℕ
-txnCount ws = min (getD ws 4 0) maxTxns
+txnCount ws = min (getD ws txnCountAt 0) maxTxns
 
 abbrev pub waitCount : List ℕ → ℕ
-waitCount ws = min (getD ws 5 0) maxWaits
+waitCount ws = min (getD ws waitCountAt 0) maxWaits
 
 unfoldable pub entries : ℕ → List ℕ → List Entry
 entries n ws = table entryOf entriesAt entryWidth n ws
@@ -137,9 +154,9 @@ waits n ws = table waitOf waitsAt waitWidth n ws
 unfoldable pub view : List ℕ → Model
 view ws =
     record {
-      clock = getD ws 0 0;
-      nextEntry = getD ws 1 0;
-      nextTxn = getD ws 2 0;
+      clock = getD ws clockAt 0;
+      nextEntry = getD ws nextEntryAt 0;
+      nextTxn = getD ws nextTxnAt 0;
       entries = entries (entryCount ws) ws;
       txns = txns (txnCount ws) ws;
       waits = waits (waitCount ws) ws;

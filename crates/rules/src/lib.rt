@@ -30,7 +30,7 @@ pub struct Entry {
     pub private_to: TxnId,
     // The transaction that has a take hold on it; 0: none.
     pub taken_by: TxnId,
-    // Bit p: the live transaction at place p has a read hold on it.
+    // Bit p: the live transaction at slot p has a read hold on it.
     pub readers: u8,
 }
 
@@ -72,10 +72,11 @@ pub struct WriteRequest {
     pub fields: Fields,
 }
 
-// A look-up: op is 2 read, 3 take, 4 readIfExists or 5 takeIfExists.
+// A look-up: it takes or reads; the IfExists kinds wait only while an entry conflicts.
 pub struct FindRequest {
     pub party: u8,
-    pub op: u8,
+    pub takes: bool,
+    pub if_exists: bool,
     pub mask: u8,
     pub txn: TxnId,
     pub timeout: u32,

@@ -1,9 +1,37 @@
 // The numbers that document 01 gives a meaning to.
 
+// FOREVER; the last value of the clock, which is also the last end that is not FOREVER.
+pub const FOREVER: u32 = 4294967295;
+
+pub const LAST_CLOCK: u32 = 4294967294;
+
+// At most so many entries are stored, transactions live and look-ups wait; parties are 1 to 16.
+pub const MAX_ENTRIES: usize = 64;
+
+pub const MAX_TXNS: usize = 8;
+
+pub const MAX_WAITS: usize = 16;
+
+pub const MAX_PARTY: u8 = 16;
+
+// The bytes of a record, and of the records of a step at most.
+pub const RECORD_SIZE: usize = 28;
+
+pub const STEP_AREA: usize = 700;
+
+// The bytes and frames of a tray at most.
+pub const MAX_TRAY: usize = 65536;
+
+pub const MAX_FRAMES: u32 = 2000;
+
 // Operations: byte 0 of a frame.
 pub const OP_WRITE: u8 = 1;
 
 pub const OP_READ: u8 = 2;
+
+pub const OP_TAKE: u8 = 3;
+
+pub const OP_READ_IF_EXISTS: u8 = 4;
 
 pub const OP_TAKE_IF_EXISTS: u8 = 5;
 

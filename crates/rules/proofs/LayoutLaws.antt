@@ -1,0 +1,132 @@
+-- The table of operations: what its rows say of each operation, and with what a frame of each finishes.
+use Prim.Native.Nat.{ℕ, zero, suc, _≤_}
+use mathlib.Core.Bool.{Bool, true, false, not, cond, _&&_}
+use mathlib.Core.Logic.{_⊎_, inl, inr, ⊎-elim}
+use mathlib.Core.Path.{_≡_, refl, subst⁻¹}
+use mathlib.Core.List.{append-nil}
+use native.Mathlib.Omega.{arith}
+use borrow.Author.Tests.{eqb-true, eqb-false, eq-eqb, ne-eqb, leb-true, leb-false, ltb-true}
+use lib.Dec.{eqb, leb, ltb}
+use lib.ListN.{length}
+use Rattle.rules.specs.Numbers.{opWrite, opRead, opTake, opReadIfExists, opTakeIfExists, opCreate, opCommit, opAbort, opTick}
+use Rattle.rules.specs.State.{Model}
+use Rattle.rules.specs.Frame.{Frame, layoutOf, isOperation, isWrite, isLookUp, isCreate, isCommit, isAbort, isTick}
+use Rattle.rules.specs.Frame.{layouts, lookUpOp, isTake, isIfExists, serves}
+use Rattle.rules.specs.Frame.{hasLeaseOrTimeout, endsTxn}
+use Rattle.rules.specs.Done.{quiet}
+use Rattle.rules.specs.Service.{service}
+use Rattle.rules.specs.Step.{finish}
+use Rattle.rules.proofs.BoolLaws.{and-left, and-right, and-cases, twice-not}
+
+-- what holds of the four look-ups' operations
+pub lookUp-cases : (P : ℕ → Type 0) (op : ℕ) → isLookUp op ≡ true
+    → P opRead → P opTake → P opReadIfExists → P opTakeIfExists → P op
+lookUp-cases P op e p2 p3 p4 p5 =
+    go op (leb-true opRead op (and-left _ (leb op opTakeIfExists) e)) (leb-true op opTakeIfExists (and-right (leb opRead op) _ e))
+  where
+    go : (n : ℕ) → opRead ≤ n → n ≤ opTakeIfExists → P n
+    go zero l h = absurd (omega arith)
+    go (suc zero) l h = absurd (omega arith)
+    go (suc (suc zero)) l h = p2
+    go (suc (suc (suc zero))) l h = p3
+    go (suc (suc (suc (suc zero)))) l h = p4
+    go (suc (suc (suc (suc (suc zero))))) l h = p5
+    go (suc (suc (suc (suc (suc (suc n)))))) l h = absurd (omega arith)
+
+-- they have one layout, and the operation is that of its kind
+pub lookUp-layout : (op : ℕ) → isLookUp op ≡ true → layoutOf op ≡ layoutOf opRead
+unfolding layoutOf
+lookUp-layout op e = lookUp-cases (λ n. layoutOf n ≡ layoutOf opRead) op e refl refl refl refl
+
+pub lookUp-op : (op : ℕ) → isLookUp op ≡ true → lookUpOp (isTake op) (isIfExists op) ≡ op
+lookUp-op op e = lookUp-cases (λ n. lookUpOp (isTake n) (isIfExists n) ≡ n) op e refl refl refl refl
+
+-- an operation that is none of the others is tick
+pub left-is-tick : (op : ℕ) → isOperation op ≡ true → isWrite op ≡ false → isLookUp op ≡ false → isCreate op ≡ false
+    → isCommit op ≡ false → isAbort op ≡ false → isTick op ≡ true
+left-is-tick op is w l c k a =
+    let one = eqb-false op opWrite w in
+    let six = eqb-false op opCreate c in
+    let seven = eqb-false op opCommit k in
+    let eight = eqb-false op opAbort a in
+    let low = ltb-true 0 op (and-left _ (ltb op (length layouts)) is) in
+    let high = ltb-true op (length layouts) (and-right (ltb 0 op) _ is) in
+    eq-eqb op opTick
+    (⊎-elim (λ q. omega (arith, leb-false opRead op q)) (λ q. omega (arith, leb-false op opTakeIfExists q)) (and-cases (leb opRead op) (leb op opTakeIfExists) l))
+
+-- a frame after which service does not follow, and that is no tick, is over; one after which it follows ends with it
+module _ (choice : ℕ → ℕ) (f : Frame) (m : Model) where
+  pub finish-quiet : isTick (f .op) ≡ false → serves f ≡ false → finish choice f m ≡ quiet m
+  unfolding finish
+  finish-quiet t s = rw (t, s)
+
+  pub finish-serves : isTick (f .op) ≡ false → serves f ≡ true → finish choice f m ≡ service choice m
+  unfolding finish
+  finish-serves t s = rw (t, s, append-nil)
+
+-- which those are
+module _ (f : Frame) where
+  pub write-serves : isWrite (f .op) ≡ true → serves f ≡ eqb (f .txn) 0
+  unfolding serves layoutOf
+  write-serves e = go (f .op) (f .txn) (eqb-true (f .op) opWrite e)
+    where
+      go : (op t : ℕ) → op ≡ opWrite → (layoutOf op .serves && not (isWrite op && not (eqb t 0))) ≡ eqb t 0
+      go op t q = rw q (twice-not (eqb t 0))
+
+  pub lookUp-serves : isLookUp (f .op) ≡ true → serves f ≡ false
+  unfolding serves layoutOf
+  lookUp-serves e = rw (lookUp-layout (f .op) e)
+
+  pub create-serves : isCreate (f .op) ≡ true → serves f ≡ false
+  unfolding serves layoutOf
+  create-serves e = rw (eqb-true (f .op) opCreate e)
+
+  pub commit-serves : isCommit (f .op) ≡ true → serves f ≡ true
+  unfolding serves layoutOf
+  commit-serves e = rw (eqb-true (f .op) opCommit e)
+
+  pub abort-serves : isAbort (f .op) ≡ true → serves f ≡ true
+  unfolding serves layoutOf
+  abort-serves e = rw (eqb-true (f .op) opAbort e)
+
+  pub tick-serves : isTick (f .op) ≡ true → serves f ≡ true
+  unfolding serves layoutOf
+  tick-serves e = rw (eqb-true (f .op) opTick e)
+
+-- and none of them but tick is tick
+pub write-not-tick : (op : ℕ) → isWrite op ≡ true → isTick op ≡ false
+write-not-tick op e = rw (eqb-true op opWrite e)
+
+pub lookUp-not-tick : (op : ℕ) → isLookUp op ≡ true → isTick op ≡ false
+lookUp-not-tick op e = lookUp-cases (λ n. isTick n ≡ false) op e refl refl refl refl
+
+pub create-not-tick : (op : ℕ) → isCreate op ≡ true → isTick op ≡ false
+create-not-tick op e = rw (eqb-true op opCreate e)
+
+pub commit-not-tick : (op : ℕ) → isCommit op ≡ true → isTick op ≡ false
+commit-not-tick op e = rw (eqb-true op opCommit e)
+
+pub abort-not-tick : (op : ℕ) → isAbort op ≡ true → isTick op ≡ false
+abort-not-tick op e = rw (eqb-true op opAbort e)
+
+-- commit and abort end a transaction
+pub commit-ends : (op : ℕ) → isCommit op ≡ true → endsTxn op ≡ true
+unfolding layoutOf
+commit-ends op e = rw (eqb-true op 7 e)
+
+pub abort-ends : (op : ℕ) → isAbort op ≡ true → endsTxn op ≡ true
+unfolding layoutOf
+abort-ends op e = rw (eqb-true op 8 e)
+
+-- a write, a look-up and a create have a lease or a timeout
+pub write-leases : (op : ℕ) → isWrite op ≡ true → hasLeaseOrTimeout op ≡ true
+unfolding layoutOf
+write-leases op e = rw (eqb-true op 1 e)
+
+pub lookUp-leases : (op : ℕ) → isLookUp op ≡ true → hasLeaseOrTimeout op ≡ true
+unfolding layoutOf
+lookUp-leases op e = rw (lookUp-layout op e)
+
+pub create-leases : (op : ℕ) → isCreate op ≡ true → hasLeaseOrTimeout op ≡ true
+unfolding layoutOf
+create-leases op e = rw (eqb-true op 6 e)
