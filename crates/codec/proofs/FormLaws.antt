@@ -1,79 +1,90 @@
--- The form of a frame, operation by operation; and what a frame in order is decoded into.
-use Prim.Native.Nat.{ℕ, _+_, _≤_, _<_}
+-- Bytes past the end; the form of a frame, operation by operation.
+use Prim.Native.Nat.{ℕ, _+_, _-_, _≤_, _<_}
 use mathlib.Core.Bool.{Bool, true, false, cond, not, _||_, or-false, or-true, or-assoc, and-false}
-use mathlib.Core.Path.{_≡_, refl, ap, _∙_}
-use mathlib.Core.List.{List, [], _∷_}
+use mathlib.Core.Path.{_≡_, refl, sym, ap, ap₂, _∙_}
+use mathlib.Core.Logic.{_⊎_, inl, inr}
+use mathlib.Core.List.{List, [], _∷_, _++_, append-nil}
 use native.Mathlib.Omega.{arith}
 use lib.Dec.{eqb, ltb}
-use lib.ListN.{length, List·getD-eq-default}
-use borrow.Author.Tests.{le-leb, lt-leb, le-ltb, ne-eqb, eqb-true}
-use Rattle.rules.specs.Frame.{Frame, frameLength, decode, byteAt, numberAt, isLookUp, isCreate}
+use lib.ListN.{length}
+use borrow.Author.Tests.{le-leb, lt-leb, lt-ltb, ne-eqb, eqb-true}
+use Rattle.rules.specs.Numbers.{opWrite, opRead, opTakeIfExists, opCreate, opTick}
+use Rattle.rules.specs.Numbers.{lengthRefused, formRefused, partyRefused}
+use Rattle.rules.specs.Frame.{Frame, frameLength, decode, byteAt, numberAt, fieldsAt, isOperation, isLookUp, isCreate}
+use Rattle.rules.specs.Frame.{layouts, layoutOf}
+use Rattle.rules.specs.Records.{noFields, plain, recordAt}
 use Rattle.rules.specs.Refusals.{noOperation, wrongLength, badTemplate, malformed, wrongParty}
 use Rattle.rules.specs.Requests.{formRefusal}
+use Rattle.rules.proofs.ReadBack.{number-behind, fields-behind, record-behind}
+use Rattle.rules.proofs.LayoutLaws.{lookUp-layout}
+use Rattle.rules.proofs.OperationLaws.{template-is, outside-is}
 
--- bytes past the end are 0
+-- ---- past the end all is 0: what reads from a place on reads of no bytes there
+past : {A : Type 0} (read : List ℕ → ℕ → A)
+    → ((xs bs : List ℕ) (i : ℕ) → read (xs ++ bs) (length xs + i) ≡ read bs i)
+    → (bs : List ℕ) (i : ℕ) → length bs ≤ i → read bs i ≡ read [] (i - length bs)
+past read behind bs i h = ap₂ read (sym (append-nil bs)) (omega arith) ∙ behind bs [] (i - length bs)
+
 pub number-past : (bs : List ℕ) (i : ℕ) → length bs ≤ i → numberAt bs i ≡ 0
 unfolding numberAt
-number-past bs i h =
-    let past : (k : ℕ) → i ≤ k → byteAt bs k ≡ 0 = λ k l. List·getD-eq-default bs 0 (omega arith) in
-    let a = past i (omega arith) in
-    let b = past (i + 1) (omega arith) in
-    let c = past (i + 2) (omega arith) in
-    let d = past (i + 3) (omega arith) in
-    omega arith
+number-past = past numberAt number-behind
 
--- ---- refusal 4, by operation
+pub fields-past : (bs : List ℕ) (i : ℕ) → length bs ≤ i → fieldsAt bs i ≡ noFields
+unfolding numberAt
+fields-past = past fieldsAt fields-behind
+
+pub record-past : (bs : List ℕ) (i : ℕ) → length bs ≤ i → recordAt bs i ≡ plain 0 0 0
+unfolding recordAt numberAt
+record-past = past recordAt record-behind
+
+-- ---- operations
+pub is-operation : (op : ℕ) → opWrite ≤ op → op ≤ opTick → isOperation op ≡ true
+is-operation op l h = rw (lt-ltb 0 op (omega arith), lt-ltb op (length layouts) (omega arith))
+
+pub no-look-up : (op : ℕ) → (op < opRead) ⊎ (opTakeIfExists < op) → isLookUp op ≡ false
+no-look-up op (inl h) = rw (lt-leb opRead op h)
+no-look-up op (inr h) = rw (lt-leb op opTakeIfExists h, and-false)
+
+-- ---- refusal 4: with a template, with a transaction that must be 0, and with neither
 -- a mask that is 0 is not above 15
 low-mask : (b : Bool) (mask : ℕ) → eqb mask 0 ≡ b → (ltb 15 mask || not b) ≡ not b
 low-mask true mask e = rw (eqb-true mask 0 e)
 low-mask false mask e = or-true (ltb 15 mask)
 
-no-mask : (f : Frame) → (not (eqb (f .byte3) 0) || ltb 15 (f .mask) || not (eqb (f .mask) 0))
-    ≡ (not (eqb (f .byte3) 0) || not (eqb (f .mask) 0))
-no-mask f =
-    or-assoc (not (eqb (f .byte3) 0)) (ltb 15 (f .mask)) (not (eqb (f .mask) 0))
-    ∙ ap (λ b. not (eqb (f .byte3) 0) || b) (low-mask (eqb (f .mask) 0) (f .mask) refl)
+module _ (f : Frame) where
+  pub find-form : opRead ≤ f .op → f .op ≤ opTakeIfExists
+      → malformed f ≡ (not (eqb (f .byte3) 0) || ltb 15 (f .mask) || badTemplate f)
+  unfolding malformed layoutOf
+  find-form l h = rw (lookUp-layout (f .op) (rw (le-leb _ _ l, le-leb _ _ h))) (simp or-false)
 
--- an operation that is no look-up
-pub find-below : (op : ℕ) → op < 2 → isLookUp op ≡ false
-find-below op h = rw (lt-leb 2 op h)
+  no-mask : (not (eqb (f .byte3) 0) || ltb 15 (f .mask) || not (eqb (f .mask) 0))
+      ≡ (not (eqb (f .byte3) 0) || not (eqb (f .mask) 0))
+  no-mask =
+      or-assoc (not (eqb (f .byte3) 0)) (ltb 15 (f .mask)) (not (eqb (f .mask) 0))
+      ∙ ap (λ b. not (eqb (f .byte3) 0) || b) (low-mask (eqb (f .mask) 0) (f .mask) refl)
 
-pub find-above : (op : ℕ) → 5 < op → isLookUp op ≡ false
-find-above op h = rw (lt-leb op 5 h, and-false)
+  pub create-form : f .op ≡ opCreate
+      → malformed f ≡ (not (eqb (f .byte3) 0) || not (eqb (f .mask) 0) || not (eqb (f .txn) 0))
+  unfolding malformed layoutOf
+  create-form e = rw e (simp or-false (ap (λ b. b || not (eqb (f .txn) 0)) no-mask))
 
-pub find-form : (f : Frame) → 2 ≤ f .op → f .op ≤ 5
-    → malformed f ≡ (not (eqb (f .byte3) 0) || ltb 15 (f .mask) || badTemplate f)
-unfolding malformed
-find-form f l h = rw (le-leb _ _ l, le-leb _ _ h, ne-eqb (f .op) 6 (λ e. omega arith)) (simp or-false)
+  pub plain-form : isOperation (f .op) ≡ true → isLookUp (f .op) ≡ false → isCreate (f .op) ≡ false
+      → malformed f ≡ (not (eqb (f .byte3) 0) || not (eqb (f .mask) 0))
+  unfolding malformed
+  plain-form is l h = rw (template-is (f .op) is ∙ l, outside-is (f .op) is ∙ h) (simp or-false no-mask)
 
-pub plain-form : (f : Frame) → isLookUp (f .op) ≡ false → isCreate (f .op) ≡ false
-    → malformed f ≡ (not (eqb (f .byte3) 0) || not (eqb (f .mask) 0))
-unfolding malformed
-plain-form f l h = rw (l, h) (simp or-false (no-mask f))
-
-pub create-form : (f : Frame) → f .op ≡ 6
-    → malformed f ≡ (not (eqb (f .byte3) 0) || not (eqb (f .mask) 0) || not (eqb (f .txn) 0))
-unfolding malformed
-create-form f e = rw e (simp or-false (ap (λ b. b || not (eqb (f .txn) 0)) (no-mask f)))
-
--- ---- the first of 2 to 5 that applies
-has-operation : (bs : List ℕ) → 1 ≤ byteAt bs 0 → byteAt bs 0 ≤ 9 → noOperation bs (decode bs) ≡ false
-unfolding noOperation decode
-has-operation [] l h = absurd (omega arith)
-has-operation (b ∷ bs) l h =
-    rw (ne-eqb (length (b ∷ bs)) 0 (λ e. omega arith), ne-eqb b 0 (λ e. omega arith), le-ltb 9 b h)
-
--- the row of refusal 3
-length-row : (bs : List ℕ) (op : ℕ) → op ≡ byteAt bs 0
-    → wrongLength bs (decode bs) ≡ not (eqb (length bs) (frameLength op))
-unfolding wrongLength decode
-length-row bs op e = rw e
-
--- the rows of the refusals 3 to 5
-pub form-is : (bs : List ℕ) (op n : ℕ) → op ≡ byteAt bs 0 → 1 ≤ op → op ≤ 9
-    → cond (not (eqb (length bs) (frameLength op))) 3
-    (cond (malformed (decode bs)) 4 (cond (wrongParty (decode bs)) 5 0))
-    ≡ n
-    → formRefusal bs ≡ n
-unfolding formRefusal
-form-is bs op n p l h e = rw (has-operation bs (omega arith) (omega arith), length-row bs op p) e
+-- ---- the first of 3 to 5 that applies to a frame with an operation
+pub form-is : (bs : List ℕ) (op : ℕ) → (op ≡ byteAt bs 0) × (opWrite ≤ op) × (op ≤ opTick)
+    → {long form party : Bool} → eqb (length bs) (frameLength op) ≡ long → malformed (decode bs) ≡ form
+    → wrongParty (decode bs) ≡ party
+    → formRefusal bs ≡ cond (not long) lengthRefused (cond form formRefused (cond party partyRefused 0))
+unfolding formRefusal wrongLength noOperation decode
+form-is [] op p a b c = absurd (omega (arith, p))
+form-is (x ∷ bs) op p a b c =
+    rw (
+      ne-eqb (length (x ∷ bs)) 0 (λ z. omega arith),
+      is-operation x (omega (arith, p)) (omega (arith, p)),
+      ap (λ n. eqb (length (x ∷ bs)) (frameLength n)) (sym (p .0)) ∙ a,
+      b,
+      c,
+    )

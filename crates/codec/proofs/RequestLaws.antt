@@ -1,142 +1,133 @@
 -- What the decoder answers: the refusal, or the request that a frame in order stands for.
 use Prim.Native.Nat.{ℕ, _≤_, _<_}
-use mathlib.Core.Bool.{Bool, true, false, not, _||_, or-true}
+use mathlib.Core.Bool.{Bool, true, false, not, _&&_, _||_, or-true, and-false}
+use mathlib.Core.Logic.{_⊎_, inl, inr}
 use mathlib.Core.Option.{some}
 use mathlib.Core.Path.{_≡_, refl, sym, ap, _∙_}
 use mathlib.Core.List.{List}
 use native.Mathlib.Omega.{arith}
 use lib.Dec.{eqb, ltb}
 use lib.ListN.{length}
-use borrow.Author.Tests.{lt-ltb, eq-eqb, ne-eqb, eqb-true, not-false}
+use borrow.Author.Tests.{le-leb, le-ltb, eq-eqb, ne-eqb, eqb-true, not-false}
+use Rattle.rules.specs.Numbers.{opWrite, opRead, opTakeIfExists, opCreate, opCommit, opAbort, opTick, operationRefused}
 use Rattle.rules.specs.declared.Request.{Request}
 use Rattle.rules.specs.declared.Request.the-variants.{Write, Find, Create, Commit, Abort, Tick}
 use Rattle.rules.specs.declared.Decoded.the-variants.{Asks, Refused}
-use Rattle.rules.specs.Frame.{frameLength, decode, byteAt, numberAt, isLookUp, isCreate}
-use Rattle.rules.specs.Refusals.{noOperation, wrongLength, badTemplate, malformed, wrongParty}
+use Rattle.rules.specs.Frame.{Frame, decode, byteAt, numberAt, fieldsAt, layoutOf, frameLength, hasTemplate, namesNoTxn}
+use Rattle.rules.specs.Frame.{layouts, isOperation, isTake, isIfExists}
+use Rattle.rules.specs.Refusals.{formRows, noOperation, wrongLength, badTemplate, malformed, wrongParty}
 use Rattle.rules.specs.Records.{noFields}
 use Rattle.rules.specs.Requests.{plainFrame, frameOf, formRefusal, Decodes}
-use Rattle.rules.proofs.StepCases.{or-left, or-right}
-use Rattle.rules.proofs.RefusalLaws.{row}
-use Rattle.codec.proofs.FormLaws.{number-past, find-form, plain-form, create-form}
+use Rattle.rules.proofs.BoolLaws.{or-left, or-right, and-false-right}
+use Rattle.rules.proofs.LayoutLaws.{lookUp-op}
+use Rattle.rules.proofs.RefusalLaws.{testAt, none-applies}
+use Rattle.codec.proofs.FormLaws.{number-past, fields-past}
 
 pub refused : (bs : List ℕ) (n : ℕ) → n ≡ formRefusal bs → (n ≡ 0 → ⊥) → Decodes bs (Refused n)
 refused bs n e h = record { number = e; frame = rw (ne-eqb (formRefusal bs) 0 (λ z. h (e ∙ z))) }
 
--- no operation: 0, or a number above 9
-no-operation : (bs : List ℕ) → noOperation bs (decode bs) ≡ true → Decodes bs (Refused 2)
-unfolding formRefusal
-no-operation bs e = refused bs 2 (rw e) (λ z. omega arith)
+-- it has no operation
+pub no-operation : (bs : List ℕ) → (byteAt bs 0 ≡ 0) ⊎ (opTick < byteAt bs 0) → Decodes bs (Refused operationRefused)
+unfolding formRefusal noOperation decode
+no-operation bs o = refused bs operationRefused (rw (none (byteAt bs 0) o, or-true)) (λ z. omega arith)
+  where
+    none : (op : ℕ) → (op ≡ 0) ⊎ (opTick < op) → isOperation op ≡ false
+    none op (inl e) = rw e
+    none op (inr h) = rw (le-ltb op (length layouts) h, and-false)
 
-pub zero-operation : (bs : List ℕ) → byteAt bs 0 ≡ 0 → Decodes bs (Refused 2)
-unfolding noOperation decode
-zero-operation bs e = no-operation bs (rw (eq-eqb (byteAt bs 0) 0 e, or-true))
-
-pub high-operation : (bs : List ℕ) → 9 < byteAt bs 0 → Decodes bs (Refused 2)
-unfolding noOperation decode
-high-operation bs h = no-operation bs (rw (lt-ltb 9 (byteAt bs 0) h, or-true))
+-- a frame that 4 lets pass
+record Formed (f : Frame) : Type 0 where
+  byte3 : f .byte3 ≡ 0
+  mask : hasTemplate (f .op) ≡ false → f .mask ≡ 0
+  txn : namesNoTxn (f .op) ≡ true → f .txn ≡ 0
 
 zero-of : (n : ℕ) → not (eqb n 0) ≡ false → n ≡ 0
 zero-of n e = eqb-true n 0 (not-false (eqb n 0) e)
 
-first-zero : (n : ℕ) (b : Bool) → (not (eqb n 0) || b) ≡ false → n ≡ 0
-first-zero n b e = zero-of n (or-left (not (eqb n 0)) b e)
-
-last-zero : (b : Bool) (n : ℕ) → (b || not (eqb n 0)) ≡ false → n ≡ 0
-last-zero b n e = zero-of n (or-right b (not (eqb n 0)) e)
+of-form : (f : Frame) → malformed f ≡ false → Formed f
+unfolding malformed
+of-form f e =
+    let filled = not (eqb (f .byte3) 0) in
+    let high = ltb 15 (f .mask) in
+    let masked = not (hasTemplate (f .op)) && not (eqb (f .mask) 0) in
+    let bad = hasTemplate (f .op) && badTemplate f in
+    let named = namesNoTxn (f .op) && not (eqb (f .txn) 0) in
+    let front = or-left (filled || high || masked) bad (or-left (filled || high || masked || bad) named e) in
+    record {
+      byte3 = zero-of (f .byte3) (or-left filled high (or-left (filled || high) masked front));
+      mask = λ t. zero-of (f .mask) (and-false-right _ _ (ap not t) (or-right (filled || high) masked front));
+      txn = λ o. zero-of (f .txn) (and-false-right _ _ o (or-right (filled || high || masked || bad) named e));
+    }
 
 module _ (bs : List ℕ) (clear : formRefusal bs ≡ 0) where
   asks : (q : Request) → decode bs ≡ frameOf q → Decodes bs (Asks q)
   asks q e = record { number = sym clear; frame = rw (eq-eqb (formRefusal bs) 0 clear) (ap some (sym e)) }
 
-  -- none of the refusals 3 to 5 applies
-  in-order : (wrongLength bs (decode bs) ≡ false) × (malformed (decode bs) ≡ false) × (wrongParty (decode bs) ≡ false)
+  -- none of the rows 2 to 5 applies: their number, counted from 2
+  row : (k : ℕ) → testAt (formRows bs (decode bs)) k ≡ false
   unfolding formRefusal
-  in-order =
-      let r2 = row (noOperation bs (decode bs)) 1 _ clear in
-      let r3 = row _ 2 _ (r2 .1) in
-      let r4 = row _ 3 _ (r3 .1) in
-      let r5 = row _ 4 0 (r4 .1) in
-      (r3 .0, r4 .0, r5 .0)
+  row = none-applies (formRows bs (decode bs)) refl clear
 
-  size : (op n : ℕ) → byteAt bs 0 ≡ op → frameLength op ≡ n → length bs ≡ n
+  size : length bs ≡ frameLength (byteAt bs 0)
   unfolding wrongLength decode
-  size op n e l = eqb-true (length bs) (frameLength (byteAt bs 0)) (not-false _ (in-order .0)) ∙ ap frameLength e ∙ l
+  size = eqb-true (length bs) (frameLength (byteAt bs 0)) (not-false _ (row 1))
 
-  -- byte 3 and the mask of an operation other than look-ups
-  plain : (op : ℕ) → byteAt bs 0 ≡ op → isLookUp op ≡ false → isCreate op ≡ false
-      → (byteAt bs 3 ≡ 0) × (byteAt bs 2 ≡ 0)
-  unfolding decode
-  plain op e l h =
-      let f = sym (plain-form (decode bs) (ap isLookUp e ∙ l) (ap isCreate e ∙ h)) ∙ in-order .1 in
-      (first-zero (byteAt bs 3) (not (eqb (byteAt bs 2) 0)) f, last-zero (not (eqb (byteAt bs 3) 0)) (byteAt bs 2) f)
+  formed : Formed (decode bs)
+  formed = of-form (decode bs) (row 2)
 
-  -- a frame without fields, or without a lease or timeout too, or without a transaction too
-  no-fields : length bs ≤ 12 → decode bs .fields ≡ noFields
-  unfolding decode
-  no-fields h =
-      rw (
-        number-past bs 12 (omega arith),
-        number-past bs 16 (omega arith),
-        number-past bs 20 (omega arith),
-        number-past bs 24 (omega arith),
-      )
-
-  pub write-asks : byteAt bs 0 ≡ 1
+  pub write-asks : byteAt bs 0 ≡ opWrite
       → Decodes bs (Asks (Write (record {
         party = byteAt bs 1;
         txn = record { 0 = numberAt bs 4 };
         lease = numberAt bs 8;
-        fields = decode bs .fields;
+        fields = fieldsAt bs 12;
       })))
-  unfolding decode
-  write-asks e = let p = plain 1 e refl refl in asks _ (rw (e, p .0, p .1))
+  unfolding decode layoutOf
+  write-asks e = asks _ (rw (formed .byte3, formed .mask (rw e), e))
 
-  pub find-asks : (op : ℕ) → op ≡ byteAt bs 0 → 2 ≤ op → op ≤ 5
+  pub find-asks : (op : ℕ) → op ≡ byteAt bs 0 → opRead ≤ op → op ≤ opTakeIfExists
       → Decodes bs (Asks (Find (record {
         party = byteAt bs 1;
-        op = op;
+        takes = isTake op;
+        «if_exists» = isIfExists op;
         mask = byteAt bs 2;
         txn = record { 0 = numberAt bs 4 };
         timeout = numberAt bs 8;
-        fields = decode bs .fields;
+        fields = fieldsAt bs 12;
       })))
   unfolding decode
   find-asks op e l h =
-      let f = sym (find-form (decode bs) (omega arith) (omega arith)) ∙ in-order .1 in
-      let b = first-zero (byteAt bs 3) (ltb 15 (byteAt bs 2)) (or-left _ (badTemplate (decode bs)) f) in
-      asks _ (rw (b, e))
+      let kind = lookUp-op op (rw (le-leb opRead op l, le-leb op opTakeIfExists h)) in
+      asks _ (rw (formed .byte3, kind, e))
 
-  pub create-asks : byteAt bs 0 ≡ 6 → Decodes bs (Asks (Create (byteAt bs 1) (numberAt bs 8)))
-  unfolding decode frameLength
-  create-asks e =
-      let f = sym (create-form (decode bs) e) ∙ in-order .1 in
-      let g = or-left (not (eqb (byteAt bs 3) 0) || not (eqb (byteAt bs 2) 0)) (not (eqb (numberAt bs 4) 0)) f in
-      let b = first-zero (byteAt bs 3) (not (eqb (byteAt bs 2) 0)) g in
-      let m = last-zero (not (eqb (byteAt bs 3) 0)) (byteAt bs 2) g in
-      let t = last-zero (not (eqb (byteAt bs 3) 0) || not (eqb (byteAt bs 2) 0)) (numberAt bs 4) f in
-      asks _ (rw (no-fields (omega (arith, size 6 12 e refl)), e, b, m, t))
-
-  ending : (op : ℕ) → byteAt bs 0 ≡ op → isLookUp op ≡ false → isCreate op ≡ false → frameLength op ≡ 8
-      → decode bs ≡ plainFrame op (byteAt bs 1) (numberAt bs 4) 0
+  -- a frame without mask and fields
+  plain : (op : ℕ) → byteAt bs 0 ≡ op → hasTemplate op ≡ false → frameLength op ≤ 12
+      → decode bs ≡ plainFrame op (byteAt bs 1) (numberAt bs 4) (numberAt bs 8)
   unfolding decode
-  ending op e l h n =
-      let p = plain op e l h in
-      rw (no-fields (omega (arith, size op 8 e n)), number-past bs 8 (omega (arith, size op 8 e n)), e, p .0, p .1)
+  plain op e t h =
+      let few = fields-past bs 12 (omega (arith, ap frameLength e, size)) in
+      rw (formed .byte3, formed .mask (ap hasTemplate e ∙ t), few, e)
 
-  pub commit-asks : byteAt bs 0 ≡ 7 → Decodes bs (Asks (Commit (byteAt bs 1) (record { 0 = numberAt bs 4 })))
-  unfolding frameLength
-  commit-asks e = asks _ (ending 7 e refl refl refl)
+  -- nothing stands behind the bytes of an operation
+  past : (op i : ℕ) → byteAt bs 0 ≡ op → frameLength op ≤ i → numberAt bs i ≡ 0
+  past op i e h = number-past bs i (omega (arith, ap frameLength e, size))
 
-  pub abort-asks : byteAt bs 0 ≡ 8 → Decodes bs (Asks (Abort (byteAt bs 1) (record { 0 = numberAt bs 4 })))
-  unfolding frameLength
-  abort-asks e = asks _ (ending 8 e refl refl refl)
+  pub create-asks : byteAt bs 0 ≡ opCreate → Decodes bs (Asks (Create (byteAt bs 1) (numberAt bs 8)))
+  unfolding frameLength layoutOf decode
+  create-asks e = asks _ (plain opCreate e refl (omega arith) ∙ rw (formed .txn (rw e)))
 
-  pub tick-asks : byteAt bs 0 ≡ 9 → Decodes bs (Asks Tick)
-  unfolding decode frameLength wrongParty
+  pub commit-asks : byteAt bs 0 ≡ opCommit → Decodes bs (Asks (Commit (byteAt bs 1) (record { 0 = numberAt bs 4 })))
+  unfolding frameLength layoutOf
+  commit-asks e = asks _ (plain opCommit e refl (omega arith) ∙ rw (past opCommit 8 e (omega arith)))
+
+  pub abort-asks : byteAt bs 0 ≡ opAbort → Decodes bs (Asks (Abort (byteAt bs 1) (record { 0 = numberAt bs 4 })))
+  unfolding frameLength layoutOf
+  abort-asks e = asks _ (plain opAbort e refl (omega arith) ∙ rw (past opAbort 8 e (omega arith)))
+
+  pub tick-asks : byteAt bs 0 ≡ opTick → Decodes bs (Asks Tick)
+  unfolding frameLength layoutOf wrongParty decode
   tick-asks e =
-      let p = plain 9 e refl refl in
-      let s = size 9 4 e refl in
-      let party = zero-of (byteAt bs 1) (rw e at (in-order .2)) in
-      let timeout = number-past bs 8 (omega arith) in
-      let txn = number-past bs 4 (omega arith) in
-      asks _ (rw (no-fields (omega arith), timeout, txn, e, p .0, p .1, party))
+      let party = zero-of (byteAt bs 1) (rw e at (row 3)) in
+      let txn = past opTick 4 e (omega arith) in
+      let lease = past opTick 8 e (omega arith) in
+      asks _ (plain opTick e refl (omega arith) ∙ rw (party, txn, lease))

@@ -1,3 +1,2 @@
 -- What the functions over bytes do, by definitions that their contracts cite.
 pub mod Area
-pub mod Kinds

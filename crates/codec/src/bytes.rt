@@ -1,11 +1,14 @@
-// Bytes and little-endian numbers, read; 0 past the end.
+// Bytes, little-endian numbers and fields, read (0 past the end) and written.
 ghost use mathlib.Core.Path.{_≡_};
-ghost use Prim.Native.Nat.{_<_};
+ghost use mathlib.Core.List.{[], _∷_};
+ghost use Prim.Native.Nat.{_+_, _≤_, _<_};
 ghost use lib.ListN.{length};
-ghost use Rattle.rules.specs.Frame.{byteAt, numberAt};
+ghost use Rattle.rules.specs.Frame.{byteAt, numberAt, fourBytes, fieldsAt};
+ghost use Rattle.codec.specs.Area.{over, fieldsBytes};
+use rules::Fields;
 
 // The byte at a place.
-pub fn byte_at(bytes: &[u8], at: usize) -> u8
+pub(crate) fn byte_at(bytes: &[u8], at: usize) -> u8
     ensures { λ r. ⌜ r ≡ byteAt (now (bytes .entry)) at ⌝ }
 {
     if at < bytes.len() { bytes[at] } else { 0 }
@@ -44,4 +47,51 @@ pub fn number_at(bytes: &[u8], at: usize) -> u32
     let c = wide(bytes[at + 2]);
     let d = wide(bytes[at + 3]);
     a + 256 * b + 65536 * c + 16777216 * d
+}
+
+// The four fields, from a place on.
+pub(crate) fn fields_at(bytes: &[u8], at: usize) -> Fields
+    requires { ⌜ at ≤ length (now bytes) + 12 ⌝ }
+    ensures { λ r. ⌜ r ≡ fieldsAt (now (bytes .entry)) at ⌝ }
+{
+    Fields {
+        kind: number_at(bytes, at),
+        side: number_at(bytes, at + 4),
+        image: number_at(bytes, at + 8),
+        place: number_at(bytes, at + 12),
+    }
+}
+
+// Four bytes, stored one after another from `at` on.
+pub(crate) fn put_four(out: &mut [u8], at: usize, a: u8, b: u8, c: u8, d: u8)
+    requires { ⌜ at + 4 ≤ length (now out) ⌝ }
+    ensures { λ _. ⌜ now (out .exit) ≡ over (now (out .entry)) at (a ∷ b ∷ c ∷ d ∷ []) ⌝ }
+{
+    out[at] = a;
+    out[at + 1] = b;
+    out[at + 2] = c;
+    out[at + 3] = d;
+}
+
+// The four bytes of a number, from `at` on.
+pub(crate) fn put_number(out: &mut [u8], at: usize, n: u32)
+    requires { ⌜ at + 4 ≤ length (now out) ⌝ }
+    ensures { λ _. ⌜ now (out .exit) ≡ over (now (out .entry)) at (fourBytes n) ⌝ }
+{
+    let a = (n % 256) as u8;
+    let b = (n / 256 % 256) as u8;
+    let c = (n / 65536 % 256) as u8;
+    let d = (n / 16777216 % 256) as u8;
+    put_four(out, at, a, b, c, d);
+}
+
+// The sixteen bytes of the fields, from `at` on.
+pub(crate) fn put_fields(out: &mut [u8], at: usize, f: Fields)
+    requires { ⌜ at + 16 ≤ length (now out) ⌝ }
+    ensures { λ _. ⌜ now (out .exit) ≡ over (now (out .entry)) at (fieldsBytes f) ⌝ }
+{
+    put_number(out, at, f.kind);
+    put_number(out, at + 4, f.side);
+    put_number(out, at + 8, f.image);
+    put_number(out, at + 12, f.place);
 }

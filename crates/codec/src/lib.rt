@@ -1,10 +1,12 @@
-// Frames read from bytes, and answer records written as bytes.
+// Frames and answer records, read from bytes and written as bytes.
 mod bytes;
+mod encode;
 mod frames;
+mod places;
 pub mod records;
 
-pub use bytes::byte_at;
 pub use bytes::number_at;
+pub use encode::put_frame;
 pub use frames::decode;
-pub use frames::party_of;
 pub use records::put_record;
+pub use records::record_at;

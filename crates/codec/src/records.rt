@@ -1,13 +1,21 @@
-// Answer records, and their 28 bytes.
+// Answer records, and their 28 bytes: written, and read.
 ghost use mathlib.Core.Path.{_≡_};
-ghost use mathlib.Core.List.{[], _∷_};
-ghost use Prim.Native.Nat.{_+_, _≤_};
-ghost use lib.ListN.{length};
-ghost use Rattle.rules.specs.Records.{noFields, fourBytes, plain, written, found, refused};
+ghost use Rattle.rules.specs.Records.{noFields, plain, written, found, refused, recordAt};
 ghost use Rattle.rules.specs.declared.Request.the-variants.{Write};
 ghost use Rattle.rules.specs.Requests.{frameOf};
-ghost use Rattle.codec.specs.Area.{over, recordPut};
+ghost use Rattle.codec.specs.Area.{recordPut};
+use crate::bytes::byte_at;
+use crate::bytes::fields_at;
+use crate::bytes::number_at;
+use crate::bytes::put_fields;
+use crate::bytes::put_four;
+use crate::bytes::put_number;
 use crate::frames::party_of;
+use crate::places::ENTRY_AT;
+use crate::places::FIELDS_AT;
+use crate::places::PARTY_AT;
+use crate::places::REFUSAL_AT;
+use crate::places::TXN_AT;
 use rules::Entry;
 use rules::EntryId;
 use rules::Fields;
@@ -18,8 +26,9 @@ use rules::WriteRequest;
 use rules::numbers::KIND_FOUND;
 use rules::numbers::KIND_REFUSED;
 use rules::numbers::KIND_WRITTEN;
+use rules::numbers::RECORD_SIZE;
 
-fn no_fields() -> Fields
+pub(crate) fn no_fields() -> Fields
     ensures { λ r. ⌜ r ≡ noFields ⌝ }
 {
     Fields {
@@ -30,43 +39,17 @@ fn no_fields() -> Fields
     }
 }
 
-// Four bytes, from `at` on.
-fn put_four(out: &mut [u8], at: usize, a: u8, b: u8, c: u8, d: u8)
-    requires { ⌜ at + 4 ≤ length (now out) ⌝ }
-    ensures { λ _. ⌜ now (out .exit) ≡ over (now (out .entry)) at (a ∷ b ∷ c ∷ d ∷ []) ⌝ }
-{
-    out[at] = a;
-    out[at + 1] = b;
-    out[at + 2] = c;
-    out[at + 3] = d;
-}
-
-// The four bytes of a number, from `at` on.
-fn put_number(out: &mut [u8], at: usize, n: u32)
-    requires { ⌜ at + 4 ≤ length (now out) ⌝ }
-    ensures { λ _. ⌜ now (out .exit) ≡ over (now (out .entry)) at (fourBytes n) ⌝ }
-{
-    let a = (n % 256) as u8;
-    let b = (n / 256 % 256) as u8;
-    let c = (n / 65536 % 256) as u8;
-    let d = (n / 16777216 % 256) as u8;
-    put_four(out, at, a, b, c, d);
-}
-
 // The 28 bytes of a record, in front; fewer bytes are left as they are.
 pub fn put_record(out: &mut [u8], r: Record)
     ensures { λ _. ⌜ now (out .exit) ≡ recordPut r (now (out .entry)) ⌝ }
 {
-    if out.len() < 28 {
+    if out.len() < RECORD_SIZE {
         return;
     }
     put_four(out, 0, r.kind, r.party, r.refusal, 0);
-    put_number(out, 4, r.txn.0);
-    put_number(out, 8, r.entry.0);
-    put_number(out, 12, r.fields.kind);
-    put_number(out, 16, r.fields.side);
-    put_number(out, 20, r.fields.image);
-    put_number(out, 24, r.fields.place);
+    put_number(out, TXN_AT, r.txn.0);
+    put_number(out, ENTRY_AT, r.entry.0);
+    put_fields(out, FIELDS_AT, r.fields);
 }
 
 // A record with no entry: every kind but written, found and refused.
@@ -129,6 +112,26 @@ pub fn refused_record(frame: &[u8], refusal: u8) -> Record
         kind: KIND_REFUSED,
         party: party_of(frame),
         refusal,
+        txn,
+        entry,
+        fields,
+    }
+}
+
+// The record whose 28 bytes stand at a place; past the end bytes are 0.
+pub fn record_at(bytes: &[u8], at: usize) -> Record
+    ensures { λ r. ⌜ r ≡ recordAt (now (bytes .entry)) at ⌝ }
+{
+    if bytes.len() <= at {
+        return plain_record(0, 0, TxnId(0));
+    }
+    let txn = TxnId(number_at(bytes, at + TXN_AT));
+    let entry = EntryId(number_at(bytes, at + ENTRY_AT));
+    let fields = fields_at(bytes, at + FIELDS_AT);
+    Record {
+        kind: byte_at(bytes, at),
+        party: byte_at(bytes, at + PARTY_AT),
+        refusal: byte_at(bytes, at + REFUSAL_AT),
         txn,
         entry,
         fields,

@@ -10,10 +10,9 @@ use lib.ListN.{length, getD, set, drop, length-append, length-drop, drop-of-leng
 use lib.Seq.{drop-cons}
 use borrow.Author.Tests.{lt-ltb, le-ltb}
 use Rattle.rules.specs.Print.{decimal, line}
-use Rattle.codec.proofs.FrontLaws.{over-none}
 use Rattle.printer.specs.Text.{Puts}
 use Rattle.printer.proofs.DigitLaws.{digits-length}
-use Rattle.printer.proofs.TextLaws.{puts-length, puts-then, puts-one}
+use Rattle.printer.proofs.TextLaws.{puts-length, puts-none, puts-one, puts-then}
 
 -- what is left of a line: nothing, where no number is left
 abbrev pub restLine : List ℕ → List ℕ
@@ -37,31 +36,22 @@ pub record Lining (ns old new : List ℕ) (at next i : ℕ) : Type 0 where
   pub few : length text ≤ 11 * i
   pub rest : line ns ≡ text ++ restLine (drop i ns)
 
-pub lining-none : (ns old : List ℕ) (at : ℕ) → 1 ≤ length ns → Lining ns old old at at 0
-lining-none [] old at h = absurd (omega arith)
-lining-none (n ∷ ns) old at h =
-    record {
-      text = [];
-      puts = record { bytes = sym (over-none old at); end = omega arith };
-      few = omega arith;
-      rest = refl;
-    }
+pub lining-none : (ns old : List ℕ) (at : ℕ) → 1 ≤ length ns → at ≤ length old → Lining ns old old at at 0
+lining-none [] old at h l = absurd (omega arith)
+lining-none (n ∷ ns) old at h l = record { text = []; puts = puts-none old at l; few = omega arith; rest = refl }
 
 module _ (ns old new : List ℕ) (at next i : ℕ) (l : Lining ns old new at next i) where
   pub lining-done : length ns ≤ i → Puts (line ns) old new at next
   lining-done h =
       rw (l .rest ∙ ap (λ x. l .text ++ restLine x) (drop-of-length-le ns h) ∙ append-nil (l .text)) (l .puts)
 
-  pub lining-length : i ≤ length ns → at + 11 * length ns ≤ length old → length new ≡ length old
-  lining-length h room = puts-length (l .text) old new at next (l .puts) (omega (arith, l .few))
+  pub lining-length : length new ≡ length old
+  lining-length = puts-length (l .text) old new at next (l .puts)
 
   -- one number more
   module _ (h : i < length ns) (room : at + 11 * length ns ≤ length old) where
-    fits : at + length (l .text) + 11 ≤ length old
-    fits = omega (arith, l .few)
-
     pub lining-room : next + 11 ≤ length new
-    lining-room = omega (arith, fits, lining-length (omega arith) room, l .puts .end)
+    lining-room = omega (arith, l .few, lining-length, l .puts .end)
 
     -- the line from number i on
     rest-is : restLine (drop i ns) ≡ (decimal (getD ns i 0) ++ (afterAt (i + 1) ns ∷ [])) ++ restLine (drop (i + 1) ns)
@@ -76,15 +66,12 @@ module _ (ns old new : List ℕ) (at next i : ℕ) (l : Lining ns old new at nex
     lining-next mid to s p e =
         let n = getD ns i 0 in
         let few = digits-length 10 n in
-        let long = puts-length (decimal n) new mid next to p (omega (arith, lining-room)) in
+        let long = puts-length (decimal n) new mid next to p in
         let behind = puts-one mid to s (omega (arith, lining-room, p .end)) in
-        let room : next + length (decimal n) ≤ length new = omega (arith, lining-room) in
-        let more = puts-then (decimal n) (s ∷ []) new mid (set mid to s) next to (to + 1) p room behind in
-        let before : at + length (l .text) ≤ length old = omega (arith, fits) in
+        let more = puts-then (decimal n) (s ∷ []) new mid (set mid to s) next to (to + 1) p behind in
         record {
           text = l .text ++ (decimal n ++ (s ∷ []));
-          puts =
-              puts-then (l .text) (decimal n ++ (s ∷ [])) old new (set mid to s) at next (to + 1) (l .puts) before more;
+          puts = puts-then (l .text) (decimal n ++ (s ∷ [])) old new (set mid to s) at next (to + 1) (l .puts) more;
           few = simp length-append (omega (arith, l .few));
           rest =
               l .rest

@@ -1,25 +1,25 @@
 -- Text written into a lent buffer.
-use Prim.Native.Nat.{ℕ, _+_}
-use mathlib.Core.Bool.{Bool, cond}
+use Prim.Native.Nat.{ℕ, _+_, _≤_}
+use mathlib.Core.Bool.{Bool}
 use mathlib.Core.Path.{_≡_}
-use mathlib.Core.List.{List, [], _∷_, _++_}
+use mathlib.Core.List.{List}
 use lib.Dec.{leb}
-use lib.ListN.{length, drop}
+use lib.ListN.{length}
 use Rattle.rules.specs.Numbers.{recordSize}
-use Rattle.rules.specs.Frame.{byteAt, numberAt}
-use Rattle.rules.specs.Print.{line}
-use Rattle.codec.specs.Area.{over}
+use Rattle.rules.specs.Records.{recordAt}
+use Rattle.rules.specs.Print.{recordLine}
+use Rattle.codec.specs.Area.{over, InFront}
 
--- a text stands in the buffer from `at` on, and ends at `next`
+-- a text stands in the buffer from `at` on, and ends at `next`, within it
 pub record Puts (text old new : List ℕ) (at next : ℕ) : Type 0 where
   pub bytes : new ≡ over old at text
   pub end : next ≡ at + length text
+  pub room : next ≤ length old
 
 -- where there is room, the text stands in front of the buffer and its length is returned; else nothing is written and
 -- 0 is returned
-pub record Prints (room : Bool) (text old new : List ℕ) (n : ℕ) : Type 0 where
-  pub bytes : new ≡ cond room (text ++ drop (length text) old) old
-  pub count : n ≡ cond room (length text) 0
+abbrev pub Prints : Bool → List ℕ → List ℕ → List ℕ → ℕ → Type 0
+Prints room text old new n = InFront room text old new n
 
 -- a line has at most nine numbers of at most ten digits, with a space or a line feed behind each
 abbrev pub lineSize : ℕ
@@ -33,15 +33,4 @@ hasRecord bs = leb recordSize (length bs)
 
 -- the line of the record that the first 28 bytes tell
 unfoldable pub recordText : List ℕ → List ℕ
-recordText bs =
-    line
-    (byteAt bs 0
-    ∷ byteAt bs 1
-    ∷ byteAt bs 2
-    ∷ numberAt bs 4
-    ∷ numberAt bs 8
-    ∷ numberAt bs 12
-    ∷ numberAt bs 16
-    ∷ numberAt bs 20
-    ∷ numberAt bs 24
-    ∷ [])
+recordText bs = recordLine (recordAt bs 0)

@@ -8,8 +8,8 @@ ghost use lib.ListN.{length};
 ghost use Rattle.rules.specs.Print.{decimal, line, doneLine};
 ghost use Rattle.codec.specs.Area.{over};
 ghost use Rattle.printer.specs.Text.{Puts, Prints, hasLine, hasRecord, recordText};
-use codec::byte_at;
-use codec::number_at;
+use codec::record_at;
+use rules::numbers::RECORD_SIZE;
 
 // A buffer of this size has room for any line.
 pub const LINE_SIZE: usize = 100;
@@ -64,25 +64,26 @@ pub fn record_line(bytes: &[u8], out: &mut [u8]) -> usize
     ensures { λ r. ⌜ Prints (hasRecord (now (bytes .entry)) && hasLine (now (out .entry)))
         (recordText (now (bytes .entry))) (now (out .entry)) (now (out .exit)) r ⌝ }
 {
-    if bytes.len() < 28 {
+    if bytes.len() < RECORD_SIZE {
         return 0;
     }
     if out.len() < LINE_SIZE {
         return 0;
     }
-    let kind = byte_at(bytes, 0) as u32;
-    let party = byte_at(bytes, 1) as u32;
-    let refusal = byte_at(bytes, 2) as u32;
+    let r = record_at(bytes, 0);
+    let kind = r.kind as u32;
+    let party = r.party as u32;
+    let refusal = r.refusal as u32;
     let numbers = [
         kind,
         party,
         refusal,
-        number_at(bytes, 4),
-        number_at(bytes, 8),
-        number_at(bytes, 12),
-        number_at(bytes, 16),
-        number_at(bytes, 20),
-        number_at(bytes, 24),
+        r.txn.0,
+        r.entry.0,
+        r.fields.kind,
+        r.fields.side,
+        r.fields.image,
+        r.fields.place,
     ];
     put_line(out, 0, &numbers)
 }

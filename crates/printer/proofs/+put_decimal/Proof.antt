@@ -65,4 +65,4 @@ pub +put-decimal-spec : {M : Type 1} → statement M
     let d = c .before .before .before in
     let s = d .before .before .before .before in
     let ten = d .before .before .if1 .left in
-    puts-digits _ _ _ _ (s .args .n) _ (s .fits .n .fits) ten (d .put-decimal .ensures) (c .digit2 .ensures) (s .pre .1))
+    puts-digits _ _ _ _ _ _ (s .fits .n .fits) ten (d .put-decimal .ensures) (c .digit2 .ensures) (s .pre .1))

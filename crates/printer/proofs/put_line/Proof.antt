@@ -16,7 +16,7 @@ abbrev μ-loop : tie.MeasureT-loop
 μ-loop out₀ at numbers count next₀ i₀ out next i = length numbers - i
 
 loop-holds : tie.Need-loop-holds Inv-loop μ-loop
-loop-holds c = (omega arith, lining-none _ _ _ (c .before .before .pre .0))
+loop-holds c = let p = c .before .before .pre in (omega arith, lining-none _ _ _ (p .0) (omega (arith, p .1)))
 
 -- room for a number and what stands behind it
 room : (c : tie.In-loop Inv-loop μ-loop) → c .before .loop .next + 11 ≤ length (c .before .loop .out)
@@ -52,7 +52,7 @@ add-next c =
     let d = c .before .before .before in
     let l = d .before .before .before .before in
     let s = l .before .before .before in
-    omega (arith, within d, lining-length _ _ _ _ _ _ (l .loop .inv .1) (l .loop .inv .0) (s .pre .1), s .good .0 .0)
+    omega (arith, within d, lining-length _ _ _ _ _ _ (l .loop .inv .1), s .good .0 .0)
 
 loop-again : tie.Need-loop-again Inv-loop μ-loop
 loop-again c =
@@ -66,9 +66,7 @@ loop-again c =
     )
 
 same-length : tie.Need-same-length Inv-loop μ-loop
-same-length c =
-    let l = c .before in
-    lining-length _ _ _ _ _ _ (l .loop .inv .1) (l .loop .inv .0) (l .before .before .before .pre .1)
+same-length c = lining-length _ _ _ _ _ _ (c .before .loop .inv .1)
 
 returns : tie.Need-returns Inv-loop μ-loop
 returns c = lining-done _ _ _ _ _ _ (c .before .loop .inv .1) (c .loop-test .left)
@@ -76,18 +74,6 @@ returns c = lining-done _ _ _ _ _ _ (c .before .loop .inv .1) (c .loop-test .lef
 pub put-line-spec : {M : Type 1} → statement M
 put-line-spec =
     tie.close
-    (tie.spec
-    Inv-loop
-    μ-loop
-    loop-holds
-    mul-put-decimal
-    (λ c. search needs)
-    put-decimal-requires
-    (λ c. search needs)
-    (λ c κs. search needs)
-    slice-write-out
-    add-next
-    (λ c. search needs)
-    loop-again
-    same-length
-    returns)
+    (tie.spec Inv-loop μ-loop loop-holds mul-put-decimal (λ c. search needs) put-decimal-requires
+    (λ c. search needs) (λ c κs. search needs) slice-write-out add-next (λ c. search needs) loop-again
+    same-length returns)
