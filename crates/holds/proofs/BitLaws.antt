@@ -9,8 +9,11 @@ use lib.Dec.{eqb, ltb}
 use lib.Count.{ones, onesIn, trailingZeros}
 use Rattle.rules.specs.Template.{bit}
 use Rattle.rules.specs.Holds.{dropReader}
+use Rattle.rules.specs.Numbers.{maxTxns}
+use Rattle.words.specs.Rows.{byteValues}
+use Rattle.holds.specs.Live.{noSlot}
 use Rattle.holds.specs.Sweep.{dropAt}
-use Rattle.rules.proofs.StepCases.{and-left, and-right}
+use Rattle.rules.proofs.BoolLaws.{and-left, and-right}
 
 abbrev allBelow : ℕ → (ℕ → Bool) → Bool
 allBelow zero f = true
@@ -27,21 +30,22 @@ all-at (suc n) f e k h = go (decLt k n) (λ l. all-at n f (and-right (f n) (allB
 
 -- a holder that is not there can be added within the eight bits
 room : ℕ → ℕ → Bool
-room x p = bit p x || ltb (x + 2 ^ p) 256
+room x p = bit p x || ltb (x + 2 ^ p) byteValues
 
-room-table : allBelow 256 (λ x. allBelow 8 (λ p. room x p)) ≡ true
+room-table : allBelow byteValues (λ x. allBelow maxTxns (λ p. room x p)) ≡ true
 unfolding room bit
 room-table = refl
 
-pub add-fits : (x p : ℕ) → x < 256 → p < 8 → bit p x ≡ false → x + 2 ^ p < 256
+pub add-fits : (x p : ℕ) → x < byteValues → p < maxTxns → bit p x ≡ false → x + 2 ^ p < byteValues
 unfolding room
 add-fits x p hx hp e =
-    let t : room x p ≡ true = all-at 8 (room x) (all-at 256 (λ y. allBelow 8 (room y)) room-table x hx) p hp in
-    ltb-true (x + 2 ^ p) 256 (rw e at t)
+    let t : room x p ≡ true = all-at maxTxns (room x)
+    (all-at byteValues (λ y. allBelow maxTxns (room y)) room-table x hx) p hp in
+    ltb-true (x + 2 ^ p) byteValues (rw e at t)
 
 -- no bit but p: none, or one, at p
 abbrev pub freeBut : ℕ → ℕ → Bool
-freeBut p x = eqb (ones x) 0 || eqb (ones x) 1 && eqb (trailingZeros 8 x) p
+freeBut p x = eqb (ones x) 0 || eqb (ones x) 1 && eqb (trailingZeros maxTxns x) p
 
 sameBool : Bool → Bool → Bool
 sameBool true b = b
@@ -50,7 +54,7 @@ sameBool false b = not b
 free : ℕ → ℕ → Bool
 free x p = sameBool (freeBut p x) (eqb (dropAt p x) 0)
 
-free-table : allBelow 256 (λ x. allBelow 9 (λ p. free x p)) ≡ true
+free-table : allBelow byteValues (λ x. allBelow (suc noSlot) (λ p. free x p)) ≡ true
 unfolding free sameBool dropReader bit ones onesIn trailingZeros
 free-table = refl
 
@@ -61,7 +65,8 @@ same-bool true false e = sym e
 same-bool false true e = e
 same-bool false false e = refl
 
-pub free-but : (p x : ℕ) → x < 256 → p ≤ 8 → freeBut p x ≡ eqb (dropAt p x) 0
+pub free-but : (p x : ℕ) → x < byteValues → p ≤ noSlot → freeBut p x ≡ eqb (dropAt p x) 0
 unfolding free
 free-but p x hx hp =
-    same-bool _ _ (all-at 9 (free x) (all-at 256 (λ y. allBelow 9 (free y)) free-table x hx) p (omega arith))
+    same-bool _ _ (all-at (suc noSlot) (free x)
+    (all-at byteValues (λ y. allBelow (suc noSlot) (free y)) free-table x hx) p (omega arith))

@@ -1,5 +1,5 @@
 -- A pass over the entries, row by row.
-use Prim.Native.Nat.{ℕ, zero, suc, _+_, _*_, _<_}
+use Prim.Native.Nat.{ℕ, zero, suc, _+_, _<_}
 use mathlib.Core.Bool.{Bool, true, false, cond, not}
 use mathlib.Core.Logic.{⊎-elim}
 use mathlib.Core.Path.{_≡_, refl, sym, ap, _∙_, subst}
@@ -7,91 +7,88 @@ use mathlib.Core.List.{List}
 use native.Mathlib.Omega.{arith}
 use native.Mathlib.Numerals.{add-one}
 use lib.Dec.{eqb}
-use lib.ListN.{length, getD, set}
+use lib.ListN.{length, set}
 use Rattle.rules.specs.declared.Entry.{Entry}
 use Rattle.rules.specs.declared.EntryId.{EntryId}
 use Rattle.rules.specs.declared.TxnId.{TxnId}
-use Rattle.rules.proofs.StepCases.{cond-cases}
+use Rattle.rules.proofs.BoolLaws.{cond-cases}
 use Rattle.rules.specs.Template.{bit}
 use Rattle.rules.specs.Holds.{dropReader}
 use Rattle.rules.specs.Transactions.{privateTo, takenBy}
 use Rattle.holds.specs.declared.sweep.Sweep.{Sweep}
 use Rattle.holds.specs.declared.sweep.Sweep.the-variants.{Expire, Commit, Abort, Remove, Mark}
-use Rattle.rules.specs.Words.{row, untilOf, untilWord, entryOf, entryFrom, entryWords, entryCount, entries, view}
-use Rattle.holds.specs.Sweep.{dropAt, releasedAt, heldAt, markedAt, keeps, changes, KeptAt, OthersBefore, Still, sweepModel}
-use Rattle.words.proofs.CompactLaws.{Compacting, compact-start, compact-passed, compact-same, compact-kept, compact-done}
-use Rattle.words.proofs.Tables.{entryTable, view-entries, until-back, entry-row, Storable, entry-back}
+use Rattle.rules.specs.Words.{row, entryOf, entryWords, entryCount, entryCountAt, entries, view}
+use Rattle.rules.specs.Numbers.{maxEntries}
+use Rattle.rules.specs.State.{holding}
+use Rattle.words.specs.Rows.{entryRow, byteValues}
+use Rattle.holds.specs.Live.{noSlot}
+use Rattle.holds.specs.Sweep.{dropAt, releasedAt, markedAt, keeps, changes, KeptAt, OthersBefore, Still}
+use Rattle.holds.specs.Sweep.{sweepModel}
+use Rattle.words.proofs.CompactLaws.{Compacting, compact-start, compact-same, compact-put, compact-done}
+use Rattle.words.proofs.Tables.{entryTable, view-entries, Storable, held-fits, entry-back}
 use Rattle.rules.specs.Words.{entriesAt, entryWidth, spaceWords}
 
--- a change leaves the end, so the row can hold it
-change-end : (s : Sweep) (e : Entry) → changes s e .end ≡ e .end
-unfolding releasedAt markedAt heldAt
-change-end (Expire clock) e = refl
-change-end (Commit t p) e = refl
-change-end (Abort t p) e = refl
-change-end (Remove n) e = refl
-change-end (Mark n takes t p) e =
-    cond-cases (λ (x : Entry). x .end ≡ e .end) (eqb (e .id .0) (n .0))
-    (λ h. cond-cases (λ (x : Entry). x .end ≡ e .end) (eqb (e .«private_to» .0) (t .0)) (λ k. refl) (λ k. refl))
-    (λ h. refl)
+-- a change leaves all but the holders, so the row can hold it
+abbrev asHeld : Entry → Entry → Entry
+asHeld e x = holding e (x .«private_to») (x .«taken_by») (x .readers)
 
-storable : (s : Sweep) (ws : List ℕ) (o : ℕ) (e x : Entry) → e ≡ entryFrom ws o → x ≡ changes s e → x .readers < 256 → Storable x
-storable s ws o e x r c l =
-    let same : x .end ≡ untilOf (getD ws (o + 5) 0) = ap (λ (y : Entry). y .end) c ∙ change-end s e ∙ ap (λ (y : Entry). y .end) r in
-    record { readers-fit = l; end-fits = ap (λ u. untilOf (untilWord u)) same ∙ ap untilOf (until-back (getD ws (o + 5) 0)) ∙ sym same }
+changed : (s : Sweep) (e : Entry) → changes s e ≡ asHeld e (changes s e)
+unfolding releasedAt markedAt
+changed (Expire clock) e = refl
+changed (Commit t p) e = refl
+changed (Abort t p) e = refl
+changed (Remove n) e = refl
+changed (Mark n takes t p) e =
+    cond-cases (λ x. x ≡ asHeld e x) (eqb (e .id .0) (n .0))
+    (λ h. cond-cases (λ x. x ≡ asHeld e x) (privateTo (t .0) e) (λ k. refl) (λ k. refl)) (λ h. refl)
+
+storable : (s : Sweep) (r : List ℕ) → changes s (entryOf r) .readers < byteValues → Storable (changes s (entryOf r))
+storable s r l = subst Storable (sym (changed s (entryOf r))) (held-fits r _ _ _ l)
 
 -- the first i entries are gone through, and the n that are kept stand in front
 abbrev pub Sweeping : Sweep → List ℕ → List ℕ → ℕ → ℕ → Type 0
 Sweeping s ws₀ ws i n = Compacting entryTable (keeps s) (changes s) ws₀ ws i n
 
-pub sweep-start : (s : Sweep) (ws : List ℕ) → Sweeping s ws ws 0 0
-sweep-start s ws = compact-start entryTable (keeps s) (changes s) ws
-
-module _ (s : Sweep) (ws₀ ws : List ℕ) (i n : ℕ) (w : Sweeping s ws₀ ws i n) (l : length ws₀ ≡ spaceWords) (h : i < 64) (e : Entry) (r : e ≡ entryFrom ws (entriesAt + entryWidth * i)) where
-  read-is : entryOf (row entriesAt entryWidth ws i) ≡ e
-  read-is = entry-row ws i ∙ sym r
-
-  pub sweep-passed : keeps s e ≡ false → Sweeping s ws₀ ws (i + 1) n
-  sweep-passed t = compact-passed entryTable (keeps s) (changes s) ws₀ ws i n w (ap (keeps s) read-is ∙ t)
-
-  -- a kept entry stays as it is, or is written
-  pub sweep-kept : (ws′ : List ℕ) → KeptAt s e i n ws ws′ → keeps s e ≡ true → Sweeping s ws₀ ws′ (i + 1) (n + 1)
-  sweep-kept ws′ k t =
-      ⊎-elim
-      (λ a. subst (λ v. Sweeping s ws₀ v (i + 1) (n + 1)) (sym (a .2))
-      (compact-same entryTable (keeps s) (changes s) ws₀ ws i n w (a .0) (ap (changes s) read-is ∙ a .1 ∙ sym read-is) (ap (keeps s) read-is ∙ t)))
-      (λ a. subst (λ v. Sweeping s ws₀ v (i + 1) (n + 1)) (sym (a .1))
-      (compact-kept entryTable (keeps s) (changes s) ws₀ ws i n w h (omega arith) (entryWords (changes s e)) refl
-      (entry-back (changes s e) (storable s ws (entriesAt + entryWidth * i) e (changes s e) r refl (a .0)) ∙ ap (changes s) (sym read-is)) (ap (keeps s) read-is ∙ t)))
-      k
+-- a kept entry stays as it is, or is put
+pub sweep-kept : (s : Sweep) {ws₀ ws ws′ : List ℕ} {i n : ℕ} {e : Entry} → Sweeping s ws₀ ws i n
+    → length ws₀ ≡ spaceWords → i < maxEntries → e ≡ entryRow ws i
+    → keeps s e ≡ true → KeptAt s e i n ws ws′ → Sweeping s ws₀ ws′ (i + 1) (n + 1)
+sweep-kept s {ws₀} {ws} {ws′} {i} {n} {e} w l h r t k =
+    ⊎-elim
+    (λ a. subst (λ v. Sweeping s ws₀ v (i + 1) (n + 1)) (sym (a .2)) (compact-same w r t (a .0) (a .1)))
+    (λ a. compact-put w r t h (omega arith) (entryWords (changes s e)) (a .1) refl
+    (entry-back (changes s e) (subst (λ x. changes s x .readers < byteValues → Storable (changes s x)) (sym r)
+    (storable s (row entriesAt entryWidth ws i)) (a .0))))
+    k
 
 -- the rows that stay as they are are gone through
 pub sweep-still : (s : Sweep) (ws : List ℕ) (r : ℕ) → Still s ws r → Sweeping s ws ws r r
-sweep-still s ws zero h = sweep-start s ws
+sweep-still s ws zero h = compact-start
 sweep-still s ws (suc r) h =
-    let w = sweep-still s ws r (λ k l. h k (omega arith)) in
     let a = h r (omega arith) in
-    let e = entry-row ws r in
-    rw (sym (add-one r))
-    (compact-same entryTable (keeps s) (changes s) ws ws r r w refl (ap (changes s) e ∙ a .1 ∙ sym e) (ap (keeps s) e ∙ a .0))
+    rw (sym (add-one r)) (compact-same (sweep-still s ws r (λ k l. h k (omega arith))) refl (a .0) refl (a .1))
 
 -- a pass by number leaves the rows with other numbers as they are
 pub still-remove : (n : EntryId) (ws : List ℕ) (r : ℕ) → OthersBefore (n .0) ws r → Still (Remove n) ws r
 still-remove n ws r h k l = (ap not (h k l), refl)
 
-pub still-mark : (n : EntryId) (takes : Bool) (t : TxnId) (p : ℕ) (ws : List ℕ) (r : ℕ) → OthersBefore (n .0) ws r → Still (Mark n takes t p) ws r
+pub still-mark : (n : EntryId) (takes : Bool) (t : TxnId) (p : ℕ) (ws : List ℕ) (r : ℕ) → OthersBefore (n .0) ws r
+    → Still (Mark n takes t p) ws r
 still-mark n takes t p ws r h k l =
-    (refl, ap (λ b. cond b (markedAt takes t p (entryFrom ws (entriesAt + entryWidth * k))) (entryFrom ws (entriesAt + entryWidth * k))) (h k l))
+    (refl, ap (λ b. cond b (markedAt takes t p (entryRow ws k)) (entryRow ws k)) (h k l))
 
 -- the count is set, and the pass is done
-pub sweep-done : (s : Sweep) (ws₀ ws : List ℕ) (i n : ℕ) → length ws₀ ≡ spaceWords → i ≡ entryCount ws₀ → Sweeping s ws₀ ws i n → view (set ws 3 n) ≡ sweepModel s (view ws₀)
+pub sweep-done : (s : Sweep) {ws₀ ws ws′ : List ℕ} {i n : ℕ} → Sweeping s ws₀ ws i n → length ws₀ ≡ spaceWords
+    → i ≡ entryCount ws₀ → ws′ ≡ set ws entryCountAt n
+    → (view ws′ ≡ sweepModel s (view ws₀)) × (length ws′ ≡ spaceWords)
 unfolding sweepModel view entries
-sweep-done s ws₀ ws i n l e w = view-entries (set ws 3 n) ws₀ (compact-done entryTable (keeps s) (changes s) ws₀ ws i n w e (omega arith))
+sweep-done s w l e p = let d = compact-done w p e (omega arith) in (view-entries _ _ d, d .but .long ∙ l)
 
 -- a transaction that has nothing of the entry releases nothing
-pub released-same : (t p : ℕ) (e : Entry) → privateTo t e ≡ false → takenBy t e ≡ false → bit p (e .readers) ≡ false → releasedAt t p e ≡ e
+pub released-same : (t p : ℕ) (e : Entry) → privateTo t e ≡ false → takenBy t e ≡ false → bit p (e .readers) ≡ false
+    → releasedAt t p e ≡ e
 unfolding releasedAt dropReader
 released-same t p e a b d =
     let same : dropAt p (e .readers) ≡ e .readers =
-    cond-cases (λ x. x ≡ e .readers) (eqb p 8) (λ h. refl) (λ h. rw d) in
+    cond-cases (λ x. x ≡ e .readers) (eqb p noSlot) (λ h. refl) (λ h. rw d) in
     rw (a, b, same)

@@ -5,6 +5,7 @@ use mathlib.Core.List.{List}
 use mathlib.Core.Option.{Option, none, some}
 use Rattle.rules.specs.declared.Txn.{Txn}
 use Rattle.rules.specs.Holds.{liveTxn}
+use Rattle.rules.specs.Numbers.{maxTxns}
 use Rattle.holds.specs.declared.live.Live.{Live}
 use Rattle.holds.specs.declared.live.Live.the-variants.{At, None}
 use Rattle.rules.specs.Words.{view}
@@ -13,9 +14,9 @@ abbrev pub liveOf : Live → Option Txn
 liveOf (At t) = some t
 liveOf None = none
 
--- in place of a slot, which is below 8: there is none
+-- no slot, as a number: slots are below it
 abbrev pub noSlot : ℕ
-noSlot = 8
+noSlot = maxTxns
 
 -- its slot among the read holders
 abbrev pub slotOf : Option Txn → ℕ

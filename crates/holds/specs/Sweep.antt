@@ -1,5 +1,5 @@
 -- What a pass over the entries does: which it keeps, and how it changes those.
-use Prim.Native.Nat.{ℕ, _+_, _*_, _<_}
+use Prim.Native.Nat.{ℕ, _<_}
 use mathlib.Core.Bool.{Bool, true, false, not, cond}
 use mathlib.Core.Logic.{_⊎_}
 use mathlib.Core.Path.{_≡_}
@@ -11,13 +11,12 @@ use Rattle.rules.specs.Lists.{filterb}
 use Rattle.rules.specs.Time.{reached}
 use Rattle.rules.specs.State.{Model, withEntries}
 use Rattle.rules.specs.Holds.{addReader, dropReader}
-use Rattle.rules.specs.Transactions.{noTxn, privateTo, takenBy}
-use Rattle.rules.specs.Words.{entryFrom}
-use Rattle.words.specs.Rows.{putEntry}
+use Rattle.rules.specs.LookUp.{heldBy}
+use Rattle.rules.specs.Transactions.{privateTo, takenBy, releasedBy}
+use Rattle.words.specs.Rows.{entryRow, putEntry, byteValues}
 use Rattle.holds.specs.Live.{noSlot}
 use Rattle.holds.specs.declared.sweep.Sweep.{Sweep}
 use Rattle.holds.specs.declared.sweep.Sweep.the-variants.{Expire, Commit, Abort, Remove, Mark}
-use Rattle.rules.specs.Words.{entriesAt, entryWidth}
 
 -- read holders with the one at slot p added, unless p is none
 abbrev pub addAt : ℕ → ℕ → ℕ
@@ -29,31 +28,12 @@ dropAt p readers = cond (eqb p noSlot) readers (dropReader p readers)
 
 -- an entry that is t's own no longer and that t, at slot p, holds no longer
 unfoldable pub releasedAt : ℕ → ℕ → Entry → Entry
-releasedAt t p e =
-    record {
-      id = e .id;
-      fields = e .fields;
-      end = e .end;
-      «private_to» = cond (privateTo t e) noTxn (e .«private_to»);
-      «taken_by» = cond (takenBy t e) noTxn (e .«taken_by»);
-      readers = dropAt p (e .readers);
-    }
+releasedAt t p e = releasedBy (dropAt p) t e
 
--- with the hold of the transaction t at slot p
-unfoldable pub heldAt : Bool → TxnId → ℕ → Entry → Entry
-heldAt takes t p e =
-    record {
-      id = e .id;
-      fields = e .fields;
-      end = e .end;
-      «private_to» = e .«private_to»;
-      «taken_by» = cond takes t (e .«taken_by»);
-      readers = cond takes (dropAt p (e .readers)) (addAt p (e .readers));
-    }
-
--- as it stays when it is handed out: a transaction's own private entry, or a committed one outside transactions, gets no mark
+-- as it stays when it is handed out to a look-up of the transaction t, at slot p: t's own private entry, or a committed
+-- one outside transactions, gets no mark
 unfoldable pub markedAt : Bool → TxnId → ℕ → Entry → Entry
-markedAt takes t p e = cond (eqb (e .«private_to» .0) (t .0)) e (heldAt takes t p e)
+markedAt takes t p e = cond (privateTo (t .0) e) e (heldBy (addAt p) (dropAt p) takes t e)
 
 abbrev pub keeps : Sweep → Entry → Bool
 keeps (Expire clock) e = not (reached clock (e .end))
@@ -81,16 +61,16 @@ slotIn (Mark n takes t p) = p
 abbrev pub KeptAt : Sweep → Entry → ℕ → ℕ → List ℕ → List ℕ → Type 0
 KeptAt s e i n ws ws′ =
     ((n ≡ i) × (changes s e ≡ e) × (ws′ ≡ ws))
-    ⊎ ((changes s e .readers < 256) × (ws′ ≡ putEntry ws (entriesAt + entryWidth * n) (changes s e)))
+    ⊎ ((changes s e .readers < byteValues) × (ws′ ≡ putEntry ws n (changes s e)))
 
 -- no row before r has an entry with the number
 abbrev pub OthersBefore : ℕ → List ℕ → ℕ → Type 0
-OthersBefore n ws r = (k : ℕ) → k < r → eqb (entryFrom ws (entriesAt + entryWidth * k) .id .0) n ≡ false
+OthersBefore n ws r = (k : ℕ) → k < r → eqb (entryRow ws k .id .0) n ≡ false
 
 -- every row before r is kept, as it is
 abbrev pub Still : Sweep → List ℕ → ℕ → Type 0
 Still s ws r =
-    (k : ℕ) → k < r → (keeps s (entryFrom ws (entriesAt + entryWidth * k)) ≡ true) × (changes s (entryFrom ws (entriesAt + entryWidth * k)) ≡ entryFrom ws (entriesAt + entryWidth * k))
+    (k : ℕ) → k < r → (keeps s (entryRow ws k) ≡ true) × (changes s (entryRow ws k) ≡ entryRow ws k)
 
 abbrev pub swept : Sweep → List Entry → List Entry
 swept s es = map (changes s) (filterb (keeps s) es)

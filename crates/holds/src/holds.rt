@@ -2,9 +2,9 @@
 ghost use mathlib.Core.Path.{_≡_};
 ghost use Prim.Native.Nat.{_^_, _≤_};
 ghost use Rattle.rules.specs.Template.{bit, agrees, matches};
-ghost use Rattle.rules.specs.Holds.{isOther};
+ghost use Rattle.rules.specs.Holds.{isOther, othersIf};
 ghost use Rattle.holds.specs.Live.{noSlot};
-ghost use Rattle.holds.specs.HandOut.{availableAt, othersAt, conflictsAt};
+ghost use Rattle.holds.specs.AtSlot.{readAt, availableAt, conflictsAt};
 ghost use mathlib.Core.Bool.{not, _&&_, _||_};
 ghost use lib.Dec.{eqb};
 ghost use Rattle.holds.specs.Sweep.{addAt, dropAt};
@@ -16,7 +16,7 @@ use rules::TxnId;
 
 // Two to the p, for a bit of a byte or the first above it.
 pub(crate) fn power(p: u8) -> u32
-    requires { ⌜ p ≤ 8 ⌝ }
+    requires { ⌜ p ≤ noSlot ⌝ }
     ensures { λ r. ⌜ r ≡ 2 ^ p ⌝ }
 {
     1 << p
@@ -24,7 +24,7 @@ pub(crate) fn power(p: u8) -> u32
 
 // Whether bit p of x is 1.
 pub(crate) fn has_bit(x: u8, p: u8) -> bool
-    requires { ⌜ p ≤ 8 ⌝ }
+    requires { ⌜ p ≤ noSlot ⌝ }
     ensures { λ r. ⌜ r ≡ bit p x ⌝ }
 {
     let b = power(p);
@@ -68,10 +68,10 @@ pub(crate) fn add_reader(x: u8, p: u8) -> u8
 
 // Whether the template asks nothing of the field at bit p, or the two are equal.
 pub(crate) fn field_agrees(mask: u8, p: u8, want: u32, have: u32) -> bool
-    requires { ⌜ p ≤ 8 ⌝ }
+    requires { ⌜ p ≤ noSlot ⌝ }
     ensures { λ r. ⌜ r ≡ agrees (bit p mask) want have ⌝ }
 {
-    if has_bit(mask, p) { want == have } else { true }
+    !has_bit(mask, p) | (want == have)
 }
 
 pub(crate) fn fields_match(mask: u8, want: Fields, have: Fields) -> bool
@@ -109,15 +109,7 @@ pub(crate) fn free_but(x: u8, p: u8) -> bool
 pub(crate) fn is_visible(private_to: TxnId, taken_by: TxnId, t: TxnId) -> bool
     ensures { λ r. ⌜ r ≡ (eqb («taken_by» .0) 0 && (eqb («private_to» .0) 0 || eqb («private_to» .0) (t .0))) ⌝ }
 {
-    if taken_by.0 == 0 {
-        if private_to.0 == 0 {
-            true
-        } else {
-            private_to.0 == t.0
-        }
-    } else {
-        false
-    }
+    (taken_by.0 == 0) & ((private_to.0 == 0) | (private_to.0 == t.0))
 }
 
 // Whether a read hold of another than the transaction at slot p bars the look-up.
@@ -153,29 +145,23 @@ pub fn is_available(e: Entry, w: LookUp, p: u8) -> bool
 pub(crate) fn is_other(t: TxnId, n: TxnId) -> bool
     ensures { λ r. ⌜ r ≡ isOther (t .0) (n .0) ⌝ }
 {
-    if n.0 == 0 { false } else { n.0 != t.0 }
+    (n.0 != 0) & (n.0 != t.0)
 }
 
-// Whether another transaction than the look-up's has the entry: it is private to it, take-held by it, or (for a take) read-held.
+// Whether another transaction than the look-up's has the entry: it is private to it, take-held by it, or (for a take)
+// read-held.
 pub(crate) fn is_others(e: Entry, w: LookUp, p: u8) -> bool
     requires { ⌜ p ≤ noSlot ⌝ }
-    ensures { λ r. ⌜ r ≡ othersAt p w e ⌝ }
+    ensures { λ r. ⌜ r ≡ othersIf (readAt p e) w e ⌝ }
 {
     let txn = w.txn;
     let private_to = e.private_to;
-    if is_other(txn, private_to) {
-        return true;
-    }
     let taken_by = e.taken_by;
-    if is_other(txn, taken_by) {
-        return true;
-    }
-    let takes = w.takes;
-    let readers = e.readers;
-    is_barred(takes, readers, p)
+    is_other(txn, private_to) | is_other(txn, taken_by) | is_barred(w.takes, e.readers, p)
 }
 
-// Whether the entry conflicts with the look-up. Where another transaction has it, it is not available: that needs no test.
+// Whether the entry conflicts with the look-up. Where another transaction has it, it is not available: that needs no
+// test.
 pub(crate) fn is_conflicting(e: Entry, w: LookUp, p: u8) -> bool
     requires { ⌜ p ≤ noSlot ⌝ }
     ensures { λ r. ⌜ r ≡ conflictsAt p w e ⌝ }

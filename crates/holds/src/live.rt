@@ -8,14 +8,15 @@ ghost use Rattle.rules.specs.Holds.{liveTxn};
 ghost use Rattle.rules.specs.Transactions.{withoutTxn};
 use rules::Txn;
 use rules::TxnId;
-use words::rows::TXN_COUNT;
+use rules::numbers::MAX_TXNS;
 use words::rows::Words;
 use words::rows::move_txn;
+use words::rows::set_txn_count;
 use words::rows::txn_at;
 use words::rows::txn_count;
 
-// In place of a slot, which is below 8: there is none.
-pub(crate) const NO_SLOT: u8 = 8;
+// No slot, as a number: slots are below it.
+pub(crate) const NO_SLOT: u8 = MAX_TXNS as u8;
 
 // A live transaction, or none.
 pub enum Live {
@@ -52,18 +53,21 @@ pub fn slot_of(space: &Words, id: TxnId) -> u8
 
 // The transaction is live no longer.
 pub(crate) fn remove_txn(space: &mut Words, id: TxnId)
-    ensures { λ _. ⌜ view (now (space .exit)) ≡ withTxns (withoutTxn (id .0) (view (now (space .entry)) .txns)) (view (now (space .entry))) ⌝ }
+    ensures { λ _. ⌜ view (now (space .exit))
+        ≡ withTxns (withoutTxn (id .0) (view (now (space .entry)) .txns)) (view (now (space .entry))) ⌝ }
 {
     let count = txn_count(space);
     let mut i: usize = 0;
     let mut n: usize = 0;
     while i < count {
         let t = txn_at(space, i);
-        if t.id.0 != id.0 {
-            move_txn(space, i, n);
-            n += 1;
+        if t.id.0 == id.0 {
+            i += 1;
+            continue;
         }
+        move_txn(space, i, n);
+        n += 1;
         i += 1;
     }
-    space[TXN_COUNT] = n as u32;
+    set_txn_count(space, n);
 }

@@ -6,12 +6,13 @@ ghost use Rattle.rules.specs.Numbers.{maxEntries};
 ghost use Rattle.rules.specs.Tick.{dropEnded};
 ghost use Rattle.rules.specs.Words.{view, spaceWords};
 ghost use Rattle.holds.specs.Live.{noSlot, slotOf};
-ghost use Rattle.holds.specs.HandOut.{handedOut};
+ghost use Rattle.holds.specs.AtSlot.{handedOut};
 ghost use Rattle.rules.specs.Holds.{liveTxn};
 ghost use mathlib.Core.Bool.{true, not, cond, _&&_, _||_};
 ghost use lib.Dec.{eqb};
 ghost use Rattle.rules.specs.Transactions.{noTxn};
-ghost use Rattle.holds.specs.Sweep.{releasedAt, markedAt, keeps, changes, slotIn, KeptAt, OthersBefore, Still, sweepModel};
+ghost use Rattle.holds.specs.Sweep.{releasedAt, markedAt, keeps, changes, slotIn};
+ghost use Rattle.holds.specs.Sweep.{KeptAt, OthersBefore, Still, sweepModel};
 use crate::holds::add_reader;
 use crate::holds::drop_reader;
 use crate::holds::has_bit;
@@ -20,13 +21,13 @@ use rules::Entry;
 use rules::EntryId;
 use rules::LookUp;
 use rules::TxnId;
-use words::rows::CLOCK;
-use words::rows::ENTRY_COUNT;
 use words::rows::Words;
+use words::rows::clock;
 use words::rows::entry_at;
 use words::rows::entry_count;
 use words::rows::entry_id;
 use words::rows::put_entry;
+use words::rows::set_entry_count;
 use words::rows::whole;
 use words::time::reached_at;
 
@@ -59,7 +60,7 @@ pub(crate) fn keeps_entry(s: Sweep, e: Entry) -> bool
     }
 }
 
-// A transaction's number, or 0 in place of t.
+// A transaction's number, but 0 for t.
 pub(crate) fn cleared(x: TxnId, t: TxnId) -> TxnId
     ensures { λ r. ⌜ r ≡ cond (eqb (x .0) (t .0)) noTxn x ⌝ }
 {
@@ -72,18 +73,11 @@ pub(crate) fn release(e: Entry, t: TxnId, p: u8) -> Entry
 {
     let private_to = cleared(e.private_to, t);
     let taken_by = cleared(e.taken_by, t);
-    let readers = drop_reader(e.readers, p);
-    let id = e.id;
-    let fields = e.fields;
-    let end = e.end;
-    Entry {
-        id,
-        fields,
-        end,
-        private_to,
-        taken_by,
-        readers,
-    }
+    let mut x = e;
+    x.private_to = private_to;
+    x.taken_by = taken_by;
+    x.readers = drop_reader(e.readers, p);
+    x
 }
 
 pub(crate) fn mark(e: Entry, takes: bool, t: TxnId, p: u8) -> Entry
@@ -93,32 +87,14 @@ pub(crate) fn mark(e: Entry, takes: bool, t: TxnId, p: u8) -> Entry
     if e.private_to.0 == t.0 {
         return e;
     }
-    let id = e.id;
-    let fields = e.fields;
-    let end = e.end;
-    let private_to = e.private_to;
+    let mut x = e;
     if takes {
-        let readers = drop_reader(e.readers, p);
-        Entry {
-            id,
-            fields,
-            end,
-            private_to,
-            taken_by: t,
-            readers,
-        }
-    } else {
-        let readers = add_reader(e.readers, p);
-        let taken_by = e.taken_by;
-        Entry {
-            id,
-            fields,
-            end,
-            private_to,
-            taken_by,
-            readers,
-        }
+        x.taken_by = t;
+        x.readers = drop_reader(e.readers, p);
+        return x;
     }
+    x.readers = add_reader(e.readers, p);
+    x
 }
 
 pub(crate) fn change_entry(s: Sweep, e: Entry) -> Entry
@@ -169,7 +145,7 @@ pub(crate) fn is_untouched(s: Sweep, e: Entry) -> bool
 }
 
 // Whether it also stays in its row.
-pub(crate) fn is_in_place(s: Sweep, e: Entry, i: usize, n: usize) -> bool
+pub(crate) fn is_unmoved(s: Sweep, e: Entry, i: usize, n: usize) -> bool
     requires { ⌜ slotIn s ≤ noSlot ⌝ }
     ensures { λ r. ⌜ (r ≡ true → (n ≡ i) × (changes s e ≡ e)) ⌝ }
 {
@@ -181,7 +157,7 @@ pub(crate) fn keep_entry(space: &mut Words, s: Sweep, e: Entry, i: usize, n: usi
     requires { ⌜ (slotIn s ≤ noSlot) × (n < maxEntries) ⌝ }
     ensures { λ _. ⌜ KeptAt s e i n (now (space .entry)) (now (space .exit)) ⌝ }
 {
-    if is_in_place(s, e, i, n) {
+    if is_unmoved(s, e, i, n) {
         return;
     }
     let x = change_entry(s, e);
@@ -217,10 +193,11 @@ pub(crate) fn first_touched(space: &Words, s: Sweep, count: usize) -> usize
     }
 }
 
-// One pass over the entries, in place.
+// One pass over the entries: those that are kept stand in front, changed.
 pub(crate) fn pass_over(space: &mut Words, s: Sweep)
     requires { ⌜ slotIn s ≤ noSlot ⌝ }
-    ensures { λ _. ⌜ (view (now (space .exit)) ≡ sweepModel s (view (now (space .entry)))) × (length (now (space .exit)) ≡ spaceWords) ⌝ }
+    ensures { λ _. ⌜ (view (now (space .exit)) ≡ sweepModel s (view (now (space .entry))))
+        × (length (now (space .exit)) ≡ spaceWords) ⌝ }
 {
     let count = entry_count(space);
     let first = first_touched(space, s, count);
@@ -234,27 +211,28 @@ pub(crate) fn pass_over(space: &mut Words, s: Sweep)
         }
         i += 1;
     }
-    space[ENTRY_COUNT] = n as u32;
+    set_entry_count(space, n);
 }
 
 // Whether handing the entry out removes it.
 pub(crate) fn is_removed(takes: bool, private_to: TxnId, t: TxnId) -> bool
     ensures { λ r. ⌜ r ≡ (takes && eqb («private_to» .0) (t .0)) ⌝ }
 {
-    if takes { private_to.0 == t.0 } else { false }
+    takes & (private_to.0 == t.0)
 }
 
 // Whether handing out leaves a mark where it does not remove: a read outside transactions leaves none.
 pub(crate) fn is_marked(takes: bool, p: u8) -> bool
     ensures { λ r. ⌜ r ≡ (takes || not (eqb p noSlot)) ⌝ }
 {
-    if takes { true } else { p != NO_SLOT }
+    takes | (p != NO_SLOT)
 }
 
 // The entry is handed out to the look-up, whose transaction has the slot p.
 pub fn hand_out(space: &mut Words, e: Entry, w: LookUp, p: u8)
     requires { ⌜ (p ≤ noSlot) × (p ≡ slotOf (liveTxn (w .txn .0) (view (now space) .txns))) ⌝ }
-    ensures { λ _. ⌜ (view (now (space .exit)) ≡ handedOut w e (view (now (space .entry)))) × (length (now (space .exit)) ≡ spaceWords) ⌝ }
+    ensures { λ _. ⌜ (view (now (space .exit)) ≡ handedOut w e (view (now (space .entry))))
+        × (length (now (space .exit)) ≡ spaceWords) ⌝ }
 {
     let id = e.id;
     let private_to = e.private_to;
@@ -275,6 +253,6 @@ pub fn hand_out(space: &mut Words, e: Entry, w: LookUp, p: u8)
 pub fn drop_ended(space: &mut Words)
     ensures { λ _. ⌜ view (now (space .exit)) ≡ dropEnded (view (now (space .entry))) ⌝ }
 {
-    let clock = space[CLOCK];
-    pass_over(space, Sweep::Expire(clock));
+    let now = clock(space);
+    pass_over(space, Sweep::Expire(now));
 }

@@ -12,10 +12,10 @@ ghost use Rattle.holds.specs.Txns.{Creatable};
 use crate::live::NO_SLOT;
 use rules::Txn;
 use rules::TxnId;
-use words::rows::CLOCK;
-use words::rows::NEXT_TXN;
 use words::rows::Words;
 use words::rows::add_txn;
+use words::rows::clock;
+use words::rows::next_txn;
 use words::rows::set_next_txn;
 use words::rows::txn_at;
 use words::rows::txn_count;
@@ -54,12 +54,13 @@ pub(crate) fn free_slot(space: &Words) -> u8
 // A transaction of the party's is made, with the next number and a free slot.
 pub fn create_txn(space: &mut Words, party: u8, lease: u32) -> TxnId
     requires { ⌜ Creatable (view (now space)) lease ⌝ }
-    ensures made { λ _. ⌜ view (now (space .exit)) ≡ create (view (now (space .entry))) (frameOf (Create party lease)) .model ⌝ }
+    ensures made { λ _. ⌜ view (now (space .exit))
+        ≡ create (view (now (space .entry))) (frameOf (Create party lease)) .model ⌝ }
     ensures numbered { λ r. ⌜ r .0 ≡ view (now (space .entry)) .nextTxn ⌝ }
 {
-    let clock = space[CLOCK];
-    let n = space[NEXT_TXN];
-    let end = end_of(clock, lease);
+    let now = clock(space);
+    let n = next_txn(space);
+    let end = end_of(now, lease);
     let slot = free_slot(space);
     let id = TxnId(n);
     add_txn(

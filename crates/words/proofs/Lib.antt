@@ -1,6 +1,6 @@
 -- Laws that the proofs of several functions cite.
 pub mod RowLaws
-pub mod TableLaws
+pub mod UpToLaws
 pub mod Table
 pub mod CompactLaws
 pub mod Tables

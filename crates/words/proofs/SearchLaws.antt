@@ -45,7 +45,8 @@ module _ {A : Type 0} (p : A → Bool) where
       head-pick y [] = refl
       head-pick y (z ∷ zs) = refl
 
-      go : (b : Bool) → pick 0 (filterb p xs) ≡ findb p xs → pick 0 (cond b (x ∷ filterb p xs) (filterb p xs)) ≡ cond b (some x) (findb p xs)
+      go : (b : Bool) → pick 0 (filterb p xs) ≡ findb p xs
+          → pick 0 (cond b (x ∷ filterb p xs) (filterb p xs)) ≡ cond b (some x) (findb p xs)
       go true e = head-pick x (filterb p xs)
       go false e = e
 

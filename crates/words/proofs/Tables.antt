@@ -1,111 +1,109 @@
 -- The three tables of a space: how a row is read and what it can hold, and the model once one of them is written.
-use Prim.Native.Nat.{ℕ, _+_, _*_, _<_}
-use mathlib.Core.Bool.{Bool, true, false}
-use mathlib.Core.Path.{_≡_, refl, sym}
+use Prim.Native.Nat.{ℕ, _<_}
+use mathlib.Core.Bool.{Bool, true, false, cond}
+use mathlib.Core.Path.{_≡_, refl, sym, ap, _∙_}
 use mathlib.Core.List.{List}
 use native.Mathlib.Omega.{arith}
 use native.Mathlib.Nat.{mod-eq-of-lt}
 use borrow.Author.Tests.{eqb-true}
 use lib.Dec.{eqb, lit<}
-use lib.ListN.{length, set}
+use lib.ListN.{length, getD, set}
 use lib.Seq.{getD-set-same}
 use Rattle.rules.specs.declared.Entry.{Entry}
 use Rattle.rules.specs.declared.LookUp.{LookUp}
 use Rattle.rules.specs.declared.Txn.{Txn}
-use Rattle.rules.proofs.StepCases.{cond-cases}
-use Rattle.rules.specs.Frame.{isTake, isIfExists}
+use Rattle.rules.specs.declared.TxnId.{TxnId}
+use Rattle.rules.proofs.BoolLaws.{cond-cases}
+use Rattle.rules.specs.Frame.{isTake, isIfExists, lookUpOp}
 use Rattle.rules.specs.Numbers.{forever, maxEntries, maxTxns, maxWaits}
-use Rattle.rules.specs.State.{withEntries, withTxns, withWaits, withClock, withNextEntry, withNextTxn}
-use Rattle.rules.specs.Words.{row, untilOf, untilWord, entryCount, txnCount, waitCount, entryFrom, txnFrom, waitFrom, entryWords, txnWords, opWord, waitWords, entryOf, txnOf, waitOf, entries, txns, waits, view}
+use Rattle.rules.specs.State.{Model, holding, withEntries, withTxns, withWaits, withClock, withNextEntry, withNextTxn}
+use Rattle.rules.specs.Words.{untilOf, untilWord, entryWords, txnWords, waitWords, entryOf, txnOf, waitOf, entries}
+use Rattle.rules.specs.Words.{txns, waits, view}
+use Rattle.rules.specs.Words.{clockAt, nextEntryAt, nextTxnAt, entryCountAt, txnCountAt, waitCountAt, entryCount}
+use Rattle.rules.specs.Words.{txnCount, waitCount}
 use Rattle.rules.specs.Words.{entriesAt, entryWidth, txnsAt, txnWidth, waitsAt, waitWidth, spaceWords}
-use Rattle.words.specs.Rows.{FitsWord}
-use Rattle.words.proofs.RowLaws.{upTo-ext, row-word, row-first, but-set, word-kept}
+use Rattle.words.specs.Rows.{entryRow, txnRow, waitRow, FitsWord, byteValues}
+use Rattle.words.proofs.RowLaws.{But, but-set, clear, word-kept}
 use Rattle.words.proofs.SearchLaws.{Rows}
-use Rattle.words.proofs.Table.{Table, kept, Turned, length-all}
+use Rattle.words.proofs.Table.{Table, tableOf, all, apart, kept, Turned, length-all}
 
 abbrev pub entryTable : Table Entry
-entryTable = record { base = entriesAt; width = entryWidth; most = maxEntries; place = 3; read = entryOf; ahead = lit< tt }
+entryTable = tableOf entriesAt entryWidth maxEntries entryCountAt entryOf (lit< tt)
 
 abbrev pub txnTable : Table Txn
-txnTable = record { base = txnsAt; width = txnWidth; most = maxTxns; place = 4; read = txnOf; ahead = lit< tt }
+txnTable = tableOf txnsAt txnWidth maxTxns txnCountAt txnOf (lit< tt)
 
 abbrev pub waitTable : Table LookUp
-waitTable = record { base = waitsAt; width = waitWidth; most = maxWaits; place = 5; read = waitOf; ahead = lit< tt }
+waitTable = tableOf waitsAt waitWidth maxWaits waitCountAt waitOf (lit< tt)
 
--- ---- the model is the tables, and the rest of it is the same once one of them is written
+-- ---- the model is the numbers and the tables: once words differ, each that has none of them is as it was
+module _ {c lo hi : ℕ} {ws ws₀ : List ℕ} (b : But c lo hi ws ws₀) where
+  number : (k : ℕ) → getD ws k 0 ≡ cond (clear c lo hi k) (getD ws₀ k 0) (getD ws k 0)
+  number k = cond-cases (λ x. getD ws k 0 ≡ x) (clear c lo hi k) (λ e. word-kept b k e) (λ e. refl)
+
+  rows : {A : Type 0} (t : Table A) → all t ws ≡ cond (apart t c lo hi) (all t ws₀) (all t ws)
+  rows t = cond-cases (λ x. all t ws ≡ x) (apart t c lo hi) (λ e. kept t b e) (λ e. refl)
+
+  abbrev seen : Model
+  seen =
+      record {
+        clock = cond (clear c lo hi clockAt) (view ws₀ .clock) (getD ws clockAt 0);
+        nextEntry = cond (clear c lo hi nextEntryAt) (view ws₀ .nextEntry) (getD ws nextEntryAt 0);
+        nextTxn = cond (clear c lo hi nextTxnAt) (view ws₀ .nextTxn) (getD ws nextTxnAt 0);
+        entries = cond (apart entryTable c lo hi) (view ws₀ .entries) (all entryTable ws);
+        txns = cond (apart txnTable c lo hi) (view ws₀ .txns) (all txnTable ws);
+        waits = cond (apart waitTable c lo hi) (view ws₀ .waits) (all waitTable ws);
+      }
+
+  view-but : view ws ≡ seen
+  unfolding view entries txns waits
+  view-but =
+      λ i. record {
+        clock = number clockAt i;
+        nextEntry = number nextEntryAt i;
+        nextTxn = number nextTxnAt i;
+        entries = rows entryTable i;
+        txns = rows txnTable i;
+        waits = rows waitTable i;
+      }
+
+-- so only what is written is told anew
 module _ (ws ws₀ : List ℕ) where
   pub view-entries : {xs : List Entry} → Turned entryTable ws ws₀ xs → view ws ≡ withEntries xs (view ws₀)
-  unfolding view entries txns waits
-  view-entries h =
-      let b = h .but in
-      rw (h .now, kept txnTable b refl, kept waitTable b refl, word-kept b 0 refl, word-kept b 1 refl, word-kept b 2 refl)
+  view-entries h = view-but (h .but) ∙ ap (λ xs. withEntries xs (view ws₀)) (h .now)
 
   pub view-txns : {xs : List Txn} → Turned txnTable ws ws₀ xs → view ws ≡ withTxns xs (view ws₀)
-  unfolding view entries txns waits
-  view-txns h =
-      let b = h .but in
-      rw (h .now, kept entryTable b refl, kept waitTable b refl, word-kept b 0 refl, word-kept b 1 refl, word-kept b 2 refl)
+  view-txns h = view-but (h .but) ∙ ap (λ xs. withTxns xs (view ws₀)) (h .now)
 
   pub view-waits : {xs : List LookUp} → Turned waitTable ws ws₀ xs → view ws ≡ withWaits xs (view ws₀)
-  unfolding view entries txns waits
-  view-waits h =
-      let b = h .but in
-      rw (h .now, kept entryTable b refl, kept txnTable b refl, word-kept b 0 refl, word-kept b 1 refl, word-kept b 2 refl)
+  view-waits h = view-but (h .but) ∙ ap (λ xs. withWaits xs (view ws₀)) (h .now)
 
--- the clock and the next numbers
 module _ (ws : List ℕ) (v : ℕ) (l : length ws ≡ spaceWords) where
-  pub view-clock : view (set ws 0 v) ≡ withClock v (view ws)
-  unfolding view entries txns waits
-  view-clock =
-      let b = but-set 0 0 0 ws v in
-      rw (kept entryTable b refl, kept txnTable b refl, kept waitTable b refl, getD-set-same ws 0 v 0 (omega arith), word-kept b 1 refl, word-kept b 2 refl)
+  new : (k : ℕ) → k < entriesAt → getD (set ws k v) k 0 ≡ v
+  new k h = getD-set-same ws k v 0 (omega arith)
 
-  pub view-next-entry : view (set ws 1 v) ≡ withNextEntry v (view ws)
-  unfolding view entries txns waits
+  pub view-clock : view (set ws clockAt v) ≡ withClock v (view ws)
+  view-clock = view-but (but-set clockAt 0 0 ws v) ∙ ap (λ n. withClock n (view ws)) (new clockAt (lit< tt))
+
+  pub view-next-entry : view (set ws nextEntryAt v) ≡ withNextEntry v (view ws)
   view-next-entry =
-      let b = but-set 1 0 0 ws v in
-      rw (kept entryTable b refl, kept txnTable b refl, kept waitTable b refl, word-kept b 0 refl, getD-set-same ws 1 v 0 (omega arith), word-kept b 2 refl)
+      view-but (but-set nextEntryAt 0 0 ws v) ∙ ap (λ n. withNextEntry n (view ws)) (new nextEntryAt (lit< tt))
 
-  pub view-next-txn : view (set ws 2 v) ≡ withNextTxn v (view ws)
-  unfolding view entries txns waits
-  view-next-txn =
-      let b = but-set 2 0 0 ws v in
-      rw (kept entryTable b refl, kept txnTable b refl, kept waitTable b refl, word-kept b 0 refl, word-kept b 1 refl, getD-set-same ws 2 v 0 (omega arith))
+  pub view-next-txn : view (set ws nextTxnAt v) ≡ withNextTxn v (view ws)
+  view-next-txn = view-but (but-set nextTxnAt 0 0 ws v) ∙ ap (λ n. withNextTxn n (view ws)) (new nextTxnAt (lit< tt))
 
--- ---- a row as the code reads it
-pub entry-row : (ws : List ℕ) (k : ℕ) → entryOf (row entriesAt entryWidth ws k) ≡ entryFrom ws (entriesAt + entryWidth * k)
-unfolding entryOf
-entry-row ws k = simp (row-first entriesAt entryWidth k ws, row-word entriesAt entryWidth k)
-
-pub txn-row : (ws : List ℕ) (k : ℕ) → txnOf (row txnsAt txnWidth ws k) ≡ txnFrom ws (txnsAt + txnWidth * k)
-unfolding txnOf
-txn-row ws k = simp (row-first txnsAt txnWidth k ws, row-word txnsAt txnWidth k)
-
-pub wait-row : (ws : List ℕ) (k : ℕ) → waitOf (row waitsAt waitWidth ws k) ≡ waitFrom ws (waitsAt + waitWidth * k)
-unfolding waitOf
-wait-row ws k = simp (row-first waitsAt waitWidth k ws, row-word waitsAt waitWidth k)
-
--- and the tables as it reads them
-abbrev pub entryRow : List ℕ → ℕ → Entry
-entryRow ws k = entryFrom ws (entriesAt + entryWidth * k)
-
-abbrev pub txnRow : List ℕ → ℕ → Txn
-txnRow ws k = txnFrom ws (txnsAt + txnWidth * k)
-
-abbrev pub waitRow : List ℕ → ℕ → LookUp
-waitRow ws k = waitFrom ws (waitsAt + waitWidth * k)
-
+-- ---- the tables as the code reads them
 pub entries-read : (ws : List ℕ) → Rows (view ws .entries) (entryRow ws) (entryCount ws)
 unfolding view entries
-entries-read ws = record { is = upTo-ext _ _ (entryCount ws) (λ k l. entry-row ws k) }
+entries-read ws = record { is = refl }
 
 pub txns-read : (ws : List ℕ) → Rows (view ws .txns) (txnRow ws) (txnCount ws)
 unfolding view txns
-txns-read ws = record { is = upTo-ext _ _ (txnCount ws) (λ k l. txn-row ws k) }
+txns-read ws = record { is = refl }
 
 pub waits-read : (ws : List ℕ) → Rows (view ws .waits) (waitRow ws) (waitCount ws)
 unfolding view waits
-waits-read ws = record { is = upTo-ext _ _ (waitCount ws) (λ k l. wait-row ws k) }
+waits-read ws = record { is = refl }
 
 pub length-entries : (ws : List ℕ) → length (view ws .entries) ≡ entryCount ws
 unfolding view entries
@@ -121,20 +119,26 @@ length-waits ws = length-all waitTable ws
 
 -- ---- what a row can hold is read back
 -- an end that was read from a word is written as that word
-pub until-back : (n : ℕ) → untilWord (untilOf n) ≡ n
+until-back : (n : ℕ) → untilWord (untilOf n) ≡ n
 unfolding untilOf
 until-back n = cond-cases (λ u. untilWord u ≡ n) (eqb n forever) (λ e. sym (eqb-true n forever e)) (λ e. refl)
 
 pub record Storable (e : Entry) : Type 0 where
-  pub readers-fit : e .readers < 256
+  pub readers-fit : e .readers < byteValues
   pub end-fits : FitsWord (e .end)
+
+-- and so is an entry that was read from one, with other holders
+pub held-fits : (r : List ℕ) (owner taker : TxnId) (holders : ℕ) → holders < byteValues
+    → Storable (holding (entryOf r) owner taker holders)
+unfolding entryOf
+held-fits r owner taker holders h = record { readers-fit = h; end-fits = ap untilOf (until-back _) }
 
 pub entry-back : (e : Entry) → Storable e → entryOf (entryWords e) ≡ e
 unfolding entryOf
 entry-back e s = rw (s .end-fits, mod-eq-of-lt (s .readers-fit))
 
 pub record Txnable (t : Txn) : Type 0 where
-  pub party-fits : t .party < 256
+  pub party-fits : t .party < byteValues
   pub slot-fits : t .slot < maxTxns
   pub end-fits : FitsWord (t .end)
 
@@ -143,11 +147,11 @@ unfolding txnOf
 txn-back t s = rw (s .end-fits, mod-eq-of-lt (s .party-fits), mod-eq-of-lt (s .slot-fits))
 
 pub record Waitable (w : LookUp) : Type 0 where
-  pub party-fits : w .party < 256
-  pub mask-fits : w .mask < 256
+  pub party-fits : w .party < byteValues
+  pub mask-fits : w .mask < byteValues
   pub deadline-fits : FitsWord (w .deadline)
 
-op-back : (t i : Bool) → (isTake (opWord t i) ≡ t) × (isIfExists (opWord t i) ≡ i)
+op-back : (t i : Bool) → (isTake (lookUpOp t i) ≡ t) × (isIfExists (lookUpOp t i) ≡ i)
 op-back true true = (refl, refl)
 op-back true false = (refl, refl)
 op-back false true = (refl, refl)
@@ -156,4 +160,5 @@ op-back false false = (refl, refl)
 pub wait-back : (w : LookUp) → Waitable w → waitOf (waitWords w) ≡ w
 unfolding waitOf
 wait-back w s =
-    let o = op-back (w .takes) (w .«if_exists») in rw (s .deadline-fits, mod-eq-of-lt (s .party-fits), mod-eq-of-lt (s .mask-fits), o .0, o .1)
+    let o = op-back (w .takes) (w .«if_exists») in
+    rw (s .deadline-fits, mod-eq-of-lt (s .party-fits), mod-eq-of-lt (s .mask-fits), o .0, o .1)

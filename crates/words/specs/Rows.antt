@@ -1,48 +1,53 @@
--- Rows written over: the words of a space after a row is put or moved.
-use Prim.Native.Nat.{ℕ, zero, suc, _+_}
+-- The rows of a space as the code reads them, its words after a row is put or moved, and the words of an empty space.
+use Prim.Native.Nat.{ℕ, zero, suc, _+_, _-_, _*_}
 use mathlib.Core.Path.{_≡_}
 use mathlib.Core.List.{List, [], _∷_}
-use lib.ListN.{getD, set}
+use lib.ListN.{take, drop}
+use lib.Seq.{sets}
 use Rattle.rules.specs.declared.Entry.{Entry}
 use Rattle.rules.specs.declared.LookUp.{LookUp}
 use Rattle.rules.specs.declared.Txn.{Txn}
 use Rattle.rules.specs.declared.Until.{Until}
-use Rattle.rules.specs.Words.{untilOf, untilWord, entryWords, txnWords, waitWords, txnWidth, waitWidth}
+use Rattle.rules.specs.Words.{row, untilOf, untilWord, entryOf, txnOf, waitOf, entryWords}
+use Rattle.rules.specs.Words.{entriesAt, entryWidth, txnsAt, txnWidth, waitsAt, waitWidth, spaceWords}
 
--- words stored one by one from the offset o on, and the n words from there
-abbrev pub stores : List ℕ → ℕ → ℕ → List ℕ → List ℕ
-stores ws o k [] = ws
-stores ws o k (x ∷ r) = stores (set ws (o + k) x) o (k + 1) r
+-- row k of each table, read
+abbrev pub entryRow : List ℕ → ℕ → Entry
+entryRow ws k = entryOf (row entriesAt entryWidth ws k)
 
-abbrev pub store : List ℕ → ℕ → List ℕ → List ℕ
-store ws o [] = ws
-store ws o (x ∷ r) = stores (set ws o x) o 1 r
+abbrev pub txnRow : List ℕ → ℕ → Txn
+txnRow ws k = txnOf (row txnsAt txnWidth ws k)
 
-abbrev pub reads : List ℕ → ℕ → ℕ → ℕ → List ℕ
-reads ws o k zero = []
-reads ws o k (suc n) = getD ws (o + k) 0 ∷ reads ws o (k + 1) n
+abbrev pub waitRow : List ℕ → ℕ → LookUp
+waitRow ws k = waitOf (row waitsAt waitWidth ws k)
 
-abbrev pub wordsAt : List ℕ → ℕ → ℕ → List ℕ
-wordsAt ws o zero = []
-wordsAt ws o (suc n) = getD ws o 0 ∷ reads ws o 1 n
-
--- a row stored from the offset o on
+-- the words once an entry is put in row k
 abbrev pub putEntry : List ℕ → ℕ → Entry → List ℕ
-putEntry ws o e = store ws o (entryWords e)
+putEntry ws k e = sets ws (entriesAt + entryWidth * k) (entryWords e)
 
-abbrev pub putTxn : List ℕ → ℕ → Txn → List ℕ
-putTxn ws o t = store ws o (txnWords t)
+-- once the n words from the offset f on also stand from t on
+abbrev pub moveWords : List ℕ → ℕ → ℕ → ℕ → List ℕ
+moveWords ws f t n = sets ws t (take n (drop f ws))
 
-abbrev pub putWait : List ℕ → ℕ → LookUp → List ℕ
-putWait ws o w = store ws o (waitWords w)
-
--- the transaction, and the look-up, at the offset `from` also stands at `to`
+-- and once row `from` also stands at row `to`
 abbrev pub moveTxn : List ℕ → ℕ → ℕ → List ℕ
-moveTxn ws from to = store ws to (wordsAt ws from txnWidth)
+moveTxn ws from to = moveWords ws (txnsAt + txnWidth * from) (txnsAt + txnWidth * to) txnWidth
 
-abbrev pub moveRow : List ℕ → ℕ → ℕ → List ℕ
-moveRow ws from to = store ws to (wordsAt ws from waitWidth)
+abbrev pub moveWait : List ℕ → ℕ → ℕ → List ℕ
+moveWait ws from to = moveWords ws (waitsAt + waitWidth * from) (waitsAt + waitWidth * to) waitWidth
+
+-- how many values a byte has
+abbrev pub byteValues : ℕ
+byteValues = 256
 
 -- an end that a word can hold: no tick at FOREVER
 abbrev pub FitsWord : Until → Type 0
 FitsWord u = untilOf (untilWord u) ≡ u
+
+-- an empty space: 1 as both next numbers, and 0 elsewhere
+abbrev pub zeros : ℕ → List ℕ
+zeros zero = []
+zeros (suc n) = 0 ∷ zeros n
+
+unfoldable pub emptyWords : List ℕ
+emptyWords = 0 ∷ 1 ∷ 1 ∷ zeros (spaceWords - 3)

@@ -1,15 +1,17 @@
-// The words of a space: where each table stands, and its rows read, put, moved and appended. Only this module knows offsets.
+// The words of a space: where each number and table stands, and its rows read, put, moved and appended. Only this
+// module knows offsets.
 ghost use mathlib.Core.Path.{_≡_};
-ghost use Prim.Native.Nat.{_+_, _*_, _<_};
-ghost use lib.ListN.{length, getD};
+ghost use Prim.Native.Nat.{_+_, _*_, _≤_, _<_};
+ghost use lib.ListN.{length, set};
+ghost use lib.Seq.{sets};
 ghost use mathlib.Core.List.{[], _∷_, _++_};
+ghost use Rattle.rules.specs.Frame.{isTake, isIfExists, lookUpOp};
 ghost use Rattle.rules.specs.Numbers.{maxEntries, maxTxns, maxWaits};
-ghost use Rattle.rules.specs.State.{withEntries, withTxns, withWaits, withClock, withNextEntry, withNextTxn};
-ghost use Rattle.rules.specs.Words.{untilOf, untilWord, entryFrom, txnFrom, waitFrom, entryCount, txnCount, waitCount};
-ghost use Rattle.words.specs.Rows.{putEntry, moveRow, putWait, putTxn, FitsWord, moveTxn};
-ghost use Rattle.rules.specs.Words.{view, opWord};
-ghost use Rattle.rules.specs.Words.{entriesAt, entryWidth, txnsAt, txnWidth, waitsAt, waitWidth, spaceWords};
-ghost use Rattle.rules.specs.Frame.{isTake, isIfExists};
+ghost use Rattle.rules.specs.State.{empty, withEntries, withTxns, withWaits, withClock, withNextEntry, withNextTxn};
+ghost use Rattle.rules.specs.Words.{untilOf, untilWord, entryCount, txnCount, waitCount, view, spaceWords};
+ghost use Rattle.rules.specs.Words.{entryCountAt, txnCountAt, waitCountAt};
+ghost use Rattle.words.specs.Rows.{entryRow, txnRow, waitRow, putEntry, moveWords, moveTxn, moveWait};
+ghost use Rattle.words.specs.Rows.{FitsWord, emptyWords};
 use rules::Entry;
 use rules::EntryId;
 use rules::Fields;
@@ -17,47 +19,172 @@ use rules::LookUp;
 use rules::Txn;
 use rules::TxnId;
 use rules::Until;
+use rules::numbers::FOREVER;
+use rules::numbers::MAX_ENTRIES;
+use rules::numbers::MAX_TXNS;
+use rules::numbers::MAX_WAITS;
+use rules::numbers::OP_READ;
+use rules::numbers::OP_READ_IF_EXISTS;
+use rules::numbers::OP_TAKE;
+use rules::numbers::OP_TAKE_IF_EXISTS;
 
-// How many words a space has, and where its numbers and counts stand.
-pub const WORDS: usize = WAITS + WAIT_WORDS * MAX_WAITS;
+// How many words a space has.
+pub const WORDS: usize = WAITS_AT + WAIT_WIDTH * MAX_WAITS;
 
 pub type Words = [u32; WORDS];
 
-pub const CLOCK: usize = 0;
+// Where the clock, the next numbers and the counts of rows stand.
+const CLOCK_AT: usize = 0;
 
-pub const NEXT_ENTRY: usize = 1;
+const NEXT_ENTRY_AT: usize = 1;
 
-pub const NEXT_TXN: usize = 2;
+const NEXT_TXN_AT: usize = 2;
 
-pub const ENTRY_COUNT: usize = 3;
+const ENTRY_COUNT_AT: usize = 3;
 
-pub const TXN_COUNT: usize = 4;
+const TXN_COUNT_AT: usize = 4;
 
-pub const WAIT_COUNT: usize = 5;
+const WAIT_COUNT_AT: usize = 5;
 
-// The three tables: where each begins, the words of a row, and how many rows it has at most.
-pub(crate) const ENTRIES: usize = 6;
+// Where the three tables begin behind them, and the words of a row.
+const ENTRIES_AT: usize = 6;
 
-pub(crate) const ENTRY_WORDS: usize = 9;
+const ENTRY_WIDTH: usize = 9;
 
-pub const MAX_ENTRIES: usize = 64;
+const TXNS_AT: usize = ENTRIES_AT + ENTRY_WIDTH * MAX_ENTRIES;
 
-pub(crate) const TXNS: usize = ENTRIES + ENTRY_WORDS * MAX_ENTRIES;
+const TXN_WIDTH: usize = 4;
 
-pub(crate) const TXN_WORDS: usize = 4;
+const WAITS_AT: usize = TXNS_AT + TXN_WIDTH * MAX_TXNS;
 
-pub const MAX_TXNS: usize = 8;
+const WAIT_WIDTH: usize = 9;
 
-pub(crate) const WAITS: usize = TXNS + TXN_WORDS * MAX_TXNS;
+// How many values a byte has: a word that stands for one is read by its remainder.
+const BYTE_VALUES: u32 = 256;
 
-pub(crate) const WAIT_WORDS: usize = 9;
+// How many slots there are, and the operations of look-ups, as words.
+const SLOTS: u32 = MAX_TXNS as u32;
 
-pub const MAX_WAITS: usize = 16;
+const READ: u32 = OP_READ as u32;
 
-// An end that is never reached, as a word; and the last value of the clock.
-pub const FOREVER: u32 = 4294967295;
+const TAKE: u32 = OP_TAKE as u32;
 
-pub const LAST_CLOCK: u32 = 4294967294;
+const READ_IF_EXISTS: u32 = OP_READ_IF_EXISTS as u32;
+
+const TAKE_IF_EXISTS: u32 = OP_TAKE_IF_EXISTS as u32;
+
+// Does nothing. A call tells the proof of what stands around it how many words there are, which it has from no index.
+pub fn whole(space: &Words)
+    ensures { λ _. ⌜ length (now (space .entry)) ≡ spaceWords ⌝ }
+{
+    let all = &space[..];
+    all.len();
+}
+
+// An empty space: clock 0, nothing stored, live or waiting, and 1 as both next numbers.
+pub fn set_empty(space: &mut Words)
+    ensures { λ _. ⌜ (view (now (space .exit)) ≡ empty) × (now (space .exit) ≡ emptyWords) ⌝ }
+{
+    *space = [0; WORDS];
+    space[NEXT_ENTRY_AT] = 1;
+    space[NEXT_TXN_AT] = 1;
+}
+
+pub fn clock(space: &Words) -> u32
+    ensures { λ r. ⌜ r ≡ view (now (space .entry)) .clock ⌝ }
+{
+    space[CLOCK_AT]
+}
+
+pub fn set_clock(space: &mut Words, t: u32)
+    ensures { λ _. ⌜ view (now (space .exit)) ≡ withClock t (view (now (space .entry))) ⌝ }
+{
+    whole(space);
+    space[CLOCK_AT] = t;
+}
+
+pub fn next_entry(space: &Words) -> u32
+    ensures { λ r. ⌜ r ≡ view (now (space .entry)) .nextEntry ⌝ }
+{
+    space[NEXT_ENTRY_AT]
+}
+
+pub fn set_next_entry(space: &mut Words, n: u32)
+    ensures { λ _. ⌜ view (now (space .exit)) ≡ withNextEntry n (view (now (space .entry))) ⌝ }
+{
+    whole(space);
+    space[NEXT_ENTRY_AT] = n;
+}
+
+pub fn next_txn(space: &Words) -> u32
+    ensures { λ r. ⌜ r ≡ view (now (space .entry)) .nextTxn ⌝ }
+{
+    space[NEXT_TXN_AT]
+}
+
+pub fn set_next_txn(space: &mut Words, n: u32)
+    ensures { λ _. ⌜ view (now (space .exit)) ≡ withNextTxn n (view (now (space .entry))) ⌝ }
+{
+    whole(space);
+    space[NEXT_TXN_AT] = n;
+}
+
+pub fn entry_count(space: &Words) -> usize
+    ensures { λ r. ⌜ (r ≡ entryCount (now (space .entry))) × (length (now (space .entry)) ≡ spaceWords) ⌝ }
+{
+    let all = &space[..];
+    let n = all[ENTRY_COUNT_AT];
+    if n < MAX_ENTRIES as u32 {
+        n as usize
+    } else {
+        MAX_ENTRIES
+    }
+}
+
+pub fn set_entry_count(space: &mut Words, n: usize)
+    requires { ⌜ n ≤ maxEntries ⌝ }
+    ensures { λ _. ⌜ now (space .exit) ≡ set (now (space .entry)) entryCountAt n ⌝ }
+{
+    space[ENTRY_COUNT_AT] = n as u32;
+}
+
+pub fn txn_count(space: &Words) -> usize
+    ensures { λ r. ⌜ (r ≡ txnCount (now (space .entry))) × (length (now (space .entry)) ≡ spaceWords) ⌝ }
+{
+    let all = &space[..];
+    let n = all[TXN_COUNT_AT];
+    if n < MAX_TXNS as u32 {
+        n as usize
+    } else {
+        MAX_TXNS
+    }
+}
+
+pub fn set_txn_count(space: &mut Words, n: usize)
+    requires { ⌜ n ≤ maxTxns ⌝ }
+    ensures { λ _. ⌜ now (space .exit) ≡ set (now (space .entry)) txnCountAt n ⌝ }
+{
+    space[TXN_COUNT_AT] = n as u32;
+}
+
+pub fn wait_count(space: &Words) -> usize
+    ensures { λ r. ⌜ (r ≡ waitCount (now (space .entry))) × (length (now (space .entry)) ≡ spaceWords) ⌝ }
+{
+    let all = &space[..];
+    let n = all[WAIT_COUNT_AT];
+    if n < MAX_WAITS as u32 {
+        n as usize
+    } else {
+        MAX_WAITS
+    }
+}
+
+pub fn set_wait_count(space: &mut Words, n: usize)
+    requires { ⌜ n ≤ maxWaits ⌝ }
+    ensures { λ _. ⌜ now (space .exit) ≡ set (now (space .entry)) waitCountAt n ⌝ }
+{
+    space[WAIT_COUNT_AT] = n as u32;
+}
 
 pub(crate) fn until_of(n: u32) -> Until
     ensures { λ r. ⌜ r ≡ untilOf n ⌝ }
@@ -78,274 +205,225 @@ pub(crate) fn until_word(u: Until) -> u32
     }
 }
 
-// Does nothing. A call tells the proof of what stands around it how many words there are, which it has from no index.
-pub fn whole(space: &Words)
-    ensures { λ _. ⌜ length (now (space .entry)) ≡ spaceWords ⌝ }
+// The words r stand from the offset o on.
+pub(crate) fn put_words(space: &mut Words, o: usize, r: &[u32])
+    requires { ⌜ o + length (now r) ≤ spaceWords ⌝ }
+    ensures { λ _. ⌜ now (space .exit) ≡ sets (now (space .entry)) o (now (r .entry)) ⌝ }
 {
-    let all = &space[..];
-    all.len();
+    let n = r.len();
+    let mut k: usize = 0;
+    while k < n {
+        space[o + k] = r[k];
+        k += 1;
+    }
 }
 
-pub fn entry_count(space: &Words) -> usize
-    ensures { λ r. ⌜ (r ≡ entryCount (now (space .entry))) × (length (now (space .entry)) ≡ spaceWords) ⌝ }
+// The n words from the offset f on also stand from t on. Words that stay are not written.
+pub(crate) fn move_words(space: &mut Words, f: usize, t: usize, n: usize)
+    requires { ⌜ (f + n ≤ spaceWords) × (t ≤ f) ⌝ }
+    ensures { λ _. ⌜ now (space .exit) ≡ moveWords (now (space .entry)) f t n ⌝ }
 {
-    let all = &space[..];
-    let n = all[ENTRY_COUNT];
-    if n < 64 { n as usize } else { 64 }
+    whole(space);
+    if f == t {
+        return;
+    }
+    let mut k: usize = 0;
+    while k < n {
+        space[t + k] = space[f + k];
+        k += 1;
+    }
 }
 
 pub fn entry_at(space: &Words, i: usize) -> Entry
     requires { ⌜ i < maxEntries ⌝ }
-    ensures { λ r. ⌜ r ≡ entryFrom (now (space .entry)) (entriesAt + entryWidth * i) ⌝ }
+    ensures { λ r. ⌜ r ≡ entryRow (now (space .entry)) i ⌝ }
 {
-    let o = ENTRIES + ENTRY_WORDS * i;
-    let end = until_of(space[o + 5]);
-    let readers = (space[o + 8] % 256) as u8;
+    let o = ENTRIES_AT + ENTRY_WIDTH * i;
+    let e = o + ENTRY_WIDTH;
+    let all = &space[..];
+    let r = &all[o..e];
+    let end = until_of(r[5]);
     Entry {
-        id: EntryId(space[o]),
+        id: EntryId(r[0]),
         fields: Fields {
-            kind: space[o + 1],
-            side: space[o + 2],
-            image: space[o + 3],
-            place: space[o + 4],
+            kind: r[1],
+            side: r[2],
+            image: r[3],
+            place: r[4],
         },
         end,
-        private_to: TxnId(space[o + 6]),
-        taken_by: TxnId(space[o + 7]),
-        readers,
+        private_to: TxnId(r[6]),
+        taken_by: TxnId(r[7]),
+        readers: (r[8] % BYTE_VALUES) as u8,
     }
 }
 
 // The number of the entry in row i: the one word that a search by number reads.
 pub fn entry_id(space: &Words, i: usize) -> u32
     requires { ⌜ i < maxEntries ⌝ }
-    ensures { λ r. ⌜ r ≡ entryFrom (now (space .entry)) (entriesAt + entryWidth * i) .id .0 ⌝ }
+    ensures { λ r. ⌜ r ≡ entryRow (now (space .entry)) i .id .0 ⌝ }
 {
-    space[ENTRIES + ENTRY_WORDS * i]
+    space[ENTRIES_AT + ENTRY_WIDTH * i]
 }
 
 pub fn put_entry(space: &mut Words, i: usize, e: Entry)
     requires { ⌜ i < maxEntries ⌝ }
-    ensures { λ _. ⌜ now (space .exit) ≡ putEntry (now (space .entry)) (entriesAt + entryWidth * i) e ⌝ }
+    ensures { λ _. ⌜ now (space .exit) ≡ putEntry (now (space .entry)) i e ⌝ }
 {
-    let o = ENTRIES + ENTRY_WORDS * i;
     let end = e.end;
     let end = until_word(end);
-    space[o] = e.id.0;
-    space[o + 1] = e.fields.kind;
-    space[o + 2] = e.fields.side;
-    space[o + 3] = e.fields.image;
-    space[o + 4] = e.fields.place;
-    space[o + 5] = end;
-    space[o + 6] = e.private_to.0;
-    space[o + 7] = e.taken_by.0;
-    space[o + 8] = e.readers as u32;
-}
-
-pub fn txn_count(space: &Words) -> usize
-    ensures { λ r. ⌜ (r ≡ txnCount (now (space .entry))) × (length (now (space .entry)) ≡ spaceWords) ⌝ }
-{
-    let all = &space[..];
-    let n = all[TXN_COUNT];
-    if n < 8 { n as usize } else { 8 }
-}
-
-pub fn wait_count(space: &Words) -> usize
-    ensures { λ r. ⌜ (r ≡ waitCount (now (space .entry))) × (length (now (space .entry)) ≡ spaceWords) ⌝ }
-{
-    let all = &space[..];
-    let n = all[WAIT_COUNT];
-    if n < 16 { n as usize } else { 16 }
-}
-
-pub fn txn_at(space: &Words, i: usize) -> Txn
-    requires { ⌜ i < maxTxns ⌝ }
-    ensures { λ r. ⌜ r ≡ txnFrom (now (space .entry)) (txnsAt + txnWidth * i) ⌝ }
-{
-    let o = TXNS + TXN_WORDS * i;
-    let end = until_of(space[o + 2]);
-    Txn {
-        id: TxnId(space[o]),
-        party: (space[o + 1] % 256) as u8,
+    let r = [
+        e.id.0,
+        e.fields.kind,
+        e.fields.side,
+        e.fields.image,
+        e.fields.place,
         end,
-        slot: (space[o + 3] % 8) as u8,
-    }
-}
-
-pub fn is_take(op: u32) -> bool
-    ensures { λ r. ⌜ r ≡ isTake op ⌝ }
-{
-    op == 3 || op == 5
-}
-
-pub fn is_if_exists(op: u32) -> bool
-    ensures { λ r. ⌜ r ≡ isIfExists op ⌝ }
-{
-    op == 4 || op == 5
-}
-
-pub fn wait_at(space: &Words, i: usize) -> LookUp
-    requires { ⌜ i < maxWaits ⌝ }
-    ensures { λ r. ⌜ r ≡ waitFrom (now (space .entry)) (waitsAt + waitWidth * i) ⌝ }
-{
-    let o = WAITS + WAIT_WORDS * i;
-    let op = space[o + 1];
-    let takes = is_take(op);
-    let if_exists = is_if_exists(op);
-    let deadline = until_of(space[o + 8]);
-    LookUp {
-        party: (space[o] % 256) as u8,
-        takes,
-        if_exists,
-        mask: (space[o + 2] % 256) as u8,
-        fields: Fields {
-            kind: space[o + 3],
-            side: space[o + 4],
-            image: space[o + 5],
-            place: space[o + 6],
-        },
-        txn: TxnId(space[o + 7]),
-        deadline,
-    }
-}
-
-// Row `from` of the waiting look-ups also stands at row `to`.
-pub fn move_wait(space: &mut Words, from: usize, to: usize)
-    requires { ⌜ (from < maxWaits) × (to < maxWaits) ⌝ }
-    ensures { λ _. ⌜ now (space .exit) ≡ moveRow (now (space .entry)) (waitsAt + waitWidth * from) (waitsAt + waitWidth * to) ⌝ }
-{
-    let f = WAITS + WAIT_WORDS * from;
-    let t = WAITS + WAIT_WORDS * to;
-    let a = space[f];
-    let b = space[f + 1];
-    let c = space[f + 2];
-    let d = space[f + 3];
-    let e = space[f + 4];
-    let g = space[f + 5];
-    let h = space[f + 6];
-    let i = space[f + 7];
-    let j = space[f + 8];
-    space[t] = a;
-    space[t + 1] = b;
-    space[t + 2] = c;
-    space[t + 3] = d;
-    space[t + 4] = e;
-    space[t + 5] = g;
-    space[t + 6] = h;
-    space[t + 7] = i;
-    space[t + 8] = j;
-}
-
-// A look-up's operation as a word.
-pub(crate) fn op_word(takes: bool, exists: bool) -> u32
-    ensures { λ r. ⌜ r ≡ opWord takes exists ⌝ }
-{
-    if takes {
-        if exists { 5 } else { 3 }
-    } else {
-        if exists { 4 } else { 2 }
-    }
-}
-
-pub(crate) fn put_wait(space: &mut Words, i: usize, w: LookUp)
-    requires { ⌜ i < maxWaits ⌝ }
-    ensures { λ _. ⌜ now (space .exit) ≡ putWait (now (space .entry)) (waitsAt + waitWidth * i) w ⌝ }
-{
-    let o = WAITS + WAIT_WORDS * i;
-    let deadline = w.deadline;
-    let end = until_word(deadline);
-    let op = op_word(w.takes, w.if_exists);
-    space[o] = w.party as u32;
-    space[o + 1] = op;
-    space[o + 2] = w.mask as u32;
-    space[o + 3] = w.fields.kind;
-    space[o + 4] = w.fields.side;
-    space[o + 5] = w.fields.image;
-    space[o + 6] = w.fields.place;
-    space[o + 7] = w.txn.0;
-    space[o + 8] = end;
+        e.private_to.0,
+        e.taken_by.0,
+        e.readers as u32,
+    ];
+    put_words(space, ENTRIES_AT + ENTRY_WIDTH * i, &r);
 }
 
 // The entry stands behind the others.
 pub fn add_entry(space: &mut Words, e: Entry)
-    requires { ⌜ (getD (now space) 3 0 < maxEntries) × FitsWord (e .end) ⌝ }
-    ensures { λ _. ⌜ view (now (space .exit)) ≡ withEntries (view (now (space .entry)) .entries ++ (e ∷ [])) (view (now (space .entry))) ⌝ }
+    requires { ⌜ (length (view (now space) .entries) < maxEntries) × FitsWord (e .end) ⌝ }
+    ensures { λ _. ⌜ view (now (space .exit))
+        ≡ withEntries (view (now (space .entry)) .entries ++ (e ∷ [])) (view (now (space .entry))) ⌝ }
 {
     let n = entry_count(space);
     put_entry(space, n, e);
-    space[ENTRY_COUNT] = (n + 1) as u32;
+    set_entry_count(space, n + 1);
 }
 
-pub(crate) fn put_txn(space: &mut Words, i: usize, t: Txn)
+pub fn txn_at(space: &Words, i: usize) -> Txn
     requires { ⌜ i < maxTxns ⌝ }
-    ensures { λ _. ⌜ now (space .exit) ≡ putTxn (now (space .entry)) (txnsAt + txnWidth * i) t ⌝ }
+    ensures { λ r. ⌜ r ≡ txnRow (now (space .entry)) i ⌝ }
 {
-    let o = TXNS + TXN_WORDS * i;
-    let end = t.end;
-    let end = until_word(end);
-    space[o] = t.id.0;
-    space[o + 1] = t.party as u32;
-    space[o + 2] = end;
-    space[o + 3] = t.slot as u32;
+    let o = TXNS_AT + TXN_WIDTH * i;
+    let e = o + TXN_WIDTH;
+    let all = &space[..];
+    let r = &all[o..e];
+    let end = until_of(r[2]);
+    Txn {
+        id: TxnId(r[0]),
+        party: (r[1] % BYTE_VALUES) as u8,
+        end,
+        slot: (r[3] % SLOTS) as u8,
+    }
 }
 
 // The transaction stands behind the others.
 pub fn add_txn(space: &mut Words, t: Txn)
-    requires { ⌜ (getD (now space) 4 0 < maxTxns) × (t .slot < maxTxns) × FitsWord (t .end) ⌝ }
-    ensures { λ _. ⌜ view (now (space .exit)) ≡ withTxns (view (now (space .entry)) .txns ++ (t ∷ [])) (view (now (space .entry))) ⌝ }
+    requires { ⌜ (length (view (now space) .txns) < maxTxns) × (t .slot < maxTxns) × FitsWord (t .end) ⌝ }
+    ensures { λ _. ⌜ view (now (space .exit))
+        ≡ withTxns (view (now (space .entry)) .txns ++ (t ∷ [])) (view (now (space .entry))) ⌝ }
 {
     let n = txn_count(space);
-    put_txn(space, n, t);
-    space[TXN_COUNT] = (n + 1) as u32;
+    let end = t.end;
+    let end = until_word(end);
+    let r = [t.id.0, t.party as u32, end, t.slot as u32];
+    put_words(space, TXNS_AT + TXN_WIDTH * n, &r);
+    set_txn_count(space, n + 1);
+}
+
+pub fn move_txn(space: &mut Words, from: usize, to: usize)
+    requires { ⌜ (from < maxTxns) × (to ≤ from) ⌝ }
+    ensures { λ _. ⌜ now (space .exit) ≡ moveTxn (now (space .entry)) from to ⌝ }
+{
+    move_words(
+        space,
+        TXNS_AT + TXN_WIDTH * from,
+        TXNS_AT + TXN_WIDTH * to,
+        TXN_WIDTH,
+    );
+}
+
+pub(crate) fn is_take(op: u32) -> bool
+    ensures { λ r. ⌜ r ≡ isTake op ⌝ }
+{
+    (op == TAKE) | (op == TAKE_IF_EXISTS)
+}
+
+pub(crate) fn is_if_exists(op: u32) -> bool
+    ensures { λ r. ⌜ r ≡ isIfExists op ⌝ }
+{
+    (op == READ_IF_EXISTS) | (op == TAKE_IF_EXISTS)
+}
+
+// A look-up's operation as a word.
+pub(crate) fn op_word(takes: bool, exists: bool) -> u32
+    ensures { λ r. ⌜ r ≡ lookUpOp takes exists ⌝ }
+{
+    if takes {
+        if exists { TAKE_IF_EXISTS } else { TAKE }
+    } else {
+        if exists { READ_IF_EXISTS } else { READ }
+    }
+}
+
+pub fn wait_at(space: &Words, i: usize) -> LookUp
+    requires { ⌜ i < maxWaits ⌝ }
+    ensures { λ r. ⌜ r ≡ waitRow (now (space .entry)) i ⌝ }
+{
+    let o = WAITS_AT + WAIT_WIDTH * i;
+    let e = o + WAIT_WIDTH;
+    let all = &space[..];
+    let r = &all[o..e];
+    let op = r[1];
+    let takes = is_take(op);
+    let if_exists = is_if_exists(op);
+    let deadline = until_of(r[8]);
+    LookUp {
+        party: (r[0] % BYTE_VALUES) as u8,
+        takes,
+        if_exists,
+        mask: (r[2] % BYTE_VALUES) as u8,
+        fields: Fields {
+            kind: r[3],
+            side: r[4],
+            image: r[5],
+            place: r[6],
+        },
+        txn: TxnId(r[7]),
+        deadline,
+    }
 }
 
 // The look-up stands behind the others.
 pub fn add_wait(space: &mut Words, w: LookUp)
-    requires { ⌜ (getD (now space) 5 0 < maxWaits) × FitsWord (w .deadline) ⌝ }
-    ensures { λ _. ⌜ view (now (space .exit)) ≡ withWaits (view (now (space .entry)) .waits ++ (w ∷ [])) (view (now (space .entry))) ⌝ }
+    requires { ⌜ (length (view (now space) .waits) < maxWaits) × FitsWord (w .deadline) ⌝ }
+    ensures { λ _. ⌜ view (now (space .exit))
+        ≡ withWaits (view (now (space .entry)) .waits ++ (w ∷ [])) (view (now (space .entry))) ⌝ }
 {
     let n = wait_count(space);
-    put_wait(space, n, w);
-    space[WAIT_COUNT] = (n + 1) as u32;
+    let op = op_word(w.takes, w.if_exists);
+    let deadline = w.deadline;
+    let end = until_word(deadline);
+    let r = [
+        w.party as u32,
+        op,
+        w.mask as u32,
+        w.fields.kind,
+        w.fields.side,
+        w.fields.image,
+        w.fields.place,
+        w.txn.0,
+        end,
+    ];
+    put_words(space, WAITS_AT + WAIT_WIDTH * n, &r);
+    set_wait_count(space, n + 1);
 }
 
-// The clock is set.
-pub fn set_clock(space: &mut Words, t: u32)
-    ensures { λ _. ⌜ view (now (space .exit)) ≡ withClock t (view (now (space .entry))) ⌝ }
+pub fn move_wait(space: &mut Words, from: usize, to: usize)
+    requires { ⌜ (from < maxWaits) × (to ≤ from) ⌝ }
+    ensures { λ _. ⌜ now (space .exit) ≡ moveWait (now (space .entry)) from to ⌝ }
 {
-    whole(space);
-    space[CLOCK] = t;
-}
-
-// The next entry's number is set.
-pub fn set_next_entry(space: &mut Words, n: u32)
-    ensures { λ _. ⌜ view (now (space .exit)) ≡ withNextEntry n (view (now (space .entry))) ⌝ }
-{
-    whole(space);
-    space[NEXT_ENTRY] = n;
-}
-
-// The next transaction's number is set.
-pub fn set_next_txn(space: &mut Words, n: u32)
-    ensures { λ _. ⌜ view (now (space .exit)) ≡ withNextTxn n (view (now (space .entry))) ⌝ }
-{
-    whole(space);
-    space[NEXT_TXN] = n;
-}
-
-// Row `from` of the transactions also stands at row `to`.
-pub fn move_txn(space: &mut Words, from: usize, to: usize)
-    requires { ⌜ (from < maxTxns) × (to < maxTxns) ⌝ }
-    ensures { λ _. ⌜ now (space .exit) ≡ moveTxn (now (space .entry)) (txnsAt + txnWidth * from) (txnsAt + txnWidth * to) ⌝ }
-{
-    let f = TXNS + TXN_WORDS * from;
-    let t = TXNS + TXN_WORDS * to;
-    let a = space[f];
-    let b = space[f + 1];
-    let c = space[f + 2];
-    let d = space[f + 3];
-    space[t] = a;
-    space[t + 1] = b;
-    space[t + 2] = c;
-    space[t + 3] = d;
+    move_words(
+        space,
+        WAITS_AT + WAIT_WIDTH * from,
+        WAITS_AT + WAIT_WIDTH * to,
+        WAIT_WIDTH,
+    );
 }

@@ -2,9 +2,9 @@
 ghost use mathlib.Core.Path.{_≡_};
 ghost use Rattle.rules.specs.Time.{until, reached};
 ghost use Rattle.words.specs.Rows.{FitsWord};
-ghost use Rattle.words.specs.Time.{InTime};
-use crate::rows::FOREVER;
+ghost use Rattle.words.specs.Ends.{InTime};
 use rules::Until;
+use rules::numbers::FOREVER;
 
 // The end of a lease or timeout that starts at the clock.
 pub fn end_of(clock: u32, lease: u32) -> Until

@@ -6,8 +6,10 @@ use Rattle.holds.proofs.endings.commit_txn.Tie as tie
 
 returns : tie.Need-returns
 returns c =
-    let a = c .before .before .before .before .before .before .args in
-    committed-model (a .space .now) (a .id) _ _ _ (c .before .before .before .before .slot-of .ensures .0) (c .before .before .pass-over .ensures .0) (c .remove-txn .ensures)
+    let b = c .before .before in
+    let a = b .before .before .before .before .args in
+    committed-model (a .space .now) (a .id) _ (b .before .before .slot-of .ensures .0) _ _ (b .pass-over .ensures .0)
+    (c .remove-txn .ensures)
 
 pub commit-txn-spec : {M : Type 1} → statement M
 commit-txn-spec =

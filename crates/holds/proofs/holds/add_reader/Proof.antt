@@ -5,6 +5,7 @@ use native.Mathlib.Omega.{arith}
 use mathlib.Core.Path.{sym, _∙_}
 use borrow.Author.Tests.{eq-eqb, ne-eqb}
 use Rattle.rules.specs.Holds.{addReader}
+use Rattle.words.specs.Rows.{byteValues}
 use Rattle.holds.proofs.BitLaws.{add-fits}
 use Rattle.holds.proofs.holds.add_reader.Statement.{statement}
 use Rattle.holds.proofs.holds.add_reader.Tie as tie
@@ -13,10 +14,8 @@ returns : tie.Need-returns
 returns c = rw (eq-eqb _ _ (c .if1 .taken))
 
 -- the sum is a byte
-added : (c : tie.After-power) → c .before .before .before .before .args .x + 2 ^ c .before .before .before .before .args .p < 256
-added c =
-    let b = sym (c .before .before .has-bit .ensures) ∙ c .before .if2 .left in
-    add-fits _ _ (omega arith) (omega arith) b
+added : (c : tie.After-power) → let a = c .before .before .before .before .args in a .x + 2 ^ a .p < byteValues
+added c = add-fits _ _ (omega arith) (omega arith) (sym (c .before .before .has-bit .ensures) ∙ c .before .if2 .left)
 
 add-result : tie.Need-add-result
 add-result c = omega (arith, c .power .ensures, added c)
@@ -30,7 +29,9 @@ returns-2 c = rw (ne-eqb _ _ (c .before .before .if1 .left), sym (c .before .has
 
 returns-3 : tie.Need-returns-3
 unfolding addReader
-returns-3 c = rw (ne-eqb _ _ (c .before .before .before .if1 .left), sym (c .before .before .has-bit .ensures) ∙ c .before .if2 .left, c .power .ensures)
+returns-3 c =
+    let free = sym (c .before .before .has-bit .ensures) ∙ c .before .if2 .left in
+    rw (ne-eqb _ _ (c .before .before .before .if1 .left), free, c .power .ensures)
 
 pub add-reader-spec : {M : Type 1} → statement M
 add-reader-spec =

@@ -19,7 +19,8 @@ sub-result c =
 returns-2 : tie.Need-returns-2
 unfolding dropReader
 returns-2 c =
-    rw (ne-eqb _ _ (c .before .before .before .if1 .left), sym (c .before .before .has-bit .ensures) ∙ c .before .if2 .taken, c .power .ensures)
+    let held = sym (c .before .before .has-bit .ensures) ∙ c .before .if2 .taken in
+    rw (ne-eqb _ _ (c .before .before .before .if1 .left), held, c .power .ensures)
 
 returns-3 : tie.Need-returns-3
 unfolding dropReader
@@ -28,4 +29,5 @@ returns-3 c = rw (ne-eqb _ _ (c .before .before .if1 .left), sym (c .before .has
 pub drop-reader-spec : {M : Type 1} → statement M
 drop-reader-spec =
     tie.close
-    (tie.spec returns (λ c κs. search needs) (λ c κs. search needs) sub-result (λ c. search needs) returns-2 returns-3)
+    (tie.spec returns (λ c κs. search needs) (λ c κs. search needs) sub-result (λ c. search needs) returns-2
+    returns-3)

@@ -7,15 +7,26 @@ use Rattle.holds.proofs.holds.fields_match.Tie as tie
 
 returns : tie.Need-returns
 unfolding matches
-returns c = rw (sym (c .before .before .before .before .before .before .field-agrees .ensures) ∙ c .before .before .if1 .taken, sym (c .before .before .before .before .before .field-agrees2 .ensures) ∙ c .before .if2 .taken, sym (c .before .before .before .before .field-agrees3 .ensures) ∙ c .if3 .taken) (c .before .before .before .field-agrees4 .ensures)
+returns c =
+    let s = c .before .before .before in
+    let kind = sym (s .before .before .before .field-agrees .ensures) ∙ c .before .before .if1 .taken in
+    let side = sym (s .before .before .field-agrees2 .ensures) ∙ c .before .if2 .taken in
+    rw (kind, side, sym (s .before .field-agrees3 .ensures) ∙ c .if3 .taken) (s .field-agrees4 .ensures)
 
 returns-2 : tie.Need-returns-2
 unfolding matches
-returns-2 c = rw (sym (c .before .before .before .before .before .before .field-agrees .ensures) ∙ c .before .before .if1 .taken, sym (c .before .before .before .before .before .field-agrees2 .ensures) ∙ c .before .if2 .taken, sym (c .before .before .before .before .field-agrees3 .ensures) ∙ c .if3 .left)
+returns-2 c =
+    let s = c .before .before .before in
+    let kind = sym (s .before .before .before .field-agrees .ensures) ∙ c .before .before .if1 .taken in
+    let side = sym (s .before .before .field-agrees2 .ensures) ∙ c .before .if2 .taken in
+    rw (kind, side, sym (s .before .field-agrees3 .ensures) ∙ c .if3 .left)
 
 returns-3 : tie.Need-returns-3
 unfolding matches
-returns-3 c = rw (sym (c .before .before .before .before .before .field-agrees .ensures) ∙ c .before .if1 .taken, sym (c .before .before .before .before .field-agrees2 .ensures) ∙ c .if2 .left)
+returns-3 c =
+    let s = c .before .before in
+    let kind = sym (s .before .before .before .field-agrees .ensures) ∙ c .before .if1 .taken in
+    rw (kind, sym (s .before .before .field-agrees2 .ensures) ∙ c .if2 .left)
 
 returns-4 : tie.Need-returns-4
 unfolding matches
@@ -24,12 +35,5 @@ returns-4 c = rw (sym (c .before .before .before .before .field-agrees .ensures)
 pub fields-match-spec : {M : Type 1} → statement M
 fields-match-spec =
     tie.close
-    (tie.spec
-    (λ c κs. search needs)
-    (λ c κs. search needs)
-    (λ c κs. search needs)
-    (λ c κs. search needs)
-    returns
-    returns-2
-    returns-3
-    returns-4)
+    (tie.spec (λ c κs. search needs) (λ c κs. search needs) (λ c κs. search needs) (λ c κs. search needs)
+    returns returns-2 returns-3 returns-4)

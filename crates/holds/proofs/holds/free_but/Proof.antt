@@ -4,6 +4,7 @@ use native.Mathlib.Omega.{arith}
 use mathlib.Core.Bool.{true, false}
 use lib.Dec.{eqb}
 use lib.Count.{trailingZeros}
+use Rattle.rules.specs.Numbers.{maxTxns}
 use mathlib.Core.Path.{_≡_, _∙_}
 use borrow.Author.Tests.{eq-eqb, ne-eqb}
 use Rattle.holds.proofs.holds.free_but.Statement.{statement}
@@ -18,7 +19,8 @@ returns c =
 returns-2 : tie.Need-returns-2
 returns-2 c =
     let a = c .before .before .args in
-    let t : eqb (trailingZeros 8 (a .x)) (a .p) ≡ freeBut (a .p) (a .x) = rw (ne-eqb _ _ (c .before .if1 .left), eq-eqb _ _ (c .if2 .taken)) in
+    let t : eqb (trailingZeros maxTxns (a .x)) (a .p) ≡ freeBut (a .p) (a .x) =
+    rw (ne-eqb _ _ (c .before .if1 .left), eq-eqb _ _ (c .if2 .taken)) in
     t ∙ free-but (a .p) (a .x) (omega arith) (omega arith)
 
 returns-3 : tie.Need-returns-3

@@ -6,7 +6,9 @@ use Rattle.holds.proofs.holds.is_conflicting.Statement.{statement}
 use Rattle.holds.proofs.holds.is_conflicting.Tie as tie
 
 returns : tie.Need-returns
-returns c = rw (others-conflict _ _ _, sym (c .before .before .fields-match .ensures) ∙ c .before .if1 .taken) (c .is-others .ensures)
+returns c =
+    let fits = sym (c .before .before .fields-match .ensures) ∙ c .before .if1 .taken in
+    rw (others-conflict _ _ _, fits) (c .is-others .ensures)
 
 returns-2 : tie.Need-returns-2
 returns-2 c = rw (others-conflict _ _ _, sym (c .before .fields-match .ensures) ∙ c .if1 .left)

@@ -3,18 +3,15 @@ use borrow.Author.Needs.{needs}
 use mathlib.Core.Path.{ap, sym, _∙_, subst}
 use Prim.Native.Nat.{_≤_}
 use lib.Dec.{lit<}
-use Rattle.holds.specs.Live.{slotOf, liveOf}
+use Rattle.holds.specs.Live.{noSlot, slotOf, liveOf}
 use Rattle.holds.proofs.live.slot_of.Statement.{statement}
 use Rattle.holds.proofs.live.slot_of.Tie as tie
-use Rattle.holds.proofs.live.slot_of.Reads as reads
-use Rattle.holds.proofs.live.slot_of.Lts as lts
-use Rattle.holds.proofs.live.find_txn.Reads as find-txn-reads
 
 returns : tie.Need-returns
 returns c =
     let f = c .before .before .before .find-txn .ensures in
     let e = c .before .live .given .1 in
-    (ap slotOf (ap liveOf (sym e) ∙ f .live), subst (λ r. slotOf (liveOf r) ≤ 8) e (f .low))
+    (ap slotOf (ap liveOf (sym e) ∙ f .live), subst (λ r. slotOf (liveOf r) ≤ noSlot) e (f .low))
 
 returns-2 : tie.Need-returns-2
 returns-2 c =
@@ -23,4 +20,5 @@ returns-2 c =
     (ap slotOf (ap liveOf (sym e) ∙ f .live), lit< tt)
 
 pub slot-of-spec : {M : Type 1} → statement M
-slot-of-spec = tie.close (tie.spec (λ c κs. search needs) (λ c. search needs) (λ c. search needs) returns returns-2)
+slot-of-spec =
+    tie.close (tie.spec (λ c κs. search needs) (λ c. search needs) (λ c. search needs) returns returns-2)

@@ -21,28 +21,20 @@ returns-4 c =
     let a = c .before .before .before .before .args in
     let s = c .before .before .s .given in
     let r = c .row-of .result in
-    (c .row-of .ensures .0, subst (λ v. Still v (a .space .now) r) (sym (s .1)) (still-remove (s .0 .0) (a .space .now) r (c .row-of .ensures .1)))
+    let still = still-remove (s .0 .0) (a .space .now) r (c .row-of .ensures .1) in
+    (c .row-of .ensures .0, subst (λ v. Still v (a .space .now) r) (sym (s .1)) still)
 
 returns-5 : tie.Need-returns-5
 returns-5 c =
     let a = c .before .before .before .before .args in
     let s = c .before .before .s2 .given in
     let r = c .row-of2 .result in
-    (c .row-of2 .ensures .0, subst (λ v. Still v (a .space .now) r) (sym (s .1)) (still-mark (s .0 .0) _ _ _ (a .space .now) r (c .row-of2 .ensures .1)))
+    let still = still-mark (s .0 .0) _ _ _ (a .space .now) r (c .row-of2 .ensures .1) in
+    (c .row-of2 .ensures .0, subst (λ v. Still v (a .space .now) r) (sym (s .1)) still)
 
 pub first-touched-spec : {M : Type 1} → statement M
 first-touched-spec =
     tie.close
-    (tie.spec
-    (λ c. search needs)
-    (λ c. search needs)
-    (λ c. search needs)
-    (λ c. search needs)
-    (λ c κs. search needs)
-    (λ c. search needs)
-    (λ c κs. search needs)
-    returns
-    returns-2
-    returns-3
-    returns-4
+    (tie.spec (λ c. search needs) (λ c. search needs) (λ c. search needs) (λ c. search needs)
+    (λ c κs. search needs) (λ c. search needs) (λ c κs. search needs) returns returns-2 returns-3 returns-4
     returns-5)

@@ -4,15 +4,16 @@ use Prim.Native.Nat.{_≤_}
 use mathlib.Core.Path.{subst}
 use borrow.Author.Tests.{not-true}
 use lib.Dec.{eqb}
+use Rattle.holds.specs.Live.{noSlot}
 use Rattle.holds.specs.Sweep.{slotIn}
 use Rattle.holds.proofs.sweep.is_untouched.Statement.{statement}
 use Rattle.holds.proofs.sweep.is_untouched.Tie as tie
 
 is-free-of-requires : tie.Need-is-free-of-requires
-is-free-of-requires c κs = subst (λ s. slotIn s ≤ 8) (c .before .s .given .1) (c .before .before .before .pre)
+is-free-of-requires c κs = subst (λ s. slotIn s ≤ noSlot) (c .before .s .given .1) (c .before .before .before .pre)
 
 is-free-of-requires-2 : tie.Need-is-free-of-requires-2
-is-free-of-requires-2 c κs = subst (λ s. slotIn s ≤ 8) (c .before .s2 .given .1) (c .before .before .before .pre)
+is-free-of-requires-2 c κs = subst (λ s. slotIn s ≤ noSlot) (c .before .s2 .given .1) (c .before .before .before .pre)
 
 returns : tie.Need-returns
 returns c = λ q. rw (c .enum-told .given .1)
@@ -34,16 +35,6 @@ returns-5 c =
 pub is-untouched-spec : {M : Type 1} → statement M
 is-untouched-spec =
     tie.close
-    (tie.spec
-    (λ c. search needs)
-    (λ c. search needs)
-    is-free-of-requires
-    (λ c. search needs)
-    is-free-of-requires-2
-    (λ c. search needs)
-    (λ c. search needs)
-    returns
-    returns-2
-    returns-3
-    returns-4
+    (tie.spec (λ c. search needs) (λ c. search needs) is-free-of-requires (λ c. search needs)
+    is-free-of-requires-2 (λ c. search needs) (λ c. search needs) returns returns-2 returns-3 returns-4
     returns-5)

@@ -1,11 +1,10 @@
--- `holds::sweep::pass_over` meets its contract. The loop's invariant: the first i entries are gone through. Assumes nothing.
+-- `holds::sweep::pass_over` meets its contract. Invariant: the first i entries are gone through. Assumes nothing.
 use Prim.Native.Nat.{_≤_, _-_, _+_}
 use mathlib.Core.Logic.{⊎-elim}
 use mathlib.Core.Path.{sym, _∙_, subst₂}
 use native.Mathlib.Omega.{arith}
-use lib.ListN.{length-set}
-use borrow.Author.Needs.{needs}
-use Rattle.holds.proofs.SweepLaws.{Sweeping, sweep-still, sweep-kept, sweep-passed, sweep-done}
+use Rattle.words.proofs.CompactLaws.{compact-passed}
+use Rattle.holds.proofs.SweepLaws.{Sweeping, sweep-still, sweep-kept, sweep-done}
 use Rattle.holds.proofs.sweep.pass_over.Statement.{statement}
 use Rattle.holds.proofs.sweep.pass_over.Tie as tie
 
@@ -21,7 +20,9 @@ loop-holds c =
     (c .first-touched .ensures .0, sweep-still (a .s) (a .space .now) _ (c .first-touched .ensures .1))
 
 keep-entry-requires : tie.Need-keep-entry-requires Inv-loop μ-loop
-keep-entry-requires c κs = (c .before .before .before .before .before .before .before .before .before .before .before .pre, omega (arith, c .before .before .before .before .before .before .loop .inv .1 .behind))
+keep-entry-requires c κs =
+    let b = c .before .before .before .before .before .before in
+    (b .before .before .before .before .before .pre, omega (arith, b .loop .inv .1 .behind))
 
 loop-again : tie.Need-loop-again Inv-loop μ-loop
 loop-again c =
@@ -33,35 +34,20 @@ loop-again c =
       omega arith,
       ⊎-elim
           (λ w. subst₂ (λ x m. Sweeping (a .s) (a .space .now) x (l .i + 1) m) (sym (w .3)) (sym (w .4))
-          (sweep-kept (a .s) (a .space .now) (l .space) (l .i) (l .n) (l .inv .1) long (omega arith) _ r _ (w .2 .ensures) (sym k ∙ w .0 .taken)))
+          (sweep-kept (a .s) (l .inv .1) long (omega arith) r (sym k ∙ w .0 .taken) (w .2 .ensures)))
           (λ w. subst₂ (λ x m. Sweeping (a .s) (a .space .now) x (l .i + 1) m) (sym (w .1)) (sym (w .2))
-          (sweep-passed (a .s) (a .space .now) (l .space) (l .i) (l .n) (l .inv .1) long (omega arith) _ r (sym k ∙ w .0 .left)))
+          (compact-passed (l .inv .1) r (sym k ∙ w .0 .left)))
           (c .if1 .came),
     )
 
 returns : tie.Need-returns Inv-loop μ-loop
 returns c =
-    let a = c .before .before .before .before .before .before .args in
-    let long = c .before .before .before .before .entry-count .ensures .1 in
-    let w = c .before .loop .inv .1 in
-    (sweep-done (a .s) _ _ (c .before .loop .i) _ long (omega arith) w, simp length-set (w .but .long ∙ long))
+    let long = c .before .before .before .before .before .before .entry-count .ensures .1 in
+    sweep-done _ (c .before .before .before .loop .inv .1) long (omega arith) (c .set-entry-count .ensures)
 
 pub pass-over-spec : {M : Type 1} → statement M
 pass-over-spec =
     tie.close
-    (tie.spec
-    Inv-loop
-    μ-loop
-    (λ c κs. tt)
-    (λ c κs. omega arith)
-    loop-holds
-    (λ c κs. omega arith)
-    (λ c κs. tt)
-    keep-entry-requires
-    (λ c. omega arith)
-    (λ c. omega arith)
-    (λ c. omega arith)
-    loop-again
-    (λ c. omega arith)
-    (λ c. search needs)
-    returns)
+    (tie.spec Inv-loop μ-loop (λ c κs. tt) (λ c κs. omega arith) loop-holds (λ c κs. omega arith) (λ c κs. tt)
+    keep-entry-requires (λ c. omega arith) (λ c. omega arith) (λ c. omega arith) loop-again
+    (λ c κs. omega (arith, c .before .before .loop .inv .1 .behind)) returns)

@@ -6,8 +6,7 @@ use Rattle.holds.proofs.sweep.release.Tie as tie
 
 returns : tie.Need-returns
 unfolding releasedAt
-returns c = rw (c .before .before .before .before .cleared .ensures, c .before .before .before .cleared2 .ensures, c .before .before .drop-reader .ensures)
+returns c = rw (c .before .before .cleared .ensures, c .before .cleared2 .ensures, c .drop-reader .ensures)
 
 pub release-spec : {M : Type 1} → statement M
-release-spec =
-    tie.close (tie.spec (λ c κs. search needs) (λ c κs. search needs) (λ c κs. search needs) returns)
+release-spec = tie.close (tie.spec (λ c κs. search needs) (λ c κs. search needs) (λ c κs. search needs) returns)

@@ -1,4 +1,4 @@
--- `holds::sweep::row_of` meets its contract. The loop's invariant: no row before i has the number. Assumes nothing.
+-- `holds::sweep::row_of` meets its contract. Invariant: no row before i has the number. Assumes nothing.
 use Prim.Native.Nat.{ℕ, _≤_, _-_}
 use mathlib.Core.Bool.{Bool}
 use mathlib.Core.Path.{refl, sym, ap, _∙_}
@@ -7,7 +7,7 @@ use native.Mathlib.Omega.{arith}
 use borrow.Author.Tests.{ne-eqb}
 use Rattle.rules.specs.declared.Entry.{Entry}
 use Rattle.words.proofs.SearchLaws.{Searching, search-start, search-more}
-use Rattle.words.proofs.Tables.{entryRow}
+use Rattle.words.specs.Rows.{entryRow}
 use Rattle.holds.proofs.sweep.row_of.Statement.{statement}
 use Rattle.holds.proofs.sweep.row_of.Tie as tie
 
@@ -19,9 +19,6 @@ Inv-loop space id count i₀ i = (i ≤ count) × Searching (hasId (id .0)) (ent
 
 abbrev μ-loop : tie.MeasureT-loop
 μ-loop space id count i₀ i = count - i
-
-loop-holds : tie.Need-loop-holds Inv-loop μ-loop
-loop-holds c = (omega arith, search-start)
 
 returns : tie.Need-returns Inv-loop μ-loop
 returns c = (omega arith, c .before .before .before .before .loop .inv .1 .passed)
@@ -39,13 +36,5 @@ returns-2 c = (omega arith, λ k h. c .before .loop .inv .1 .passed k (omega ari
 pub row-of-spec : {M : Type 1} → statement M
 row-of-spec =
     tie.close
-    (tie.spec
-    Inv-loop
-    μ-loop
-    loop-holds
-    (λ c κs. omega arith)
-    returns
-    (λ c. omega arith)
-    (λ c. omega arith)
-    loop-again
-    returns-2)
+    (tie.spec Inv-loop μ-loop (λ c. (omega arith, search-start)) (λ c κs. omega arith) returns
+    (λ c. omega arith) (λ c. omega arith) loop-again returns-2)
