@@ -1,32 +1,31 @@
-// The space: one lent array of words, and what each frame does to it.
-mod answers;
-mod apply;
-mod judge;
-mod service;
-mod step;
-mod tick;
-
+// Every function that a host may call: `rt staticlib space` gives libspace.a, and host/space.h declares them.
 ghost use mathlib.Core.Path.{_≡_};
+ghost use Rattle.rules.specs.Allowed.{Stepped, TrayRan};
 ghost use Rattle.rules.specs.State.{empty};
 ghost use Rattle.rules.specs.Words.{view};
-ghost use Rattle.rules.specs.Allowed.{Stepped};
-ghost use Rattle.space.specs.Empty.{emptyWords};
-use crate::apply::Outcome;
-use crate::step::refuse;
-use crate::step::take_frame;
-use words::rows::NEXT_ENTRY;
-use words::rows::NEXT_TXN;
-use words::rows::WORDS;
+ghost use Rattle.words.specs.Rows.{emptyWords};
+ghost use Rattle.space.specs.Version.{version};
+use step::step_frame;
+use tray::run_tray;
 use words::rows::Words;
+use words::rows::set_empty;
+
+// SPACE_VERSION of host/space.h. It goes up by one with each change that a host can see.
+pub const VERSION: u32 = 1;
+
+#[no_mangle]
+pub extern "C" fn space_version() -> u32
+    ensures { λ r. ⌜ r ≡ version ⌝ }
+{
+    VERSION
+}
 
 // An empty space: clock 0, nothing stored, live or waiting, and 1 as both next numbers.
 #[no_mangle]
 pub extern "C" fn space_empty(space: &mut Words)
     ensures { λ _. ⌜ (view (now (space .exit)) ≡ empty) × (now (space .exit) ≡ emptyWords) ⌝ }
 {
-    *space = [0; WORDS];
-    space[NEXT_ENTRY] = 1;
-    space[NEXT_TXN] = 1;
+    set_empty(space);
 }
 
 // What a frame does to the space: records + 65,536 × number. A refused frame gives the very same words back.
@@ -35,12 +34,13 @@ pub extern "C" fn space_step(space: &mut Words, frame: &[u8], answers: &mut [u8]
     ensures { λ r. ⌜ Stepped (now (space .entry)) (now (frame .entry)) (now (answers .entry))
         (now (space .exit)) r (now (answers .exit)) ⌝ }
 {
-    if answers.len() < 700 {
-        return 65536;
-    }
-    let outcome = take_frame(space, frame, answers);
-    match outcome {
-        Outcome::Carried(count) => count as u64,
-        Outcome::Refused(n) => refuse(answers, frame, n),
-    }
+    step_frame(space, frame, answers)
+}
+
+// The host hands in a tray and an answers area, and gets frames done, records and a number in one.
+#[no_mangle]
+pub extern "C" fn space_run_tray(tray: &[u8], answers: &mut [u8]) -> u64
+    ensures { λ r. ⌜ TrayRan (now (tray .entry)) (now (answers .entry)) r (now (answers .exit)) ⌝ }
+{
+    run_tray(tray, answers)
 }

@@ -1,6 +1,6 @@
 -- Proofs of the tray runner.
-pub mod RunLaws
 pub mod PairLaws
+pub mod PairsJudged
+pub mod RunLaws
 pub mod RunningLaws
-pub mod JudgeLaws
 pub mod TrayLaws

@@ -7,6 +7,7 @@ use native.Mathlib.Omega.{arith}
 use borrow.Author.Tests.{le-ltb, lt-ltb}
 use lib.ListN.{length, length-append}
 use Rattle.rules.specs.declared.Record.{Record}
+use Rattle.rules.specs.Numbers.{recordSize, stepArea, areaRefused}
 use Rattle.rules.specs.State.{Model, empty}
 use Rattle.rules.specs.Step.{step}
 use Rattle.rules.specs.Tray.{TrayOutcome, stopped, runFrames}
@@ -42,7 +43,7 @@ pub record Ran (fs : List (List ℕ)) (size : ℕ) (m : Model) (rs : List Record
   pub choices : List (ℕ → ℕ)
   pub run : (gs : List (List ℕ)) (more : ℕ → ℕ → ℕ)
       → runFrames (after choices more) empty size (fs ++ gs)
-      ≡ before (length fs) rs (runFrames more m (size - 28 * length rs) gs)
+      ≡ before (length fs) rs (runFrames more m (size - recordSize * length rs) gs)
 
 pub ran-none : (size : ℕ) → Ran [] size empty []
 unfolding after before
@@ -50,15 +51,15 @@ ran-none size =
     record {
       choices = [];
       run = λ gs more.
-          let e : size ≡ size - 28 * length {A = Record} [] = omega arith in
+          let e : size ≡ size - recordSize * length {A = Record} [] = omega arith in
           ap (λ n. runFrames more empty n gs) e ∙ outcome (omega arith) refl;
     }
 
 -- one frame more
 pub ran-more : (fs : List (List ℕ)) (size : ℕ) (m : Model) (rs : List Record) (f : List ℕ) (c : ℕ → ℕ)
-    → Ran fs size m rs → 28 * length rs + 700 ≤ size
+    → Ran fs size m rs → recordSize * length rs + stepArea ≤ size
     → Ran (fs ++ (f ∷ [])) size
-    (step c m f (size - 28 * length rs) .model) (rs ++ step c m f (size - 28 * length rs) .records)
+    (step c m f (size - recordSize * length rs) .model) (rs ++ step c m f (size - recordSize * length rs) .records)
 unfolding runFrames before ahead
 ran-more fs size m rs f c r h =
     record {
@@ -71,19 +72,19 @@ ran-more fs size m rs f c r h =
     }
   where
     one : (gs : List (List ℕ)) (more : ℕ → ℕ → ℕ)
-        → before (length fs) rs (runFrames (ahead c more) m (size - 28 * length rs) (f ∷ gs))
-        ≡ before (length (fs ++ (f ∷ []))) (rs ++ step c m f (size - 28 * length rs) .records)
-        (runFrames more (step c m f (size - 28 * length rs) .model)
-        (size - 28 * length (rs ++ step c m f (size - 28 * length rs) .records)) gs)
+        → before (length fs) rs (runFrames (ahead c more) m (size - recordSize * length rs) (f ∷ gs))
+        ≡ before (length (fs ++ (f ∷ []))) (rs ++ step c m f (size - recordSize * length rs) .records)
+        (runFrames more (step c m f (size - recordSize * length rs) .model)
+        (size - recordSize * length (rs ++ step c m f (size - recordSize * length rs) .records)) gs)
     one gs more =
-        let o = step c m f (size - 28 * length rs) in
-        let left = size - 28 * length rs in
-        let q = runFrames more (o .model) (left - 28 * length (o .records)) gs in
+        let o = step c m f (size - recordSize * length rs) in
+        let left = size - recordSize * length rs in
+        let q = runFrames more (o .model) (left - recordSize * length (o .records)) gs in
         let done : TrayOutcome =
         record { frames = suc (q .frames); records = o .records ++ q .records; number = q .number } in
-        let n : size - 28 * length (rs ++ o .records) ≡ left - 28 * length (o .records) =
+        let n : size - recordSize * length (rs ++ o .records) ≡ left - recordSize * length (o .records) =
         omega (arith, length-append rs (o .records)) in
-        ap (λ b. before (length fs) rs (cond b (stopped 1) done)) (le-ltb left 700 (omega arith))
+        ap (λ b. before (length fs) rs (cond b (stopped areaRefused) done)) (le-ltb left stepArea (omega arith))
         ∙ outcome (omega (arith, length-append fs (f ∷ []))) (sym (append-assoc rs (o .records) _))
         ∙ ap (λ k. before (length (fs ++ (f ∷ []))) (rs ++ o .records) (runFrames more (o .model) k gs)) (sym n)
 
@@ -96,19 +97,19 @@ ran-all fs size m rs more r =
     ∙ r .run [] more
     ∙ outcome (omega arith) (append-nil rs)
 
-stops : (choices : ℕ → ℕ → ℕ) (m : Model) (size : ℕ) (g : List ℕ) (gs : List (List ℕ)) → size < 700
-    → runFrames choices m size (g ∷ gs) ≡ stopped 1
+stops : (choices : ℕ → ℕ → ℕ) (m : Model) (size : ℕ) (g : List ℕ) (gs : List (List ℕ)) → size < stepArea
+    → runFrames choices m size (g ∷ gs) ≡ stopped areaRefused
 unfolding runFrames
-stops choices m size g gs h = rw (lt-ltb size 700 h)
+stops choices m size g gs h = rw (lt-ltb size stepArea h)
 
 -- it stops with 1 before a frame for which under 700 bytes are left
 pub ran-stops : (fs gs : List (List ℕ)) (g : List ℕ) (size : ℕ) (m : Model) (rs : List Record) (more : ℕ → ℕ → ℕ)
     (r : Ran fs size m rs)
-    → size < 28 * length rs + 700
+    → size < recordSize * length rs + stepArea
     → runFrames (after (r .choices) more) empty size (fs ++ (g ∷ gs))
-    ≡ record { frames = length fs; records = rs; number = 1 }
+    ≡ record { frames = length fs; records = rs; number = areaRefused }
 unfolding runFrames before
 ran-stops fs gs g size m rs more r h =
     r .run (g ∷ gs) more
-    ∙ ap (before (length fs) rs) (stops more m (size - 28 * length rs) g gs (omega arith))
+    ∙ ap (before (length fs) rs) (stops more m (size - recordSize * length rs) g gs (omega arith))
     ∙ outcome (omega arith) (append-nil rs)

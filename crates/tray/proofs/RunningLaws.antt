@@ -1,41 +1,24 @@
 -- The runner's loop: what stands in the space and in the answers area after some frames.
 use Prim.Native.Nat.{ℕ, suc, _+_, _-_, _*_, _%_, _≤_, _<_}
 use mathlib.Core.Path.{_≡_, refl, sym, ap, ap₂, _∙_, subst⁻¹}
-use mathlib.Core.List.{List, [], _∷_, _++_, map}
+use mathlib.Core.List.{List, [], _∷_, _++_}
 use native.Mathlib.Omega.{arith}
-use lib.ListN.{length, getD, take, drop, length-append, length-drop, length-map, List·getD-map}
+use lib.ListN.{length, getD, take, drop, length-append, length-drop}
 use lib.Seq.{take-suc, split-at, length-take-le, take-all}
 use Rattle.rules.specs.declared.Record.{Record}
+use Rattle.rules.specs.Numbers.{recordSize, stepRecords, stepArea, areaRefused}
 use Rattle.rules.specs.State.{empty}
 use Rattle.rules.specs.Words.{view}
 use Rattle.rules.specs.Records.{answerBytes, areaAfter}
 use Rattle.rules.specs.Step.{Outcome, step}
-use Rattle.rules.specs.Tray.{Pair, frameCount, pairs, frameAt, runFrames}
+use Rattle.rules.specs.Tray.{frameCount, frameAt, runFrames}
 use Rattle.rules.specs.Allowed.{Answered, Allowed, Stepped}
 use Rattle.rules.proofs.AreaLaws.{area-length, area-then}
 use Rattle.rules.proofs.Capacity.{step-fits}
 use Rattle.rules.proofs.ViewLaws.{view-bounded}
 use Rattle.tray.proofs.RunLaws.{after, Ran, ran-none, ran-more, ran-all, ran-stops}
-use Rattle.tray.proofs.PairLaws.{pairFrom, pairs-length, pair-at}
-
--- the frames of a tray
-abbrev pub framesOf : List ℕ → List (List ℕ)
-framesOf tray = map (frameAt tray) (pairs tray)
-
-pub frames-length : (tray : List ℕ) → length (framesOf tray) ≡ frameCount tray
-unfolding pairs
-frames-length tray = length-map (pairs tray) (frameAt tray) ∙ pairs-length (frameCount tray) (drop 4 tray)
-
--- where the frame at k stands
-abbrev pub placeOf : List ℕ → ℕ → Pair
-placeOf tray k = pairFrom (drop 4 tray) (8 * k)
-
-frame-at : (tray : List ℕ) (k : ℕ) → k < frameCount tray
-    → getD (framesOf tray) k (frameAt tray (placeOf tray k)) ≡ frameAt tray (placeOf tray k)
-unfolding pairs
-frame-at tray k h =
-    List·getD-map (frameAt tray) (pairs tray) k (placeOf tray k)
-    ∙ ap (frameAt tray) (pair-at (frameCount tray) k (drop 4 tray) (placeOf tray k) h)
+use Rattle.tray.specs.Pairs.{pairAt}
+use Rattle.tray.proofs.PairLaws.{framesOf, frames-length, frame-is}
 
 -- k frames are done: n records stand in the area, and the space's words are ws
 pub record Running (tray a₀ ws a : List ℕ) (k n : ℕ) : Type 0 where
@@ -43,12 +26,12 @@ pub record Running (tray a₀ ws a : List ℕ) (k n : ℕ) : Type 0 where
   pub ran : Ran (take k (framesOf tray)) (length a₀) (view ws) records
   pub counts : n ≡ length records
   pub area : a ≡ areaAfter records a₀
-  pub room : 28 * n ≤ length a₀
-  pub few : n ≤ 25 * k
+  pub room : recordSize * n ≤ length a₀
+  pub few : n ≤ stepRecords * k
 
-pub running-none : (tray a ws : List ℕ) → view ws ≡ empty → Running tray a ws a 0 0
+pub running-none : {tray a ws : List ℕ} → view ws ≡ empty → Running tray a ws a 0 0
 unfolding areaAfter answerBytes
-running-none tray a ws e =
+running-none {a = a} e =
     record {
       records = [];
       ran = subst⁻¹ (λ m. Ran [] (length a) m []) e (ran-none (length a));
@@ -58,16 +41,16 @@ running-none tray a ws e =
       few = omega arith;
     }
 
-pub running-length : (tray a₀ ws a : List ℕ) (k n : ℕ) → Running tray a₀ ws a k n → length a ≡ length a₀
-running-length tray a₀ ws a k n r =
+pub running-length : {tray a₀ ws a : List ℕ} {k n : ℕ} → Running tray a₀ ws a k n → length a ≡ length a₀
+running-length {a₀ = a₀} r =
     ap length (r .area) ∙ area-length (r .records) a₀ (omega (arith, r .room, r .counts))
 
 -- one frame more, run in the part of the area behind the records
-pub running-more : (tray a₀ ws a ws′ a′ frame part part′ : List ℕ) (k n returned : ℕ) → Running tray a₀ ws a k n
-    → k < frameCount tray → 28 * n + 700 ≤ length a₀ → frame ≡ frameAt tray (placeOf tray k) → part ≡ drop (28 * n) a
-    → Stepped ws frame part ws′ returned part′ → a′ ≡ take (28 * n) a ++ part′
+pub running-more : {tray a₀ ws a ws′ a′ frame part part′ : List ℕ} {k n returned : ℕ} → Running tray a₀ ws a k n
+    → k < frameCount tray → recordSize * n + stepArea ≤ length a₀ → frame ≡ frameAt tray (pairAt tray k)
+    → part ≡ drop (recordSize * n) a → Stepped ws frame part ws′ returned part′ → a′ ≡ take (recordSize * n) a ++ part′
     → Running tray a₀ ws′ a′ (k + 1) (n + returned % 65536)
-running-more tray a₀ ws a ws′ a′ frame part part′ k n returned r h room q p s e =
+running-more {tray} {a₀} {ws} {a} {ws′} {frame = frame} {part} {k = k} {n} {returned} r h room q p s e =
     record {
       records = rs ++ x .records;
       ran = subst⁻¹ (λ l. Ran l (length a₀) (view ws′) (rs ++ x .records)) frames
@@ -79,8 +62,9 @@ running-more tray a₀ ws a ws′ a′ frame part part′ k n returned r h room 
       counts = omega (arith, r .counts, count, length-append rs (x .records));
       area =
           e
-          ∙ ap (λ l. take (28 * n) a ++ l) (s .leaves ∙ al .bytes ∙ ap (areaAfter (x .records)) p)
-          ∙ ap₂ (λ j l. take (28 * j) l ++ areaAfter (x .records) (drop (28 * j) l)) (r .counts) (r .area)
+          ∙ ap (λ l. take (recordSize * n) a ++ l) (s .leaves ∙ al .bytes ∙ ap (areaAfter (x .records)) p)
+          ∙ ap₂ (λ j l. take (recordSize * j) l ++ areaAfter (x .records) (drop (recordSize * j) l)) (r .counts)
+          (r .area)
           ∙ area-then rs (x .records) a₀;
       room = omega (arith, count, few);
       few = omega (arith, count, few, r .few);
@@ -96,27 +80,27 @@ running-more tray a₀ ws a ws′ a′ frame part part′ k n returned r h room 
     al = s .allowed
 
     f : List ℕ
-    f = frameAt tray (placeOf tray k)
+    f = frameAt tray (pairAt tray k)
 
     left : ℕ
-    left = length a₀ - 28 * length rs
+    left = length a₀ - recordSize * length rs
 
     o : Outcome
     o = step (al .choice) (view ws) f left
 
-    room′ : 28 * length rs + 700 ≤ length a₀
+    room′ : recordSize * length rs + stepArea ≤ length a₀
     room′ = omega (arith, room, r .counts)
 
     size : length part ≡ left
     size =
         ap length p
-        ∙ length-drop (28 * n) a
-        ∙ ap₂ (λ x y. x - 28 * y) (running-length tray a₀ ws a k n r) (r .counts)
+        ∙ length-drop (recordSize * n) a
+        ∙ ap₂ (λ x y. x - recordSize * y) (running-length r) (r .counts)
 
     same : step (al .choice) (view ws) frame (length part) ≡ step (al .choice) (view ws) f left
     same = ap₂ (λ l j. step (al .choice) (view ws) l j) q size
 
-    few : length (x .records) ≤ 25
+    few : length (x .records) ≤ stepRecords
     few =
         let fits = step-fits (al .choice) (view ws) frame (length part) (view-bounded ws) .1 in
         omega (arith, ap (λ (l : List Record). length l) (al .records), fits)
@@ -128,16 +112,16 @@ running-more tray a₀ ws a ws′ a′ frame part part′ k n returned r h room 
     frames =
         ap (λ j. take j (framesOf tray)) next
         ∙ take-suc (framesOf tray) k f (omega (arith, frames-length tray))
-        ∙ ap (λ g. take k (framesOf tray) ++ (g ∷ [])) (frame-at tray k h)
+        ∙ ap (λ g. take k (framesOf tray) ++ (g ∷ [])) (frame-is tray k h)
       where
         next : k + 1 ≡ suc k
         next = omega arith
 
 -- the run is over: all frames are done
-pub running-all : (tray a₀ ws a : List ℕ) (n : ℕ) (more : ℕ → ℕ → ℕ) (r : Running tray a₀ ws a (frameCount tray) n)
+pub running-all : {tray a₀ ws a : List ℕ} {n : ℕ} (more : ℕ → ℕ → ℕ) (r : Running tray a₀ ws a (frameCount tray) n)
     → runFrames (after (r .ran .choices) more) empty (length a₀) (framesOf tray)
     ≡ record { frames = frameCount tray; records = r .records; number = 0 }
-running-all tray a₀ ws a n more r =
+running-all {tray} {a₀} {ws} more r =
     ap (runFrames (after (r .ran .choices) more) empty (length a₀)) (sym whole)
     ∙ ran-all (take (frameCount tray) (framesOf tray)) (length a₀) (view ws) (r .records) more (r .ran)
     ∙ ap (λ (j : ℕ). record { frames = j; records = r .records; number = 0 }) (ap length whole ∙ frames-length tray)
@@ -146,14 +130,14 @@ running-all tray a₀ ws a n more r =
     whole = take-all (frameCount tray) (framesOf tray) (omega (arith, frames-length tray))
 
 -- it stops before a frame for which under 700 bytes are left
-pub running-stops : (tray a₀ ws a : List ℕ) (k n : ℕ) (more : ℕ → ℕ → ℕ) (r : Running tray a₀ ws a k n)
-    → k < frameCount tray → length a₀ < 28 * n + 700
+pub running-stops : {tray a₀ ws a : List ℕ} {k n : ℕ} (more : ℕ → ℕ → ℕ) (r : Running tray a₀ ws a k n)
+    → k < frameCount tray → length a₀ < recordSize * n + stepArea
     → runFrames (after (r .ran .choices) more) empty (length a₀) (framesOf tray)
-    ≡ record { frames = k; records = r .records; number = 1 }
-running-stops tray a₀ ws a k n more r h l =
+    ≡ record { frames = k; records = r .records; number = areaRefused }
+running-stops {tray} {a₀} {ws} {k = k} more r h l =
     ap (runFrames (after (r .ran .choices) more) empty (length a₀))
     (split-at (framesOf tray) k [] (omega (arith, frames-length tray)))
     ∙ ran-stops (take k (framesOf tray)) (drop (suc k) (framesOf tray)) (getD (framesOf tray) k []) (length a₀)
     (view ws) (r .records) more (r .ran) (omega (arith, r .counts))
-    ∙ ap (λ (j : ℕ). record { frames = j; records = r .records; number = 1 })
+    ∙ ap (λ (j : ℕ). record { frames = j; records = r .records; number = areaRefused })
     (length-take-le k (framesOf tray) (omega (arith, frames-length tray)))

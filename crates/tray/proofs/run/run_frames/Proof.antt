@@ -4,10 +4,12 @@ use mathlib.Core.Path.{_≡_, refl}
 use native.Mathlib.Omega.{arith}
 use borrow.Author.Needs.{needs}
 use lib.ListN.{length}
+use Rattle.rules.specs.Numbers.{maxFrames, recordSize}
 use Rattle.rules.specs.Tray.{frameCount}
-use Rattle.tray.proofs.JudgeLaws.{few-frames}
+use Rattle.rules.proofs.PartLaws.{part-from, part-put}
+use Rattle.tray.proofs.PairsJudged.{few-frames}
 use Rattle.tray.proofs.RunningLaws.{Running, running-none, running-length, running-more}
-use Rattle.tray.proofs.TrayLaws.{part-is-frame, part-from, part-put, passes, frame-in, tray-done, tray-stops}
+use Rattle.tray.proofs.TrayLaws.{part-is-frame, passes, frame-in, tray-done, tray-stops}
 use Rattle.tray.proofs.run.run_frames.Statement.{statement}
 use Rattle.tray.proofs.run.run_frames.Tie as tie
 
@@ -15,7 +17,7 @@ abbrev Inv-loop : tie.InvT-loop
 Inv-loop tray answers₀ count space₀ frames₀ records₀ answers space frames records =
     Running tray answers₀ space answers frames records
     × (count ≡ frameCount tray)
-    × (count ≤ 2000)
+    × (count ≤ maxFrames)
     × (frames ≤ count)
     × (length answers ≡ length answers₀)
 
@@ -24,84 +26,62 @@ abbrev μ-loop : tie.MeasureT-loop
 
 loop-holds : tie.Need-loop-holds Inv-loop μ-loop
 loop-holds c =
-    let start = c .before .before .before .before .before in
-    let count = c .before .before .size-at .ensures .0 in
+    let counted = c .before .before in
+    let start = counted .before .before .before in
     let few = few-frames _ (passes (start .args .tray .now) (start .pre) .0) in
-    (running-none _ _ _ (c .space-empty .ensures .0), count, omega (arith, count, few), omega arith, refl)
+    let count = counted .pair-count .ensures in
+    (running-none (c .set-empty .ensures .0), count, omega (arith, count, few), omega arith, refl)
 
 packed-requires : tie.Need-packed-requires Inv-loop μ-loop
 packed-requires c κs = omega (arith, c .before .before .loop .inv .0 .few)
 
 returns : tie.Need-returns Inv-loop μ-loop
 returns c =
-    let l = c .before .before .before .loop in
-    let start = c .before .before .before .before .before .before .before .before .before in
-    tray-stops _ (start .pre) _ _ _ (l .frames) (l .records) _ (l .inv .0) (omega (arith, l .inv))
-    (omega (arith, l .inv, c .before .if1 .taken)) (c .packed .ensures)
+    let loop = c .before .before .before in
+    let i = loop .loop .inv in
+    tray-stops _ (loop .before .before .before .before .before .before .pre) (i .0) (omega (arith, i))
+    (omega (arith, i, c .before .if1 .taken)) (c .packed .ensures)
 
-part-space-step-end : tie.Need-part-space-step-end Inv-loop μ-loop
-part-space-step-end c =
-    let l = c .before .before .before .before .before .loop in
-    let start = c .before .before .before .before .before .before .before .before .before .before .before in
-    let within = frame-in (start .args .tray .now) (start .pre) (l .frames) (omega arith) in
-    omega (arith, within, c .before .before .size-at2 .ensures .0, c .before .size-at3 .ensures .0)
+part-step-frame-end : tie.Need-part-step-frame-end Inv-loop μ-loop
+part-step-frame-end c =
+    let pair = c .before .pair-at .ensures in
+    let loop = c .before .before .before .before in
+    let start = loop .before .before .before .before .before .before in
+    omega (
+      arith,
+      frame-in (start .args .tray .now) (start .pre) (loop .loop .frames) (omega arith),
+      pair .begins,
+      pair .ends,
+    )
 
 loop-again : tie.Need-loop-again Inv-loop μ-loop
 loop-again c =
-    let step = c .before .before .space-step in
-    let sizes = c .before .before .before .before .before .before in
-    let l = sizes .before .before .before .before .loop in
-    let start = sizes .before .before .before .before .before .before .before .before .before .before in
-    let at = sizes .before .size-at2 .ensures .0 in
-    let frame = part-is-frame (start .args .tray .now) (l .frames) _ _ at (sizes .size-at3 .ensures .0) in
-    let area = part-put (l .answers) (step .last .1 .1 .0) (28 * l .records) in
-    let part = part-from (l .answers) (28 * l .records) in
+    let step = c .before .before .step-frame in
+    let pair = c .before .before .before .before .before .before in
+    let loop = pair .before .before .before in
+    let l = loop .loop in
+    let a = loop .before .before .before .before .before .before .args in
+    let at = recordSize * l .records in
     let more =
-    running-more _ (start .args .answers .now) (l .space) (l .answers) _ _ _ _ (step .last .1 .1 .0)
-    (l .frames) (l .records) _ (l .inv .0) (omega arith) (omega arith) frame part (step .ensures) area in
-    (more, l .inv .1, l .inv .2, omega arith, running-length _ _ _ _ _ _ more)
+    running-more (l .inv .0) (omega arith) (omega arith) (part-is-frame (a .tray .now) (pair .pair-at .ensures))
+    (part-from (l .answers) at) (step .ensures) (part-put (l .answers) (step .last .1 .1 .0) at) in
+    (more, l .inv .1, l .inv .2, omega arith, running-length more)
 
 packed-requires-2 : tie.Need-packed-requires-2 Inv-loop μ-loop
 packed-requires-2 c κs = omega (arith, c .before .loop .inv .0 .few)
 
 returns-2 : tie.Need-returns-2 Inv-loop μ-loop
 returns-2 c =
-    let l = c .before .before .loop in
-    let start = c .before .before .before .before .before .before .before .before in
-    tray-done _ (start .pre) _ _ _ (l .frames) (l .records) _ (l .inv .0) (omega (arith, l .inv)) (c .packed2 .ensures)
+    let loop = c .before .before in
+    let i = loop .loop .inv in
+    tray-done _ (loop .before .before .before .before .before .before .pre) (i .0) (omega (arith, i))
+    (c .packed2 .ensures)
 
 pub run-frames-spec : {M : Type 1} → statement M
 run-frames-spec =
     tie.close
     (tie.spec
-    Inv-loop
-    μ-loop
-    (λ c κs. tt)
-    (λ c κs. tt)
-    loop-holds
-    (λ c. omega arith)
-    (λ c. omega arith)
-    packed-requires
-    (λ c. search needs)
-    returns
-    (λ c. omega arith)
-    (λ c. omega arith)
-    (λ c κs. tt)
-    (λ c. omega arith)
-    (λ c. omega arith)
-    (λ c κs. tt)
-    (λ c. omega arith)
-    (λ c. omega arith)
-    (λ c. omega arith)
-    part-space-step-end
-    (λ c. omega arith)
-    (λ c. omega arith)
-    (λ c. omega arith)
-    (λ c κs. tt)
-    (λ c. omega arith)
-    (λ c. omega arith)
-    (λ c. omega arith)
-    loop-again
-    packed-requires-2
-    (λ c. search needs)
-    returns-2)
+    Inv-loop μ-loop (λ c κs. tt) (λ c κs. tt) loop-holds (λ c. omega arith) (λ c. omega arith) packed-requires
+    (λ c. search needs) returns (λ c κs. tt) (λ c. omega arith) (λ c. omega arith) part-step-frame-end
+    (λ c. omega arith) (λ c. omega arith) (λ c. omega arith) (λ c κs. tt) (λ c. omega arith) (λ c. omega arith)
+    (λ c. omega arith) loop-again packed-requires-2 (λ c. search needs) returns-2)

@@ -1,0 +1,65 @@
+-- What a frame ends with, part by part.
+use Prim.Native.Nat.{ℕ, _+_, _*_, _≤_}
+use mathlib.Core.Bool.{Bool, false, not}
+use mathlib.Core.Logic.{⊎-elim}
+use mathlib.Core.Path.{_≡_, sym, ap, subst}
+use mathlib.Core.List.{List, List·Memᴰ}
+use native.Mathlib.Omega.{arith}
+use lib.ListN.{length, length-map}
+use Rattle.rules.specs.declared.LookUp.{LookUp}
+use Rattle.rules.specs.Lists.{filterb}
+use Rattle.rules.specs.Numbers.{recordSize, maxTxns, maxWaits}
+use Rattle.rules.specs.State.{Model, withWaits}
+use Rattle.rules.specs.Done.{Done}
+use Rattle.rules.specs.Frame.{Frame}
+use Rattle.rules.specs.Records.{nothing}
+use Rattle.rules.specs.Step.{finish}
+use Rattle.rules.specs.Tick.{closeWaits}
+use Rattle.rules.specs.Time.{reached}
+use Rattle.rules.specs.Words.{view}
+use Rattle.rules.proofs.BoolLaws.{bool-cases, cond-cases}
+use Rattle.rules.proofs.Capacity.{lapsed-fits, service-fits}
+use Rattle.rules.proofs.ListLaws.{filter-pass, count-mem}
+use Rattle.rules.proofs.ViewLaws.{view-bounded}
+use Rattle.step.specs.declared.finish.Ending.{Ending}
+use Rattle.step.specs.Does.{Does, first}
+use Rattle.step.specs.Ending.{inTick, served, EndsAs, endedBy, servedBy, closedBy}
+use Rattle.step.proofs.AddsLaws.{does-then}
+
+-- none is due: all wait on
+pub none-closed : (m : Model) → length (closeWaits m .records) ≡ 0 → m ≡ closeWaits m .model
+unfolding closeWaits
+none-closed m e =
+    ap (λ ws. withWaits ws m) (sym (filter-pass (λ w. not (due w)) (m .waits) (λ w i. ap not (not-due w i))))
+  where
+    due : LookUp → Bool
+    due w = reached (m .clock) (w .deadline)
+
+    not-due : (w : LookUp) → List·Memᴰ w (m .waits) → due w ≡ false
+    not-due w i =
+        ⊎-elim (λ t. absurd (omega (arith, e, count-mem due i t, length-map (filterb due (m .waits)) nothing)))
+        (λ t. t) (bool-cases (due w))
+
+module _ (ws : List ℕ) (e : Ending) where
+  -- at most 8 exceptions
+  pub few-ended : length (endedBy e (view ws) .records) ≤ maxTxns
+  few-ended =
+      cond-cases (λ (d : Done). length (d .records) ≤ maxTxns) (inTick e)
+      (λ t. lapsed-fits (view ws) (view-bounded ws) .records-fit) (λ t. omega arith)
+
+  -- a found for each look-up that waits no longer
+  pub few-served : length (servedBy e (view ws) .records) + length (servedBy e (view ws) .model .waits) ≤ maxWaits
+  few-served =
+      cond-cases (λ (d : Done). length (d .records) + length (d .model .waits) ≤ maxWaits) (served e)
+      (λ t. service-fits first (view ws) (view-bounded ws) .1) (λ t. omega (arith, view-bounded ws .waits-fit))
+
+pub finish-parts : {ws₁ ws₂ ws₃ a a₁ a₂ a₃ : List ℕ} {c c₁ c₂ c₃ : ℕ} (ws : List ℕ) (e : Ending)
+    → recordSize * c ≤ length a
+    → Does (endedBy e (view ws)) ws₁ a a₁ c c₁ → Does (servedBy e (view ws₁)) ws₂ a₁ a₂ c₁ c₂
+    → Does (closedBy e (view ws₂)) ws₃ a₂ a₃ c₂ c₃
+    → (f : Frame) → EndsAs f e → Does (finish first f (view ws)) ws₃ a a₃ c c₃
+unfolding finish
+finish-parts {ws₂ = ws₂} {ws₃ = ws₃} {a₁ = a₁} {a₂ = a₂} {a₃ = a₃} {c₁ = c₁} {c₂ = c₂} {c₃ = c₃} ws e room p q r f k =
+    let q′ = subst (λ m. Does (servedBy e m) ws₂ a₁ a₂ c₁ c₂) (p .model) q in
+    let r′ = subst (λ m. Does (closedBy e m) ws₃ a₂ a₃ c₂ c₃) (q′ .model) r in
+    rw (k .tick, k .service) (does-then room (does-then room p q′) r′)

@@ -1,0 +1,12 @@
+-- Proofs of what each frame does.
+pub mod AddsLaws
+pub mod AnsweredLaws
+pub mod KindLaws
+pub mod RefusalParts
+pub mod PassedLaws
+pub mod LookUpAnswers
+pub mod ServingLaws
+pub mod TurnLaws
+pub mod AbortingLaws
+pub mod FinishLaws
+pub mod SteppedLaws

@@ -1,0 +1,75 @@
+-- What is known of a request that the refusals 6 to 13 let pass.
+use Prim.Native.Nat.{ℕ, _+_, _<_}
+use mathlib.Core.Bool.{false, not, _||_}
+use mathlib.Core.Path.{_≡_, refl, ap}
+use mathlib.Core.List.{_++_}
+use borrow.Author.Tests.{ltb-false, leb-false, ne-eqb}
+use lib.Dec.{eqb, leb, ltb}
+use lib.ListN.{length}
+use Rattle.rules.specs.declared.FindRequest.{FindRequest}
+use Rattle.rules.specs.declared.WriteRequest.{WriteRequest}
+use Rattle.rules.specs.declared.Request.the-variants.{Write, Find, Create, Tick}
+use Rattle.rules.specs.Numbers.{forever, lastClock, maxEntries, maxTxns}
+use Rattle.rules.specs.State.{Model}
+use Rattle.rules.specs.Frame.{Frame, layoutOf}
+use Rattle.rules.specs.Refusals.{tooLate, entriesFull, txnsFull, noNumber, admissionRows, roomRows}
+use Rattle.rules.specs.Requests.{frame, frameOf}
+use Rattle.rules.proofs.BoolLaws.{and-false-right, or-left}
+use Rattle.rules.proofs.RefusalLaws.{testAt, none-applies}
+use Rattle.words.specs.Ends.{InTime}
+use Rattle.step.specs.Judge.{late, earlyRefusal}
+use Rattle.step.proofs.KindLaws.{kind-cases}
+
+-- none of the rows 6 to 13 applies: 10 to 13 stand at the places 4 to 7
+passed : (m : Model) (f : Frame) → earlyRefusal m f ≡ 0 → (k : ℕ) → testAt (admissionRows m f ++ roomRows m f) k ≡ false
+unfolding earlyRefusal
+passed m f e k = none-applies (admissionRows m f ++ roomRows m f) refl e k
+
+in-time : (clock n : ℕ) → (late clock n || false) ≡ false → InTime clock n
+in-time clock n e h =
+    ltb-false lastClock (clock + n)
+    (and-false-right (not (eqb n forever)) (ltb lastClock (clock + n)) (ap not (ne-eqb n forever h))
+    (or-left (late clock n) false e))
+
+module _ (m : Model) (w : WriteRequest) (e : earlyRefusal m (frameOf (Write w)) ≡ 0) where
+  pub write-in-time : InTime (m .clock) (w .lease)
+  unfolding tooLate layoutOf
+  write-in-time = in-time (m .clock) (w .lease) (passed m (frameOf (Write w)) e 4)
+
+  pub write-room : (w .lease ≡ 0 → ⊥) → length (m .entries) < maxEntries
+  unfolding entriesFull
+  write-room h =
+      leb-false maxEntries (length (m .entries))
+      (and-false-right (not (eqb (w .lease) 0)) (leb maxEntries (length (m .entries)))
+      (ap not (ne-eqb (w .lease) 0 h)) (passed m (frameOf (Write w)) e 5))
+
+  pub write-number : m .nextEntry < forever
+  unfolding noNumber
+  write-number =
+      leb-false forever (m .nextEntry) (or-left (leb forever (m .nextEntry)) false (passed m (frameOf (Write w)) e 7))
+
+module _ (m : Model) (party lease : ℕ) (e : earlyRefusal m (frameOf (Create party lease)) ≡ 0) where
+  pub create-in-time : InTime (m .clock) lease
+  unfolding tooLate layoutOf
+  create-in-time = in-time (m .clock) lease (passed m (frameOf (Create party lease)) e 4)
+
+  pub create-room : length (m .txns) < maxTxns
+  unfolding txnsFull
+  create-room = leb-false maxTxns (length (m .txns)) (passed m (frameOf (Create party lease)) e 6)
+
+  pub create-number : m .nextTxn < forever
+  unfolding noNumber
+  create-number = leb-false forever (m .nextTxn) (passed m (frameOf (Create party lease)) e 7)
+
+pub find-in-time : (m : Model) (l : FindRequest) → earlyRefusal m (frameOf (Find l)) ≡ 0
+    → InTime (m .clock) (l .timeout)
+unfolding tooLate layoutOf
+find-in-time m l e =
+    let f : ℕ → Frame = λ op. frame op (l .party) (l .mask) (l .txn .0) (l .timeout) (l .fields) in
+    let g = in-time (m .clock) (l .timeout) in
+    kind-cases (λ op. tooLate m (f op) ≡ false → InTime (m .clock) (l .timeout)) (l .takes) (l .«if_exists») g g g g
+    (passed m (frameOf (Find l)) e 4)
+
+pub tick-clock : (m : Model) → earlyRefusal m (frameOf Tick) ≡ 0 → m .clock < lastClock
+unfolding tooLate layoutOf
+tick-clock m e = leb-false lastClock (m .clock) (passed m (frameOf Tick) e 4)

@@ -1,0 +1,112 @@
+-- Service, look-up by look-up, over the model.
+use Prim.Native.Nat.{ℕ, suc, _+_, _≤_, _<_}
+use mathlib.Core.Option.{none, some}
+use mathlib.Core.Path.{_≡_, refl, sym, ap, ap₂, _∙_}
+use mathlib.Core.List.{List, [], _∷_, _++_, append-assoc, append-nil}
+use native.Mathlib.Omega.{arith}
+use native.Mathlib.Numerals.{add-one}
+use lib.Dec.{lit≤}
+use lib.ListN.{length, take, drop, set, length-set, length-append, drop-of-length-le}
+use lib.Seq.{take-suc-set, drop-set-lt}
+use Rattle.rules.specs.declared.Entry.{Entry}
+use Rattle.rules.specs.declared.Record.{Record}
+use Rattle.rules.specs.declared.LookUp.{LookUp}
+use Rattle.rules.specs.Lists.{pick}
+use Rattle.rules.specs.State.{Model, withEntries, withWaits}
+use Rattle.rules.specs.Holds.{availableTo}
+use Rattle.rules.specs.Records.{found}
+use Rattle.rules.specs.LookUp.{handOut}
+use Rattle.rules.specs.Service.{Served, serve, service, foundFirst, waitsFirst}
+use Rattle.rules.proofs.StepCases.{serve-none, serve-some}
+use Rattle.holds.specs.AtSlot.{handedOut}
+use Rattle.step.specs.Does.{first}
+
+-- those that wait on and the founds of the look-ups gone through, before what the rest gives
+abbrev behind : List LookUp → List Record → Served → Served
+behind ws rs s = record { entries = s .entries; waits = ws ++ s .waits; records = rs ++ s .records }
+
+-- one turn more
+found-behind : (ws : List LookUp) (rs : List Record) (w : LookUp) (e : Entry) (s : Served)
+    → behind ws rs (foundFirst w e s) ≡ behind ws (rs ++ (found w e ∷ [])) s
+found-behind ws rs w e s =
+    ap (λ l. record { entries = s .entries; waits = ws ++ s .waits; records = l })
+    (sym (append-assoc rs (found w e ∷ []) (s .records)))
+
+waits-behind : (ws : List LookUp) (rs : List Record) (w : LookUp) (s : Served)
+    → behind ws rs (waitsFirst w s) ≡ behind (ws ++ (w ∷ [])) rs s
+waits-behind ws rs w s =
+    ap (λ l. record { entries = s .entries; waits = l; records = rs ++ s .records })
+    (sym (append-assoc ws (w ∷ []) (s .waits)))
+
+-- of the look-ups of m₀ the first i are gone through, with the founds rs; the n that wait on stand in front
+pub record Serving (m₀ m : Model) (i n : ℕ) (rs : List Record) : Type 0 where
+  pub rest-same : m ≡ withEntries (m .entries) (withWaits (m .waits) m₀)
+  pub size : length (m .waits) ≡ length (m₀ .waits)
+  pub so-far : serve first (m₀ .txns) (m₀ .entries) (m₀ .waits)
+      ≡ behind (take n (m .waits)) rs (serve first (m .txns) (m .entries) (drop i (m .waits)))
+  pub low : n ≤ i
+  pub few : length rs ≤ i
+
+pub serving-none : (m : Model) → Serving m m 0 0 []
+serving-none m = record { rest-same = refl; size = refl; so-far = refl; low = lit≤ tt; few = lit≤ tt }
+
+module _ {m₀ m : Model} {i n : ℕ} {rs : List Record} (s : Serving m₀ m i n rs) {w : LookUp}
+    (next : drop i (m .waits) ≡ w ∷ drop (suc i) (m .waits)) where
+  turn : serve first (m₀ .txns) (m₀ .entries) (m₀ .waits)
+      ≡ behind (take n (m .waits)) rs (serve first (m .txns) (m .entries) (w ∷ drop (suc i) (m .waits)))
+  turn = s .so-far ∙ ap (λ ws. behind (take n (m .waits)) rs (serve first (m .txns) (m .entries) ws)) next
+
+  -- the next look-up is answered found
+  pub serving-found : {e : Entry} → pick 0 (availableTo (m .txns) w (m .entries)) ≡ some e
+      → Serving m₀ (handedOut w e m) (i + 1) n (rs ++ (found w e ∷ []))
+  unfolding handedOut
+  serving-found {e} p =
+      record {
+        rest-same = ap (withEntries (handOut (m .txns) w e (m .entries))) (s .rest-same);
+        size = s .size;
+        so-far =
+            rw (add-one i)
+            (turn
+            ∙ ap (behind (take n (m .waits)) rs)
+            (serve-some first (m .txns) (m .entries) w (drop (suc i) (m .waits)) e p)
+            ∙ found-behind (take n (m .waits)) rs w e _);
+        low = omega (arith, s .low);
+        few = simp length-append (omega (arith, s .few));
+      }
+
+  -- it waits on
+  pub serving-waits : pick 0 (availableTo (m .txns) w (m .entries)) ≡ none → n < length (m .waits)
+      → Serving m₀ (withWaits (set (m .waits) n w) m) (i + 1) (n + 1) rs
+  serving-waits p h =
+      record {
+        rest-same = ap (withWaits (set (m .waits) n w)) (s .rest-same);
+        size = length-set (m .waits) n w ∙ s .size;
+        so-far =
+            rw (
+              add-one i,
+              add-one n,
+              take-suc-set (m .waits) n w h,
+              drop-set-lt (suc i) (m .waits) n w
+                  (omega (arith, s .low)),
+            )
+            (turn
+            ∙ ap (behind (take n (m .waits)) rs) (serve-none first (m .txns) (m .entries) w (drop (suc i) (m .waits)) p)
+            ∙ waits-behind (take n (m .waits)) rs w _);
+        low = omega (arith, s .low);
+        few = omega (arith, s .few);
+      }
+
+-- all are gone through
+pub serving-done : {m₀ m : Model} {i n : ℕ} {rs : List Record} → Serving m₀ m i n rs → length (m₀ .waits) ≤ i
+    → service first m₀ ≡ record { model = withWaits (take n (m .waits)) m; records = rs }
+unfolding service serve
+serving-done {m₀} {m} {i} {n} {rs} s h =
+    let all : serve first (m₀ .txns) (m₀ .entries) (m₀ .waits)
+    ≡ record { entries = m .entries; waits = take n (m .waits); records = rs }
+    = s .so-far
+    ∙ ap (λ l. behind (take n (m .waits)) rs (serve first (m .txns) (m .entries) l))
+    (drop-of-length-le (m .waits) {i = i} (omega (arith, s .size)))
+    ∙ ap₂ (λ a b. record { entries = m .entries; waits = a; records = b }) (append-nil (take n (m .waits)))
+    (append-nil rs) in
+    ap (λ (r : Served). record { model = withEntries (r .entries) (withWaits (r .waits) m₀); records = r .records }) all
+    ∙ ap (λ x. record { model = withWaits (take n (m .waits)) x; records = rs }) (sym (s .rest-same))

@@ -1,0 +1,175 @@
+-- What is allowed of a step, by the refusal that applies.
+use Prim.Native.Nat.{ℕ, _+_, _*_, _≤_, _<_}
+use mathlib.Core.Bool.{Bool, true, false, cond}
+use mathlib.Core.Option.{none, some}
+use mathlib.Core.Path.{_≡_, refl, sym, ap, _∙_, subst₂}
+use mathlib.Core.List.{List, [], _∷_}
+use native.Mathlib.Omega.{arith}
+use borrow.Author.Tests.{ne-eqb, eqb-false, lt-ltb, le-ltb}
+use lib.Dec.{eqb, ltb}
+use lib.ListN.{length}
+use Rattle.rules.specs.declared.Record.{Record}
+use Rattle.rules.specs.declared.Request.{Request}
+use Rattle.rules.specs.declared.Decoded.the-variants.{Asks, Refused}
+use Rattle.rules.specs.Numbers.{stepArea, areaRefused}
+use Rattle.rules.specs.State.{Model}
+use Rattle.rules.specs.Frame.{Frame, decode}
+use Rattle.rules.specs.Records.{refused, answerBytes, areaAfter}
+use Rattle.rules.specs.Refusals.{refusal}
+use Rattle.rules.specs.Requests.{frameOf, formRefusal, spaceRefusal, Decodes}
+use Rattle.rules.specs.Step.{Outcome, step, ownPart, finish, carriedOut, refusedWith, accepted}
+use Rattle.rules.specs.Words.{view}
+use Rattle.rules.specs.Allowed.{Stepped}
+use Rattle.rules.proofs.ListLaws.{none≢some}
+use Rattle.rules.proofs.BoolLaws.{cond-cases}
+use Rattle.rules.proofs.RefusalLaws.{refusal-parts, form-not-area, space-not-area}
+use Rattle.step.specs.declared.own.Outcome.the-variants.{Carried, Refused as Kept}
+use Rattle.step.specs.Does.{first, Adds, Does}
+use Rattle.step.specs.Judge.{earlyRefusal, lateRefusal}
+use Rattle.step.specs.Outcome.{ComesTo}
+use Rattle.step.proofs.AddsLaws.{adds-then}
+use Rattle.step.proofs.RefusalParts.{early-refused, early-passed}
+
+-- ---- which refusal applies
+asked-frame : {bs : List ℕ} {q : Request} → Decodes bs (Asks q) → frameOf q ≡ decode bs
+asked-frame {bs} d = same (d .frame ∙ ap (λ n. cond (eqb n 0) (some (decode bs)) none) (sym (d .number)))
+  where
+    same : {f g : Frame} → some f ≡ some g → f ≡ g
+    same e = cc
+
+module _ (m : Model) (bs : List ℕ) (area : ℕ) where
+  -- where the area is long enough
+  abbrev judged : ℕ
+  judged = cond (eqb (formRefusal bs) 0) (spaceRefusal m (decode bs)) (formRefusal bs)
+
+  judged-by : (b : Bool) → ltb area stepArea ≡ b → refusal m bs area ≡ cond b areaRefused judged
+  judged-by b e = refusal-parts m bs area ∙ ap (λ c. cond c areaRefused judged) e
+
+  module _ (h : stepArea ≤ area) where
+    is-judged : refusal m bs area ≡ judged
+    is-judged = judged-by false (le-ltb area stepArea h)
+
+    not-short : eqb (refusal m bs area) areaRefused ≡ false
+    not-short =
+        ap (λ k. eqb k areaRefused) is-judged
+        ∙ cond-cases (λ k. eqb k areaRefused ≡ false) (eqb (formRefusal bs) 0) (λ e. space-not-area m (decode bs))
+        (λ e. form-not-area bs)
+
+    -- the decoder refuses
+    pub form-refused : {n : ℕ} → Decodes bs (Refused n) → (refusal m bs area ≡ n) × (n ≡ 0 → ⊥)
+    form-refused d = (
+      is-judged ∙ ap (λ b. cond b (spaceRefusal m (decode bs)) (formRefusal bs)) not-zero ∙ sym (d .number),
+      λ z. eqb-false (formRefusal bs) 0 not-zero (sym (d .number) ∙ z),
+    )
+      where
+        go : (b : Bool) → none ≡ cond b (some (decode bs)) none → b ≡ false
+        go true e = absurd (none≢some e)
+        go false e = refl
+
+        not-zero : eqb (formRefusal bs) 0 ≡ false
+        not-zero = go (eqb (formRefusal bs) 0) (d .frame)
+
+    -- it does not: the request is judged against the space, by 6 to 13 and then by 14
+    module _ {q : Request} (d : Decodes bs (Asks q)) where
+      asked : refusal m bs area ≡ spaceRefusal m (frameOf q)
+      asked =
+          is-judged
+          ∙ ap (λ n. cond (eqb n 0) (spaceRefusal m (decode bs)) n) (sym (d .number))
+          ∙ ap (spaceRefusal m) (sym (asked-frame d))
+
+      early : {n : ℕ} → n ≡ earlyRefusal m (frameOf q) → (n ≡ 0 → ⊥) → refusal m bs area ≡ n
+      early e z = asked ∙ early-refused m (frameOf q) e z
+
+      late : earlyRefusal m (frameOf q) ≡ 0 → refusal m bs area ≡ lateRefusal m (frameOf q)
+      late e = asked ∙ early-passed m (frameOf q) e
+
+-- ---- what is allowed
+-- a step's outcome, where the number n is given
+abbrev outcome : List ℕ → List ℕ → ℕ → Outcome
+outcome ws bs n = cond (eqb n 0) (accepted (carriedOut first (view ws) (decode bs))) (refusedWith (view ws) bs n)
+
+by : (ws bs area : List ℕ) {n : ℕ} → refusal (view ws) bs (length area) ≡ n
+    → step first (view ws) bs (length area) ≡ outcome ws bs n
+unfolding step
+by ws bs area e = ap (outcome ws bs) e
+
+refused-by : (ws bs area : List ℕ) {n : ℕ} → refusal (view ws) bs (length area) ≡ n → (n ≡ 0 → ⊥)
+    → step first (view ws) bs (length area) ≡ refusedWith (view ws) bs n
+refused-by ws bs area {n} e z =
+    by ws bs area e
+    ∙ ap (λ b. cond b (accepted (carriedOut first (view ws) (decode bs))) (refusedWith (view ws) bs n)) (ne-eqb n 0 z)
+
+module _ {ws bs area ws′ area′ : List ℕ} {returned : ℕ} where
+  -- what the rules give with the code's choice
+  gives : (o : Outcome) → step first (view ws) bs (length area) ≡ o → view ws′ ≡ o .model
+      → area′ ≡ areaAfter (o .records) area → returned ≡ length (o .records) + 65536 * o .number
+      → ((o .number ≡ 0 → ⊥) → ws′ ≡ ws) → Stepped ws bs area ws′ returned area′
+  gives o e v b r u =
+      record {
+        answered = record { records = o .records; count = length (o .records); number = o .number; area = area′ };
+        allowed =
+            record {
+              choice = first;
+              space = v ∙ sym (ap (λ (x : Outcome). x .model) e);
+              records = sym (ap (λ (x : Outcome). x .records) e);
+              count = refl;
+              number = sym (ap (λ (x : Outcome). x .number) e);
+              bytes = b;
+              unchanged = u;
+            };
+        returns = r;
+        leaves = refl;
+      }
+
+  -- the area is too short for a record
+  pub stepped-short : length area < stepArea → ws′ ≡ ws → area′ ≡ area → returned ≡ 65536 * areaRefused
+      → Stepped ws bs area ws′ returned area′
+  unfolding refusedWith areaAfter answerBytes
+  stepped-short h s a r =
+      let short = judged-by (view ws) bs (length area) true (lt-ltb (length area) stepArea h) in
+      gives (refusedWith (view ws) bs areaRefused) (refused-by ws bs area short (λ z. omega arith)) (ap view s) a r
+      (λ k. s)
+
+  module _ (h : stepArea ≤ length area) where
+    -- one refused record
+    pub stepped-refused : {n : ℕ} → refusal (view ws) bs (length area) ≡ n → (n ≡ 0 → ⊥) → ws′ ≡ ws
+        → (returned ≡ 1 + 65536 * n) × Adds (refused bs n ∷ []) area area′ 0 1 → Stepped ws bs area ws′ returned area′
+    unfolding refusedWith
+    stepped-refused {n} e z s a =
+        let y = ap (λ k. eqb k areaRefused) (sym e) ∙ not-short (view ws) bs (length area) h in
+        gives (record { model = view ws; records = refused bs n ∷ []; number = n })
+        (refused-by ws bs area e z
+        ∙ ap (λ b. record { model = view ws; records = cond b [] (refused bs n ∷ []); number = n }) y)
+        (ap view s) (a .1 .bytes) (a .0) (λ k. s)
+
+    module _ {q : Request} (d : Decodes bs (Asks q)) where
+      -- 6 to 13
+      pub stepped-early : {n : ℕ} → n ≡ earlyRefusal (view ws) (frameOf q) → (n ≡ 0 → ⊥) → ws′ ≡ ws
+          → (returned ≡ 1 + 65536 * n) × Adds (refused bs n ∷ []) area area′ 0 1 → Stepped ws bs area ws′ returned area′
+      stepped-early e z s a = stepped-refused (early (view ws) bs (length area) h d e z) z s a
+
+      module _ (e : earlyRefusal (view ws) (frameOf q) ≡ 0) where
+        -- 14
+        pub stepped-late : {n : ℕ}
+            → ComesTo (lateRefusal (view ws) (frameOf q)) (ownPart first (view ws) (frameOf q)) ws ws′ (Kept n)
+            → (returned ≡ 1 + 65536 * n) × Adds (refused bs n ∷ []) area area′ 0 1
+            → Stepped ws bs area ws′ returned area′
+        stepped-late c a =
+            stepped-refused (late (view ws) bs (length area) h d e ∙ c .0) (λ z. c .1 (c .0 ∙ z)) (c .2) a
+
+        -- carried out: the frame's own record, and then its finish
+        pub stepped-done : {ws₁ a₁ : List ℕ} {own : Record} {n : ℕ}
+            → ComesTo (lateRefusal (view ws) (frameOf q)) (ownPart first (view ws) (frameOf q)) ws ws₁ (Carried own)
+            → Adds (own ∷ []) area a₁ 0 n → Does (finish first (frameOf q) (view ws₁)) ws′ a₁ area′ n returned
+            → Stepped ws bs area ws′ returned area′
+        unfolding carriedOut accepted
+        stepped-done c a f =
+            let all =
+            subst₂ (λ r m. Adds (r ∷ finish first (frameOf q) m .records) area area′ 0 returned) (c .1 .own)
+            (c .1 .model)
+            (adds-then (omega arith) a (f .adds)) in
+            gives (accepted (carriedOut first (view ws) (frameOf q)))
+            (by ws bs area (late (view ws) bs (length area) h d e ∙ c .0)
+            ∙ ap (λ g. accepted (carriedOut first (view ws) g)) (sym (asked-frame d)))
+            (f .model ∙ ap (λ m. finish first (frameOf q) m .model) (c .1 .model)) (all .bytes)
+            (omega (arith, all .counts)) (λ z. absurd (z refl))

@@ -1,0 +1,146 @@
+-- Service over the words and the answers area: a look-up's turn.
+use Prim.Native.Nat.{ℕ, suc, _+_, _*_, _≤_, _<_}
+use mathlib.Core.Bool.{Bool, true, false}
+use mathlib.Core.Option.{none, some}
+use mathlib.Core.Path.{_≡_, sym, ap, _∙_, subst}
+use mathlib.Core.List.{List, [], _∷_, _++_}
+use native.Mathlib.Omega.{arith}
+use lib.ListN.{length, take, drop, set}
+use lib.Seq.{length-sets}
+use Rattle.rules.specs.declared.Entry.{Entry}
+use Rattle.rules.specs.declared.Record.{Record}
+use Rattle.rules.specs.declared.LookUp.{LookUp}
+use Rattle.rules.specs.Done.{Done}
+use Rattle.rules.specs.Holds.{liveTxn, availableTo}
+use Rattle.rules.specs.Lists.{pick}
+use Rattle.rules.specs.Numbers.{maxWaits, recordSize}
+use Rattle.rules.specs.Records.{found}
+use Rattle.rules.specs.Service.{service}
+use Rattle.rules.specs.State.{withWaits}
+use Rattle.rules.specs.Words.{entryCount, waitCount, waitCountAt, waits, view, spaceWords}
+use Rattle.words.specs.Rows.{entryRow, waitRow, moveWait}
+use Rattle.words.proofs.SearchLaws.{Searching, search-more, search-found, search-none}
+use Rattle.words.proofs.Table.{drop-all, moved, closed}
+use Rattle.words.proofs.Tables.{waitTable, view-waits, length-waits, entries-read}
+use Rattle.holds.specs.AtSlot.{availableAt, handedOut}
+use Rattle.holds.specs.Live.{slotOf}
+use Rattle.holds.proofs.HandLaws.{first-available}
+use Rattle.step.specs.Does.{Adds, Does, first}
+use Rattle.step.proofs.AddsLaws.{adds-none, adds-length, adds-then}
+use Rattle.step.proofs.ServingLaws.{Serving, serving-none, serving-found, serving-waits, serving-done}
+
+-- the first i look-ups of ws₀ are gone through, the n that wait on stand in front, and the founds stand in the area
+pub record Turns (ws₀ ws a₀ a : List ℕ) (count done i n : ℕ) : Type 0 where
+  pub long : length ws ≡ spaceWords
+  pub records : List Record
+  pub serving : Serving (view ws₀) (view ws) i n records
+  pub adds : Adds records a₀ a count done
+
+pub turns-none : (ws a : List ℕ) (count : ℕ) → length ws ≡ spaceWords → Turns ws ws a a count count 0 0
+turns-none ws a count l = record { long = l; records = []; serving = serving-none (view ws); adds = adds-none a count }
+
+-- what is known in the search for an entry: nothing has changed since its begin, and none of the first j is available
+pub record Looking (ws₀ ws a₀ a : List ℕ) (done₀ done i₀ i : ℕ) (w : LookUp) (p count j : ℕ) : Type 0 where
+  pub same-words : ws ≡ ws₀
+  pub same-area : a ≡ a₀
+  pub same-done : done ≡ done₀
+  pub same-turn : i ≡ i₀
+  pub is-wait : w ≡ waitRow ws i
+  pub slot : p ≡ slotOf (liveTxn (w .txn .0) (view ws .txns))
+  pub all : count ≡ entryCount ws
+  pub none-yet : Searching (availableAt p w) (entryRow ws) j
+
+module _ {ws₀ ws a₀ a : List ℕ} {done₀ done i₀ i : ℕ} {w : LookUp} {p count j : ℕ}
+    (k : Looking ws₀ ws a₀ a done₀ done i₀ i w p count j) where
+  -- so the turns are as they were
+  pub turns-still : {ws₁ a₁ : List ℕ} {c n : ℕ} → Turns ws₁ ws₀ a₁ a₀ c done₀ i₀ n → Turns ws₁ ws a₁ a c done i n
+  turns-still t = rw (k .same-words, k .same-area, k .same-done, k .same-turn) t
+
+  module _ {e : Entry} {b : Bool} (r : e ≡ entryRow ws j) (v : b ≡ availableAt p w e) where
+    pub looking-more : b ≡ false → Looking ws₀ ws a₀ a done₀ done i₀ i w p count (j + 1)
+    looking-more t =
+        record {
+          same-words = k .same-words;
+          same-area = k .same-area;
+          same-done = k .same-done;
+          same-turn = k .same-turn;
+          is-wait = k .is-wait;
+          slot = k .slot;
+          all = k .all;
+          none-yet = search-more (k .none-yet) r (sym v ∙ t);
+        }
+
+    pub looking-found : b ≡ true → j < count → pick 0 (availableTo (view ws .txns) w (view ws .entries)) ≡ some e
+    looking-found t l =
+        first-available ws w p (k .slot)
+        ∙ search-found (entries-read ws) (k .none-yet) (omega (arith, k .all)) r (sym v ∙ t)
+
+  pub looking-none : j ≡ count → pick 0 (availableTo (view ws .txns) w (view ws .entries)) ≡ none
+  looking-none l = first-available ws w p (k .slot) ∙ search-none (entries-read ws) (k .none-yet) (l ∙ k .all)
+
+module _ {ws₀ ws a₀ a : List ℕ} {count done i n : ℕ} (t : Turns ws₀ ws a₀ a count done i n) where
+  same-count : waitCount ws ≡ waitCount ws₀
+  same-count = sym (length-waits ws) ∙ t .serving .size ∙ length-waits ws₀
+
+  -- there is room for one record more
+  module _ (room : recordSize * (count + maxWaits) ≤ length a₀) where
+    pub turn-length : i ≤ maxWaits → length a ≡ length a₀
+    turn-length h = adds-length (t .adds) (omega (arith, t .adds .counts, t .serving .few))
+
+    pub turn-room : i < maxWaits → recordSize * (done + 1) ≤ length a
+    turn-room h = omega (arith, t .adds .counts, t .serving .few, turn-length (omega arith))
+
+  -- the next look-up
+  module _ {w : LookUp} (h : i < waitCount ws₀) (q : w ≡ waitRow ws i) where
+    this-wait : drop i (view ws .waits) ≡ w ∷ drop (suc i) (view ws .waits)
+    unfolding view waits
+    this-wait = drop-all waitTable ws i w (omega (arith, same-count)) q
+
+    -- and the model once it is moved
+    moved-wait : view (moveWait ws i n) ≡ withWaits (set (view ws .waits) n w) (view ws)
+    unfolding view waits
+    moved-wait =
+        view-waits _ ws (moved waitTable ws i n (omega arith) (omega (arith, t .serving .low)) (omega (arith, t .long)))
+        ∙ ap (λ x. withWaits (set (view ws .waits) n x) (view ws)) (sym q)
+
+    pub turn-found : {ws′ a′ : List ℕ} {e : Entry} {r : Record} {done′ : ℕ}
+        → pick 0 (availableTo (view ws .txns) w (view ws .entries)) ≡ some e
+        → (view ws′ ≡ handedOut w e (view ws)) × (length ws′ ≡ spaceWords) → r ≡ found w e
+        → recordSize * count ≤ length a₀
+        → Adds (r ∷ []) a a′ done done′
+        → Turns ws₀ ws′ a₀ a′ count done′ (i + 1) n
+    turn-found {a′ = a′} {e = e} {done′ = done′} p v o room d =
+        record {
+          long = v .1;
+          records = t .records ++ (found w e ∷ []);
+          serving =
+              subst (λ m. Serving (view ws₀) m (i + 1) n (t .records ++ (found w e ∷ []))) (sym (v .0))
+              (serving-found (t .serving) this-wait p);
+          adds = adds-then room (t .adds) (subst (λ x. Adds (x ∷ []) a a′ done done′) o d);
+        }
+
+    pub turn-waits : {ws′ : List ℕ} → pick 0 (availableTo (view ws .txns) w (view ws .entries)) ≡ none
+        → ws′ ≡ moveWait ws i n → Turns ws₀ ws′ a₀ a count done (i + 1) (n + 1)
+    turn-waits p e =
+        record {
+          long = ap length e ∙ simp length-sets (t .long);
+          records = t .records;
+          serving =
+              subst (λ m. Serving (view ws₀) m (i + 1) (n + 1) (t .records)) (sym (ap view e ∙ moved-wait))
+              (serving-waits (t .serving) this-wait p (omega (arith, t .serving .low, length-waits ws, same-count)));
+          adds = t .adds;
+        }
+
+  -- all are gone through
+  closed-waits : i ≡ waitCount ws₀ → view (set ws waitCountAt n) ≡ withWaits (take n (view ws .waits)) (view ws)
+  unfolding view waits
+  closed-waits h =
+      view-waits (set ws waitCountAt n) ws
+      (closed waitTable ws n (omega (arith, t .serving .low, same-count)) (omega (arith, t .long)))
+
+  pub turns-done : {ws′ : List ℕ} → i ≡ waitCount ws₀ → ws′ ≡ set ws waitCountAt n
+      → Does (service first (view ws₀)) ws′ a₀ a count done
+  turns-done {ws′} h e =
+      let d = serving-done (t .serving) (omega (arith, length-waits ws₀)) in
+      subst (λ (x : Done). Does x ws′ a₀ a count done) (sym d)
+      (record { model = ap view e ∙ closed-waits h; adds = t .adds })

@@ -1,0 +1,53 @@
+-- `step::finish::finish` meets its contract. Assumes nothing.
+use mathlib.Core.Path.{ap}
+use native.Mathlib.Omega.{arith}
+use borrow.Author.Needs.{needs}
+use lib.ListN.{length}
+use Rattle.rules.specs.State.{Model}
+use Rattle.step.proofs.FinishLaws.{few-ended, few-served, finish-parts}
+use Rattle.step.proofs.finish.finish.Statement.{statement}
+use Rattle.step.proofs.finish.finish.Tie as tie
+
+serve-requires : tie.Need-serve-requires
+serve-requires c κs =
+    let ended = c .before .before .before .before in
+    let start = ended .before .before .before .before in
+    omega (
+      arith,
+      start .pre,
+      ended .end-now .ensures .adds .counts,
+      few-ended (start .args .space .now)
+          (start .args .ending),
+      ended .end-now .kept .1 .0,
+    )
+
+close-requires : tie.Need-close-requires
+close-requires c κs =
+    let served = c .before .before .before .before in
+    let ended = served .before .before .before .before .before in
+    let start = ended .before .before .before .before in
+    let s = served .serve .ensures in
+    omega (
+      arith,
+      start .pre,
+      ended .end-now .ensures .adds .counts,
+      few-ended (start .args .space .now) (start .args .ending),
+      s .adds .counts,
+      ap (λ (m : Model). length (m .waits)) (s .model),
+      few-served (ended .end-now .last .0) (start .args .ending),
+    )
+
+returns : tie.Need-returns
+returns c =
+    let closed = c .before .before in
+    let served = closed .before .before .before .before .before in
+    let ended = served .before .before .before .before .before in
+    let start = ended .before .before .before .before in
+    finish-parts (start .args .space .now) (start .args .ending) (omega (arith, start .pre)) (ended .end-now .ensures)
+    (served .serve .ensures) (closed .close .ensures)
+
+pub finish-spec : {M : Type 1} → statement M
+finish-spec =
+    tie.close
+    (tie.spec
+    (λ c κs. search needs) serve-requires close-requires (λ c. search needs) returns)

@@ -1,0 +1,151 @@
+-- `step::service::serve_waits` meets its contract. The outer loop's invariant: the first i look-ups are gone through
+-- (`Turns`). The inner loop's: nothing is changed yet, and none of the first j entries is available (`Looking`).
+-- Assumes nothing.
+use Prim.Native.Nat.{_≤_, _<_, _-_, _+_, _*_}
+use mathlib.Core.Path.{refl}
+use native.Mathlib.Omega.{arith}
+use lib.ListN.{length}
+use Rattle.rules.specs.Numbers.{recordSize}
+use Rattle.rules.specs.Words.{waitCount}
+use Rattle.words.proofs.SearchLaws.{search-start}
+use Rattle.step.proofs.TurnLaws.{Turns, turns-none, turns-still, turn-length, turn-room, turn-found}
+use Rattle.step.proofs.TurnLaws.{turn-waits, turns-done, Looking, looking-more, looking-found, looking-none}
+use Rattle.step.proofs.service.serve_waits.Statement.{statement}
+use Rattle.step.proofs.service.serve_waits.Tie as tie
+
+abbrev Inv-loop : tie.InvT-loop
+Inv-loop space₀ answers₀ count waits done₀ i₀ n w p entries j₀ space answers done i j =
+    (j ≤ entries) × Looking space₀ space answers₀ answers done₀ done i₀ i w p entries j
+
+abbrev μ-loop : tie.MeasureT-loop
+μ-loop space₀ answers₀ count waits done₀ i₀ n w p entries j₀ space answers done i j = entries - j
+
+abbrev Inv-waiting : tie.InvT-waiting
+Inv-waiting space₀ answers₀ count waits done₀ i₀ n₀ space answers done i n =
+    (i ≤ waits) × Turns space₀ space answers₀ answers count done i n
+
+abbrev μ-waiting : tie.MeasureT-waiting
+μ-waiting space₀ answers₀ count waits done₀ i₀ n₀ space answers done i n = waits - i
+
+waiting-holds : tie.Need-waiting-holds Inv-loop μ-loop Inv-waiting μ-waiting
+waiting-holds c = (omega arith, turns-none _ _ _ (c .wait-count .ensures .1))
+
+loop-holds : tie.Need-loop-holds Inv-loop μ-loop Inv-waiting μ-waiting
+loop-holds c = (
+  omega arith,
+  record {
+    same-words = refl;
+    same-area = refl;
+    same-done = refl;
+    same-turn = refl;
+    is-wait = c .before .before .before .before .before .wait-at .ensures;
+    slot = c .before .before .slot-of .ensures .0;
+    all = c .entry-count .ensures .0;
+    none-yet = search-start;
+  },
+)
+
+-- the outer loop around the search for an entry
+abbrev outer : tie.At-loop Inv-loop μ-loop Inv-waiting μ-waiting → tie.At-waiting Inv-loop μ-loop Inv-waiting μ-waiting
+outer c = c .before .before .before .before .before .before .before .before .before
+
+-- in the search: the turns so far, that this is one, and that there is room for its record
+turns : (c : tie.At-loop Inv-loop μ-loop Inv-waiting μ-waiting)
+    → let a = outer c .before .before .before .before .args in
+    Turns (a .space .now) (c .loop .space) (a .answers .now) (c .loop .answers) (a .count) (c .loop .done) (c .loop .i)
+    (outer c .waiting .n)
+turns c = turns-still (c .loop .inv .1) (outer c .waiting .inv .1)
+
+in-turn : (c : tie.At-loop Inv-loop μ-loop Inv-waiting μ-waiting) → c .loop .i < outer c .before .wait-count .result
+in-turn c =
+    omega (
+      arith,
+      c .before .before .before .before .before .before .before .before .waiting-test .taken,
+      c .loop .inv .1 .same-turn,
+    )
+
+this-turn : (c : tie.At-loop Inv-loop μ-loop Inv-waiting μ-waiting)
+    → c .loop .i < waitCount (outer c .before .before .before .before .args .space .now)
+this-turn c = omega (arith, in-turn c, outer c .before .wait-count .ensures .0)
+
+room : (c : tie.At-loop Inv-loop μ-loop Inv-waiting μ-waiting)
+    → recordSize * (c .loop .done + 1) ≤ length (c .loop .answers)
+room c = turn-room (turns c) (outer c .before .before .before .before .pre) (omega (arith, this-turn c))
+
+is-available-requires : tie.Need-is-available-requires Inv-loop μ-loop Inv-waiting μ-waiting
+is-available-requires c κs = c .before .before .before .before .before .before .slot-of .ensures .1
+
+hand-out-requires : tie.Need-hand-out-requires Inv-loop μ-loop Inv-waiting μ-waiting
+hand-out-requires c κs =
+    let loop = c .before .before .before .before .before .before in
+    (loop .before .before .before .slot-of .ensures .1, loop .loop .inv .1 .slot)
+
+waiting-again : tie.Need-waiting-again Inv-loop μ-loop Inv-waiting μ-waiting
+waiting-again c =
+    let found = c .before .before .before .before in
+    let test = found .before .before .before in
+    let seen = test .before in
+    let loop = seen .before .before .before .before in
+    let k = loop .loop .inv .1 in
+    let e =
+    looking-found k (seen .before .entry-at .ensures) (seen .is-available .ensures) (test .if1 .taken)
+    (seen .before .before .before .loop-test .taken) in (
+      omega (arith, in-turn loop),
+      turn-found (turns loop) (this-turn loop) (k .is-wait) e (found .before .hand-out .ensures)
+          (found .found-record .ensures) (omega (arith, outer loop .before .before .before .before .pre))
+          (c .before .before .add-record .ensures),
+    )
+
+loop-again : tie.Need-loop-again Inv-loop μ-loop Inv-waiting μ-waiting
+loop-again c =
+    let seen = c .before in (
+      omega arith,
+      looking-more (seen .before .before .before .before .loop .inv .1) (seen .before .entry-at .ensures)
+          (seen .is-available .ensures) (c .if1 .left),
+    )
+
+move-wait-requires : tie.Need-move-wait-requires Inv-loop μ-loop Inv-waiting μ-waiting
+move-wait-requires c κs =
+    let loop = c .before .before in
+    (omega (arith, this-turn loop), omega (arith, turns loop .serving .low))
+
+waiting-again-2 : tie.Need-waiting-again-2 Inv-loop μ-loop Inv-waiting μ-waiting
+waiting-again-2 c =
+    let loop = c .before .before .before in
+    let k = loop .loop .inv .1 in
+    let none = looking-none k (omega (arith, c .before .before .loop-test .left, loop .loop .inv .0)) in
+    (omega (arith, in-turn loop), turn-waits (turns loop) (this-turn loop) (k .is-wait) none (c .move-wait .ensures))
+
+same-length : tie.Need-same-length Inv-loop μ-loop Inv-waiting μ-waiting
+same-length c =
+    let loop =
+    c .before .before .before in turn-length (loop .waiting .inv .1) (loop .before .before .before .before .pre)
+    (omega arith)
+
+returns : tie.Need-returns Inv-loop μ-loop Inv-waiting μ-waiting
+returns c = turns-done (c .before .before .before .waiting .inv .1) (omega arith) (c .set-wait-count .ensures)
+
+pub serve-waits-spec : {M : Type 1} → statement M
+serve-waits-spec =
+    tie.close
+    (tie.spec
+    Inv-loop μ-loop Inv-waiting μ-waiting (λ c κs. tt) waiting-holds (λ c κs. omega arith) (λ c κs. tt)
+    (λ c κs. tt) loop-holds (λ c κs. omega arith) is-available-requires hand-out-requires (λ c κs. tt)
+    (λ c κs. room (c .before .before .before .before .before .before .before .before .before))
+    (λ c. omega (
+      arith,
+      this-turn
+          (c .before .before .before .before .before .before .before .before .before .before .before .before),
+    ))
+    (λ c. omega (
+      arith,
+      in-turn
+          (c .before .before .before .before .before .before .before .before .before .before .before .before),
+      c .before .before .before .before .before .before .before .before .before .before .before .before .loop .inv .1 .same-turn,
+    ))
+    waiting-again (λ c. omega arith) (λ c. omega arith) loop-again move-wait-requires
+    (λ c. omega (arith, this-turn (c .before .before .before), turns (c .before .before .before) .serving .low))
+    (λ c. omega (arith, this-turn (c .before .before .before)))
+    (λ c. omega (arith, in-turn (c .before .before .before), c .before .before .before .loop .inv .1 .same-turn))
+    waiting-again-2 (λ c κs. omega (arith, c .before .before .waiting .inv .1 .serving .low)) same-length
+    returns)

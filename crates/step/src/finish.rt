@@ -1,0 +1,93 @@
+// What every carried-out frame ends with: what ends now, service, and the look-ups that are closed.
+ghost use Prim.Native.Nat.{_+_, _*_, _≤_};
+ghost use lib.ListN.{length};
+ghost use Rattle.rules.specs.Frame.{Frame};
+ghost use Rattle.rules.specs.Numbers.{maxTxns, maxWaits, recordSize};
+ghost use Rattle.rules.specs.Requests.{frameOf};
+ghost use Rattle.rules.specs.Step.{finish as finishFrame};
+ghost use Rattle.rules.specs.Words.{view};
+ghost use Rattle.step.specs.Does.{Does, first};
+ghost use Rattle.step.specs.Ending.{EndsAs, endedBy, servedBy, closedBy};
+use crate::service::serve_waits;
+use crate::tick::close_waits;
+use crate::tick::lapse;
+use rules::Request;
+use words::rows::Words;
+
+// How a frame ends: with nothing more, with service, or as a tick does.
+pub(crate) enum Ending {
+    Quiet,
+    Service,
+    Tick,
+}
+
+// Service follows a write outside transactions, a commit and an abort, and falls within a tick.
+pub(crate) fn ending_of(q: Request) -> Ending
+    ensures { λ r. ⌜ EndsAs (frameOf q) r ⌝ }
+{
+    match q {
+        Request::Write(w) => {
+            if w.txn.0 == 0 {
+                Ending::Service
+            } else {
+                Ending::Quiet
+            }
+        }
+        Request::Find(_) => Ending::Quiet,
+        Request::Create(_, _) => Ending::Quiet,
+        Request::Commit(_, _) => Ending::Service,
+        Request::Abort(_, _) => Ending::Service,
+        Request::Tick => Ending::Tick,
+    }
+}
+
+// What ends now, in a tick.
+pub(crate) fn end_now(space: &mut Words, answers: &mut [u8], count: usize, ending: Ending) -> usize
+    requires { ⌜ recordSize * (count + maxTxns) ≤ length (now answers) ⌝ }
+    ensures { λ n. ⌜ Does (endedBy ending (view (now (space .entry)))) (now (space .exit))
+        (now (answers .entry)) (now (answers .exit)) count n ⌝ }
+{
+    match ending {
+        Ending::Quiet => count,
+        Ending::Service => count,
+        Ending::Tick => lapse(space, answers, count),
+    }
+}
+
+// Service, where it follows.
+pub(crate) fn serve(space: &mut Words, answers: &mut [u8], count: usize, ending: Ending) -> usize
+    requires { ⌜ recordSize * (count + maxWaits) ≤ length (now answers) ⌝ }
+    ensures { λ n. ⌜ Does (servedBy ending (view (now (space .entry)))) (now (space .exit))
+        (now (answers .entry)) (now (answers .exit)) count n ⌝ }
+{
+    match ending {
+        Ending::Quiet => count,
+        Ending::Service => serve_waits(space, answers, count),
+        Ending::Tick => serve_waits(space, answers, count),
+    }
+}
+
+// Closings: in a tick, of the look-ups whose deadline is reached.
+pub(crate) fn close(space: &mut Words, answers: &mut [u8], count: usize, ending: Ending) -> usize
+    requires { ⌜ recordSize * (count + length (view (now space) .waits)) ≤ length (now answers) ⌝ }
+    ensures { λ n. ⌜ Does (closedBy ending (view (now (space .entry)))) (now (space .exit))
+        (now (answers .entry)) (now (answers .exit)) count n ⌝ }
+{
+    match ending {
+        Ending::Quiet => count,
+        Ending::Service => count,
+        Ending::Tick => close_waits(space, answers, count),
+    }
+}
+
+// What every carried-out frame ends with, behind the `count` records that stand in the answers area. The number
+// afterwards is returned.
+pub(crate) fn finish(space: &mut Words, answers: &mut [u8], count: usize, ending: Ending) -> usize
+    requires { ⌜ recordSize * (count + maxTxns + maxWaits) ≤ length (now answers) ⌝ }
+    ensures { λ n. ⌜ ((f : Frame) → EndsAs f ending → Does (finishFrame first f (view (now (space .entry))))
+        (now (space .exit)) (now (answers .entry)) (now (answers .exit)) count n) ⌝ }
+{
+    let ended = end_now(space, answers, count, ending);
+    let served = serve(space, answers, ended, ending);
+    close(space, answers, served, ending)
+}

@@ -1,0 +1,183 @@
+// Why a request is refused: the refusals 6 to 13, in document 01's order. 14 is judged where a look-up is about to
+// wait.
+ghost use mathlib.Core.Path.{_≡_};
+ghost use Rattle.rules.specs.Requests.{frameOf};
+ghost use Rattle.rules.specs.Words.{view};
+ghost use Rattle.step.specs.Judge.{partyWaiting, txnRefusal, partyRefusal, late, noRoom};
+ghost use Rattle.step.specs.Judge.{admissionRefusal, roomRefusal, earlyRefusal};
+use holds::live::Live;
+use holds::live::find_txn;
+use rules::Request;
+use rules::TxnId;
+use rules::WriteRequest;
+use rules::numbers::CLOCK_REFUSED;
+use rules::numbers::ENTRIES_REFUSED;
+use rules::numbers::FOREVER;
+use rules::numbers::LAST_CLOCK;
+use rules::numbers::LEASE_REFUSED;
+use rules::numbers::MAX_ENTRIES;
+use rules::numbers::MAX_TXNS;
+use rules::numbers::NOT_LIVE_REFUSED;
+use rules::numbers::NOT_OWN_REFUSED;
+use rules::numbers::NUMBER_REFUSED;
+use rules::numbers::TXNS_REFUSED;
+use rules::numbers::WAITING_REFUSED;
+use words::rows::Words;
+use words::rows::clock;
+use words::rows::entry_count;
+use words::rows::next_entry;
+use words::rows::next_txn;
+use words::rows::txn_count;
+use words::rows::wait_at;
+use words::rows::wait_count;
+
+// Whether the party has a waiting look-up.
+pub(crate) fn waits_already(space: &Words, party: u8) -> bool
+    ensures { λ r. ⌜ r ≡ partyWaiting party (view (now (space .entry)) .waits) ⌝ }
+{
+    let n = wait_count(space);
+    let mut i: usize = 0;
+    while i < n {
+        let w = wait_at(space, i);
+        if w.party == party {
+            return true;
+        }
+        i += 1;
+    }
+    false
+}
+
+// 7 or 8, for a frame of the party in the transaction, if it is inside one; 0: neither applies.
+pub(crate) fn txn_refusal(space: &Words, inside: bool, party: u8, id: TxnId) -> u8
+    ensures { λ r. ⌜ r ≡ txnRefusal inside party (id .0) (view (now (space .entry)) .txns) ⌝ }
+{
+    if !inside {
+        return 0;
+    }
+    if id.0 == 0 {
+        return NOT_LIVE_REFUSED;
+    }
+    let Live::At(t) = find_txn(space, id) else {
+        return NOT_LIVE_REFUSED;
+    };
+    if t.party == party { 0 } else { NOT_OWN_REFUSED }
+}
+
+// 6, 7 or 8, for such a frame; 0: none of them applies.
+pub(crate) fn party_refusal(space: &Words, inside: bool, party: u8, id: TxnId) -> u8
+    ensures { λ r. ⌜ r ≡ partyRefusal inside party (id .0) (view (now (space .entry))) ⌝ }
+{
+    if waits_already(space, party) {
+        WAITING_REFUSED
+    } else {
+        txn_refusal(space, inside, party, id)
+    }
+}
+
+// 6 to 8, of the party and its transaction.
+pub(crate) fn admission(space: &Words, q: Request) -> u8
+    ensures { λ r. ⌜ r ≡ admissionRefusal (view (now (space .entry))) (frameOf q) ⌝ }
+{
+    match q {
+        Request::Write(w) => party_refusal(space, w.txn.0 != 0, w.party, w.txn),
+        Request::Find(l) => party_refusal(space, l.txn.0 != 0, l.party, l.txn),
+        Request::Create(party, _) => party_refusal(space, false, party, TxnId(0)),
+        Request::Commit(party, id) => party_refusal(space, true, party, id),
+        Request::Abort(party, id) => party_refusal(space, true, party, id),
+        Request::Tick => party_refusal(space, false, 0, TxnId(0)),
+    }
+}
+
+// Whether clock + lease or timeout, FOREVER excepted, is above 4294967294.
+pub(crate) fn too_late(space: &Words, amount: u32) -> bool
+    ensures { λ r. ⌜ r ≡ late (view (now (space .entry)) .clock) amount ⌝ }
+{
+    if amount == FOREVER {
+        false
+    } else {
+        LAST_CLOCK - amount < clock(space)
+    }
+}
+
+// Whether a write with the lease finds 64 entries stored.
+pub(crate) fn lacks_room(space: &Words, lease: u32) -> bool
+    ensures { λ r. ⌜ r ≡ noRoom lease (view (now (space .entry)) .entries) ⌝ }
+{
+    if lease == 0 {
+        false
+    } else {
+        MAX_ENTRIES <= entry_count(space)
+    }
+}
+
+pub(crate) fn write_room(space: &Words, w: WriteRequest) -> u8
+    ensures { λ r. ⌜ r ≡ roomRefusal (view (now (space .entry))) (frameOf (Request.Write w)) ⌝ }
+{
+    if too_late(space, w.lease) {
+        return CLOCK_REFUSED;
+    }
+    if lacks_room(space, w.lease) {
+        return ENTRIES_REFUSED;
+    }
+    if FOREVER <= next_entry(space) {
+        NUMBER_REFUSED
+    } else {
+        0
+    }
+}
+
+pub(crate) fn create_room(space: &Words, party: u8, lease: u32) -> u8
+    ensures { λ r. ⌜ r ≡ roomRefusal (view (now (space .entry))) (frameOf (Request.Create party lease)) ⌝ }
+{
+    if lease == 0 {
+        return LEASE_REFUSED;
+    }
+    if too_late(space, lease) {
+        return CLOCK_REFUSED;
+    }
+    if MAX_TXNS <= txn_count(space) {
+        return TXNS_REFUSED;
+    }
+    if FOREVER <= next_txn(space) {
+        NUMBER_REFUSED
+    } else {
+        0
+    }
+}
+
+// 9 to 13, of time, room and numbers.
+pub(crate) fn room(space: &Words, q: Request) -> u8
+    ensures { λ r. ⌜ r ≡ roomRefusal (view (now (space .entry))) (frameOf q) ⌝ }
+{
+    match q {
+        Request::Write(w) => write_room(space, w),
+        Request::Find(l) => {
+            if too_late(space, l.timeout) {
+                CLOCK_REFUSED
+            } else {
+                0
+            }
+        }
+        Request::Create(party, lease) => create_room(space, party, lease),
+        Request::Commit(_, _) => 0,
+        Request::Abort(_, _) => 0,
+        Request::Tick => {
+            if LAST_CLOCK <= clock(space) {
+                CLOCK_REFUSED
+            } else {
+                0
+            }
+        }
+    }
+}
+
+// The first of the refusals 6 to 13 that applies, or 0.
+pub(crate) fn judge(space: &Words, q: Request) -> u8
+    ensures { λ r. ⌜ r ≡ earlyRefusal (view (now (space .entry))) (frameOf q) ⌝ }
+{
+    let n = admission(space, q);
+    if n != 0 {
+        return n;
+    }
+    room(space, q)
+}

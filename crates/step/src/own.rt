@@ -1,0 +1,86 @@
+// A request's own part, once the refusals 6 to 13 let it pass: what it does to the space, and the record that it
+// answers.
+ghost use mathlib.Core.Path.{_≡_};
+ghost use Prim.Native.Nat.{_<_};
+ghost use Rattle.rules.specs.Numbers.{lastClock};
+ghost use Rattle.rules.specs.Requests.{frameOf};
+ghost use Rattle.rules.specs.Step.{ownPart, commitFrame, abortFrame};
+ghost use Rattle.rules.specs.Tick.{tick};
+ghost use Rattle.rules.specs.Transactions.{create as createFrame};
+ghost use Rattle.rules.specs.Words.{view};
+ghost use Rattle.step.specs.Does.{first, Carries};
+ghost use Rattle.step.specs.Judge.{earlyRefusal, lateRefusal};
+ghost use Rattle.step.specs.Outcome.{ComesTo};
+use crate::look_up::find;
+use crate::write::write;
+use codec::records::plain_record;
+use holds::endings::abort_txn;
+use holds::endings::commit_txn;
+use holds::txns::create_txn;
+use rules::Record;
+use rules::Request;
+use rules::TxnId;
+use rules::numbers::KIND_ABORTED;
+use rules::numbers::KIND_COMMITTED;
+use rules::numbers::KIND_CREATED;
+use rules::numbers::KIND_TICKED;
+use words::rows::Words;
+use words::rows::clock;
+use words::rows::set_clock;
+
+// What becomes of a request: it is carried out and answers its own record, or it is refused with a number.
+pub(crate) enum Outcome {
+    Carried(Record),
+    Refused(u8),
+}
+
+pub(crate) fn create(space: &mut Words, party: u8, lease: u32) -> Record
+    requires { ⌜ earlyRefusal (view (now space)) (frameOf (Request.Create party lease)) ≡ 0 ⌝ }
+    ensures { λ r. ⌜ Carries (createFrame (view (now (space .entry))) (frameOf (Request.Create party lease)))
+        (now (space .exit)) r ⌝ }
+{
+    let id = create_txn(space, party, lease);
+    plain_record(KIND_CREATED, party, id)
+}
+
+pub(crate) fn commit(space: &mut Words, party: u8, id: TxnId) -> Record
+    ensures { λ r. ⌜ Carries (commitFrame (view (now (space .entry))) (frameOf (Request.Commit party id)))
+        (now (space .exit)) r ⌝ }
+{
+    commit_txn(space, id);
+    plain_record(KIND_COMMITTED, party, id)
+}
+
+pub(crate) fn abort(space: &mut Words, party: u8, id: TxnId) -> Record
+    ensures { λ r. ⌜ Carries (abortFrame (view (now (space .entry))) (frameOf (Request.Abort party id)))
+        (now (space .exit)) r ⌝ }
+{
+    abort_txn(space, id);
+    plain_record(KIND_ABORTED, party, id)
+}
+
+// The clock advances; what ends with that, ends where the frame is finished.
+pub(crate) fn tick(space: &mut Words) -> Record
+    requires { ⌜ view (now space) .clock < lastClock ⌝ }
+    ensures { λ r. ⌜ Carries (tick (view (now (space .entry)))) (now (space .exit)) r ⌝ }
+{
+    let t = clock(space);
+    set_clock(space, t + 1);
+    plain_record(KIND_TICKED, 0, TxnId(0))
+}
+
+// What a request does of its own that the refusals 6 to 13 let pass.
+pub(crate) fn carry_out(space: &mut Words, q: Request) -> Outcome
+    requires { ⌜ earlyRefusal (view (now space)) (frameOf q) ≡ 0 ⌝ }
+    ensures { λ r. ⌜ ComesTo (lateRefusal (view (now (space .entry))) (frameOf q))
+        (ownPart first (view (now (space .entry))) (frameOf q)) (now (space .entry)) (now (space .exit)) r ⌝ }
+{
+    match q {
+        Request::Write(w) => Outcome::Carried(write(space, w)),
+        Request::Find(l) => find(space, l),
+        Request::Create(party, lease) => Outcome::Carried(create(space, party, lease)),
+        Request::Commit(party, id) => Outcome::Carried(commit(space, party, id)),
+        Request::Abort(party, id) => Outcome::Carried(abort(space, party, id)),
+        Request::Tick => Outcome::Carried(tick(space)),
+    }
+}

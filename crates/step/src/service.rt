@@ -1,0 +1,55 @@
+// Service: the waiting look-ups are gone through once.
+ghost use Prim.Native.Nat.{_+_, _*_, _≤_};
+ghost use lib.ListN.{length};
+ghost use Rattle.rules.specs.Numbers.{maxWaits, recordSize};
+ghost use Rattle.rules.specs.Service.{service};
+ghost use Rattle.rules.specs.Words.{view};
+ghost use Rattle.step.specs.Does.{Does, first};
+use crate::answers::add_record;
+use codec::records::found_record;
+use holds::holds::is_available;
+use holds::live::slot_of;
+use holds::sweep::hand_out;
+use words::rows::Words;
+use words::rows::entry_at;
+use words::rows::entry_count;
+use words::rows::move_wait;
+use words::rows::set_wait_count;
+use words::rows::wait_at;
+use words::rows::wait_count;
+
+// The waiting look-ups are gone through once in order of arrival, and each with an available entry is answered found.
+// `count` records stand in the answers area before; the number afterwards is returned.
+pub(crate) fn serve_waits(space: &mut Words, answers: &mut [u8], count: usize) -> usize
+    requires { ⌜ recordSize * (count + maxWaits) ≤ length (now answers) ⌝ }
+    ensures { λ n. ⌜ Does (service first (view (now (space .entry)))) (now (space .exit))
+        (now (answers .entry)) (now (answers .exit)) count n ⌝ }
+{
+    let waits = wait_count(space);
+    let mut done = count;
+    let mut i: usize = 0;
+    let mut n: usize = 0;
+    'waiting: while i < waits {
+        let w = wait_at(space, i);
+        let txn = w.txn;
+        let p = slot_of(space, txn);
+        let entries = entry_count(space);
+        let mut j: usize = 0;
+        while j < entries {
+            let e = entry_at(space, j);
+            if is_available(e, w, p) {
+                hand_out(space, e, w, p);
+                let r = found_record(w, e);
+                done = add_record(answers, done, r);
+                i += 1;
+                continue 'waiting;
+            }
+            j += 1;
+        }
+        move_wait(space, i, n);
+        n += 1;
+        i += 1;
+    }
+    set_wait_count(space, n);
+    done
+}

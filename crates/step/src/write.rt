@@ -1,0 +1,55 @@
+// The own part of a write.
+ghost use mathlib.Core.Path.{_≡_};
+ghost use Rattle.rules.specs.Requests.{frameOf};
+ghost use Rattle.rules.specs.Words.{view};
+ghost use Rattle.rules.specs.Write.{newEntry, write as writeFrame};
+ghost use Rattle.rules.specs.declared.Request.the-variants.{Write};
+ghost use Rattle.words.specs.Ends.{InTime};
+ghost use Rattle.words.specs.Rows.{FitsWord};
+ghost use Rattle.step.specs.Does.{Carries};
+ghost use Rattle.step.specs.Judge.{earlyRefusal};
+use codec::records::written_record;
+use rules::Entry;
+use rules::EntryId;
+use rules::Record;
+use rules::TxnId;
+use rules::WriteRequest;
+use words::rows::Words;
+use words::rows::add_entry;
+use words::rows::clock;
+use words::rows::next_entry;
+use words::rows::set_next_entry;
+use words::time::end_of;
+
+// The entry that a write makes, with the next number.
+pub(crate) fn new_entry(space: &Words, w: WriteRequest) -> Entry
+    requires { ⌜ InTime (view (now space) .clock) (w .lease) ⌝ }
+    ensures { λ e. ⌜ (e ≡ newEntry (view (now (space .entry))) (frameOf (Write w))) × FitsWord (e .end) ⌝ }
+{
+    let end = end_of(clock(space), w.lease);
+    let fields = w.fields;
+    let private_to = w.txn;
+    Entry {
+        id: EntryId(next_entry(space)),
+        fields,
+        end,
+        private_to,
+        taken_by: TxnId(0),
+        readers: 0,
+    }
+}
+
+// The number is used up, and the entry stored unless the lease is 0.
+pub(crate) fn write(space: &mut Words, w: WriteRequest) -> Record
+    requires { ⌜ earlyRefusal (view (now space)) (frameOf (Write w)) ≡ 0 ⌝ }
+    ensures { λ r. ⌜ Carries (writeFrame (view (now (space .entry))) (frameOf (Write w))) (now (space .exit)) r ⌝ }
+{
+    let e = new_entry(space, w);
+    let r = written_record(w, e.id);
+    set_next_entry(space, e.id.0 + 1);
+    if w.lease == 0 {
+        return r;
+    }
+    add_entry(space, e);
+    r
+}
