@@ -1,54 +1,52 @@
--- The theorems: Theorems has the three demands, Determining and Answering that they fix the space, RuledOut wrong spaces that
--- they rule out; the rest leads there.
+-- The theorems are in Theorems; the rest leads there. A proof is named after the spec whose statement it proves.
 
+-- laws of lists, of holds and of a frame's own part
+pub mod AllLaws
+pub mod AscendingLaws
+pub mod EachLaws
+pub mod HoldLaws
+pub mod HolderLaws
+pub mod OwnPartLaws
 -- runs of the rules, and histories carried to them
 pub mod Runs
-pub mod Carried
--- what holds of every space that frames make of the empty one
-pub mod Capacities
-pub mod Deadlines
-pub mod Leases
-pub mod Ends
-pub mod Trace
-pub mod Sound
-pub mod Numbers
-pub mod ReadersLive
-pub mod HoldSentences
-pub mod Owners
+pub mod ByRule
+-- a step as events, what becomes of the tables, and what each event keeps
+pub mod Events
 pub mod Unavailable
-pub mod Settling
--- demand 1
-pub mod Judging
--- demand 2
-pub mod LookUpLaws
-pub mod WaitingStep
-pub mod InTime
-pub mod NothingLeft
-pub mod Moments
-pub mod Momentary
-pub mod Saying
-pub mod Alike
-pub mod Booking
-pub mod Tied
-pub mod Telling
--- demand 3
-pub mod SerialOps
-pub mod HandOut
-pub mod Agreement
-pub mod Release
-pub mod Growth
-pub mod Finding
-pub mod Simulation
-pub mod Serializing
--- trays, a record's bytes
-pub mod Trays
-pub mod RecordBytes
-pub mod Ranges
--- the course's examples
-pub mod Computed
-pub mod Course
--- the demands, what they leave open (nothing), what they rule out
-pub mod Theorems
-pub mod Determining
+pub mod Becomes
+pub mod EventsProof
+pub mod Sound
+pub mod SoundProof
+pub mod SettledProof
+-- bounds
+pub mod Capacities
+pub mod BoundsProof
+pub mod BoundsRange
+-- demand 1: what a frame is refused with, and that every frame is answered
+pub mod JudgedProof
+pub mod WordsOf
 pub mod Answering
-pub mod RuledOut
+-- demand 2: what a step says, what its tables are, and what follows for look-ups
+pub mod SaidProof
+pub mod BookProof
+pub mod ToldProof
+pub mod AnswersProof
+-- demand 3
+pub mod SerialRunOps
+pub mod SerialRunAgree
+pub mod SerialRunWrite
+pub mod SerialRunFound
+pub mod SerialRunEnd
+pub mod SerialRunProof
+-- a space whose steps the rules give meets the demands
+pub mod Follows
+-- no other space meets them, and what follows for any that does
+pub mod Twins
+pub mod DeterminedProof
+pub mod ConsequencesProof
+-- trays, the course's examples, wrong spaces
+pub mod TraysProof
+pub mod Computed
+pub mod CourseProof
+pub mod RuledOutProof
+pub mod Theorems

@@ -1,10 +1,12 @@
--- Runs of the rules: a list of frames with the choices made, handed in order to a model. Histories are carried to these (Carried).
+-- Runs of the rules: a list of frames with the choices made, handed in order to a model. Histories are carried to these
+-- (Carried).
 use Prim.Native.Nat.{ℕ}
 use mathlib.Core.List.{List, [], _∷_}
 use Rattle.rules.specs.declared.Record.{Record}
 use Rattle.rules.specs.State.{Model, empty}
 use Rattle.rules.specs.Step.{step}
-use Rattle.demands.specs.History.{Logged, recordsOf}
+use Rattle.rules.specs.SerialRun.{Logged}
+use Rattle.demands.specs.History.{recordsOf}
 
 -- any bytes, an answers area of any length, and the free choice in this step
 pub record Input : Type 0 where
@@ -33,7 +35,8 @@ unfoldable pub answersTo : Model → List Input → List Record
 answersTo m is = recordsOf (runs m is .log)
 
 -- What holds of the empty space and is kept by each step holds of every space that frames make.
-module _ (P : Model → Type 0) (kept : (i : Input) (m : Model) → P m → P (step (i .choice) m (i .frame) (i .area) .model)) where
+module _ (P : Model → Type 0) (kept : (i : Input) (m : Model) → P m
+    → P (step (i .choice) m (i .frame) (i .area) .model)) where
   pub runs-keep : (m : Model) (is : List Input) → P m → P (runs m is .model)
   unfolding runs
   runs-keep m [] h = h

@@ -1,4 +1,5 @@
--- Demand 2, what a look-up is answered: at once, after each step, and by its deadline.
+-- What a look-up is answered: at once, after each step, and by its deadline. (`Consequences` says it of any space that
+-- meets the demands.)
 use Prim.Native.Nat.{ℕ, _≤_}
 use mathlib.Core.Bool.{Bool, true, false, cond, _&&_, _||_}
 use mathlib.Core.Path.{_≡_}

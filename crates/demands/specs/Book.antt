@@ -16,8 +16,7 @@ use Rattle.rules.specs.Time.{until}
 use Rattle.rules.specs.State.{Model, empty, withClock}
 use Rattle.rules.specs.Frame.{Frame, decode, isLookUp}
 use Rattle.rules.specs.LookUp.{lookUpOf}
-use Rattle.demands.specs.History.{Logged}
-use Rattle.demands.specs.SerialRun.{wasRefused}
+use Rattle.rules.specs.SerialRun.{Logged, wasRefused}
 
 -- a live transaction as the frames and answers tell it
 pub record LiveTold : Type 0 where

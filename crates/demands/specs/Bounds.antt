@@ -15,8 +15,9 @@ use Rattle.rules.specs.Numbers.{lastClock}
 use Rattle.rules.specs.Template.{bit}
 use Rattle.rules.specs.State.{Model, Bounded}
 use Rattle.rules.specs.Holds.{readByOther, available, conflicts}
+use Rattle.rules.specs.SerialRun.{Logged}
 use Rattle.demands.specs.Machine.{Machine}
-use Rattle.demands.specs.History.{Logged, recordsOf, Made}
+use Rattle.demands.specs.History.{recordsOf, Made}
 
 -- each number is below all that stand after it
 unfoldable pub Ascending : List ℕ → Type 0

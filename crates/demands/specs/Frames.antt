@@ -6,7 +6,8 @@ use Rattle.rules.specs.declared.Record.{Record}
 use Rattle.rules.specs.Numbers.{opWrite, opRead, opTake, opReadIfExists, opTakeIfExists, opCreate, opCommit, opAbort}
 use Rattle.rules.specs.Numbers.{opTick, kindWritten, kindFound, kindNothing, kindWaiting, kindCreated, kindCommitted}
 use Rattle.rules.specs.Numbers.{kindAborted, kindException, kindTicked, kindRefused}
-use Rattle.rules.specs.Records.{noFields, plain, fourBytes}
+use Rattle.rules.specs.Records.{noFields, plain}
+use Rattle.rules.specs.Frame.{fourBytes}
 
 -- four fields
 abbrev pub F : ℕ → ℕ → ℕ → ℕ → Fields
@@ -54,17 +55,20 @@ abbrev pub times : ℕ → List ℕ → List (List ℕ)
 times zero f = []
 times (suc n) f = f ∷ times n f
 
--- records: kind, party, then what the kind has
+-- records: kind, party, refusal, transaction, entry number, fields
+abbrev answer : ℕ → ℕ → ℕ → ℕ → ℕ → Fields → Record
+answer k p r t n x =
+    record { kind = k; party = p; refusal = r; txn = record { 0 = t }; entry = record { 0 = n }; fields = x }
+
+-- by party, then what the kind has
 abbrev pub Refused : ℕ → ℕ → Record
-Refused party n =
-    record { kind = kindRefused; party = party; refusal = n; txn = record { 0 = 0 }; entry = record { 0 = 0 }; fields = noFields }
+Refused party n = answer kindRefused party n 0 0 noFields
 
 abbrev pub Written : ℕ → ℕ → ℕ → Record
-Written party t n =
-    record { kind = kindWritten; party = party; refusal = 0; txn = record { 0 = t }; entry = record { 0 = n }; fields = noFields }
+Written party t n = answer kindWritten party 0 t n noFields
 
 abbrev pub Found : ℕ → ℕ → ℕ → Fields → Record
-Found party t n x = record { kind = kindFound; party = party; refusal = 0; txn = record { 0 = t }; entry = record { 0 = n }; fields = x }
+Found party t n x = answer kindFound party 0 t n x
 
 abbrev pub Nothing : ℕ → ℕ → Record
 Nothing party t = plain kindNothing party t

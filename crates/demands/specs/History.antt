@@ -1,16 +1,11 @@
 -- Histories: lists of frames handed in order, each to the space that the one before it left. Refused ones stand in
 -- them.
 use mathlib.Core.List.{List, [], _∷_, map}
-use Prim.Native.Nat.{ℕ}
 use Rattle.rules.specs.declared.Record.{Record}
 use Rattle.rules.specs.Lists.{joined}
 use Rattle.rules.specs.Allowed.{Answered}
+use Rattle.rules.specs.SerialRun.{Logged}
 use Rattle.demands.specs.Machine.{Handed, Machine}
-
--- a frame with the records that its step wrote
-pub record Logged : Type 0 where
-  pub frame : List ℕ
-  pub records : List Record
 
 abbrev pub logged : Handed → Answered → Logged
 logged h a = record { frame = h .frame; records = a .records }
@@ -28,3 +23,11 @@ pub data History (S : Machine) : S .State → List Logged → S .State → Type 
 -- a state that frames make of an empty space, with the log of them
 abbrev pub Made : (S : Machine) → List Logged → S .State → Type 0
 Made S log t = (s : S .State) × S .Empty s × History S s log t
+
+-- what holds of every state, with its log, and of every step, after every history
+abbrev pub EveryState : (S : Machine) → (List Logged → S .State → Type 0) → Type 0
+EveryState S P = (log : List Logged) (t : S .State) → Made S log t → P log t
+
+abbrev pub EveryStep : (S : Machine) → (S .State → Handed → S .State → Answered → Type 0) → Type 0
+EveryStep S P = (log : List Logged) (t u : S .State) (h : Handed) (a : Answered)
+    → Made S log t → S .Steps t h u a → P t h u a

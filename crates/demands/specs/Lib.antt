@@ -2,16 +2,17 @@
 pub mod Machine
 pub mod History
 pub mod Judged
-pub mod Answers
 pub mod Said
 pub mod Book
-pub mod SerialRun
 pub mod Told
 pub mod Demands
+-- what they leave open (nothing), and what follows from them
 pub mod Determined
-pub mod Answering
+pub mod Answers
+pub mod Consequences
+-- what else holds, of the space and of trays; the course's examples; wrong spaces
 pub mod Bounds
 pub mod Trays
 pub mod Frames
 pub mod Course
-pub mod Wrong
+pub mod RuledOut

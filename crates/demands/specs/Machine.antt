@@ -4,6 +4,7 @@ use mathlib.Core.Path.{_≡_}
 use mathlib.Core.List.{List}
 use lib.ListN.{length}
 use Rattle.rules.specs.State.{Model, empty}
+use Rattle.rules.specs.Frame.{Frame, decode}
 use Rattle.rules.specs.Records.{areaAfter}
 use Rattle.rules.specs.Words.{view}
 use Rattle.rules.specs.Step.{Outcome, step}
@@ -13,6 +14,9 @@ use Rattle.rules.specs.Allowed.{Answered, Allowed}
 pub record Handed : Type 0 where
   pub frame : List ℕ
   pub area : List ℕ
+
+abbrev pub frameIn : Handed → Frame
+frameIn h = decode (h .frame)
 
 -- its states, how a state is read as document 01's tables, which states are empty, and what a frame does: the state
 -- after it, and what is answered

@@ -1,25 +1,55 @@
--- Demand 2, what a step says: every record of a step that is carried out, and no other, in document 01's order. (Look-ups
--- are in `Answers`; what a step leaves is told by `Book` and `Told`.)
+-- Demand 2, what a step says: the frame's own record, then what every step ends with; every record, and no other, in
+-- document 01's order. (What a step leaves in the tables is told by `Book` and `Told`.)
 use Prim.Native.Nat.{_+_}
-use mathlib.Core.Bool.{true, false}
+use mathlib.Core.Bool.{Bool, true, false, cond, not, _&&_, _||_}
 use mathlib.Core.Path.{_≡_}
 use mathlib.Core.List.{List, [], _∷_, _++_, map, List·Memᴰ}
+use lib.Dec.{eqb}
 use Rattle.rules.specs.declared.Entry.{Entry}
 use Rattle.rules.specs.declared.LookUp.{LookUp}
 use Rattle.rules.specs.declared.Record.{Record}
 use Rattle.rules.specs.declared.Txn.{Txn}
 use Rattle.rules.specs.Lists.{filterb}
 use Rattle.rules.specs.Time.{reached}
-use Rattle.rules.specs.State.{Model, withClock}
-use Rattle.rules.specs.Holds.{available, someAvailable}
-use Rattle.rules.specs.Frame.{Frame, isWrite, isCreate, isCommit, isAbort, isTick}
-use Rattle.rules.specs.Records.{written, found, nothing, created, committed, aborted, exception, ticked}
-use Rattle.rules.specs.LookUp.{handOut}
-use Rattle.rules.specs.Transactions.{commit, abort}
-use Rattle.rules.specs.Tick.{endedTxns, abortAll, dropEnded}
-use Rattle.rules.specs.Step.{stored}
+use Rattle.rules.specs.State.{Model, withClock, withEntries, withWaits}
+use Rattle.rules.specs.Holds.{available, someAvailable, someConflicts}
+use Rattle.rules.specs.Frame.{Frame, isWrite, isLookUp, isIfExists, isCreate, isCommit, isAbort, isTick}
+use Rattle.rules.specs.Records.{written, found, nothing, waiting, created, committed, aborted, exception, ticked}
+use Rattle.rules.specs.Write.{stored}
+use Rattle.rules.specs.LookUp.{lookUpOf, handOut}
+use Rattle.rules.specs.Transactions.{create, commit, abort}
+use Rattle.rules.specs.Tick.{abortAll}
 
--- "the waiting look-ups are gone through once in order of arrival, and each with an available entry is answered found":
+-- with no entry available: "timeout 0 gives nothing", and "the IfExists kinds .. give nothing if none" conflicts
+abbrev pub inVain : Frame → Model → Bool
+inVain f m =
+    eqb (f .leaseOrTimeout) 0
+    || isIfExists (f .op) && not (someConflicts (m .txns) (lookUpOf m f) (m .entries))
+
+-- "What each frame does" of its own: the frame's own record, and the tables then
+pub data Own (f : Frame) (m : Model) : Record → Model → Type 0 where
+  writes : isWrite (f .op) ≡ true → Own f m (written f (m .nextEntry)) (stored m f)
+  -- "Found, if an entry is available." "Which one of several .. is left free; it must be available at that step."
+  finds : (e : Entry) → isLookUp (f .op) ≡ true
+      → List·Memᴰ e (m .entries)
+      → available (m .txns) (lookUpOf m f) e ≡ true
+      → Own f m (found (lookUpOf m f) e) (withEntries (handOut (m .txns) (lookUpOf m f) e (m .entries)) m)
+  finds-none : isLookUp (f .op) ≡ true
+      → someAvailable (m .txns) (lookUpOf m f) (m .entries) ≡ false
+      → inVain f m ≡ true
+      → Own f m (nothing (lookUpOf m f)) m
+  -- "Otherwise read and take wait; the IfExists kinds wait if some entry conflicts."
+  waits : isLookUp (f .op) ≡ true
+      → someAvailable (m .txns) (lookUpOf m f) (m .entries) ≡ false
+      → inVain f m ≡ false
+      → Own f m (waiting (lookUpOf m f)) (withWaits (m .waits ++ (lookUpOf m f ∷ [])) m)
+  creates : isCreate (f .op) ≡ true → Own f m (created f (m .nextTxn)) (create m f .model)
+  commits : isCommit (f .op) ≡ true → Own f m (committed f) (commit (f .txn) m)
+  aborts : isAbort (f .op) ≡ true → Own f m (aborted f) (abort (f .txn) m)
+  -- "the clock advances"
+  ticks : isTick (f .op) ≡ true → Own f m ticked (withClock (m .clock + 1) m)
+
+-- "The waiting look-ups are gone through once in order of arrival, and each with an available entry is answered found":
 -- from the entries and the waiting look-ups to the founds in the order served, and the look-ups that wait on
 pub data Serves (ts : List Txn) : List Entry → List LookUp → List Record → List LookUp → Type 0 where
   gone-through : (es : List Entry) → Serves ts es [] [] []
@@ -35,39 +65,39 @@ pub data Serves (ts : List Txn) : List Entry → List LookUp → List Record →
       → Serves ts es ws founds left
       → Serves ts es (w ∷ ws) founds (w ∷ left)
 
-abbrev pub Service : Model → List Record → List LookUp → Type 0
-Service m founds left = Serves (m .txns) (m .entries) (m .waits) founds left
+-- "Service. After a write outside transactions, a commit, an abort, and within a tick"
+abbrev pub isServed : Frame → Bool
+isServed f = cond (isWrite (f .op)) (eqb (f .txn) 0) (isCommit (f .op) || isAbort (f .op) || isTick (f .op))
 
--- a tick until service: "the clock advances; transactions that end now are aborted, by number, each with an exception ..;
--- stored entries that end now are removed, held or not"
-abbrev pub advanced : Model → Model
-advanced m = withClock (m .clock + 1) m
+pub data Service (f : Frame) (m : Model) : List Record → List LookUp → Type 0 where
+  follows : {founds : List Record} {left : List LookUp} → isServed f ≡ true
+      → Serves (m .txns) (m .entries) (m .waits) founds left
+      → Service f m founds left
+  follows-not : isServed f ≡ false → Service f m [] (m .waits)
 
-abbrev pub ended : Model → List Txn
-ended m = endedTxns (advanced m)
+-- In a tick: "transactions that end now are aborted, by number, each with an exception ..; stored entries that end now
+-- are removed, held or not"
+abbrev pub endNow : Model → List Txn
+endNow m = filterb (λ t. reached (m .clock) (t .end)) (m .txns)
 
-abbrev pub lapsed : Model → Model
-lapsed m = dropEnded (abortAll (ended m) (advanced m))
+abbrev pub entriesLeft : Model → List Entry
+entriesLeft m = filterb (λ e. not (reached (m .clock) (e .end))) (m .entries)
 
--- "waiting look-ups whose deadline is reached"
-abbrev pub due : Model → List LookUp → List LookUp
-due m ws = filterb (λ w. reached (m .clock + 1) (w .deadline)) ws
+abbrev pub exceptions : Frame → Model → List Record
+exceptions f m = cond (isTick (f .op)) (map exception (endNow m)) []
 
--- "The frame's own record comes first, then exceptions, founds in the order served, nothings." Service comes "after a
--- write outside transactions, a commit, an abort, and within a tick".
+abbrev pub lapsed : Frame → Model → Model
+lapsed f m = let n = abortAll (endNow m) m in cond (isTick (f .op)) (withEntries (entriesLeft n) n) m
+
+-- in a tick: "waiting look-ups whose deadline is reached get nothing, in order of arrival"
+abbrev pub nothings : Frame → Model → List LookUp → List Record
+nothings f m left = cond (isTick (f .op)) (map nothing (filterb (λ w. reached (m .clock) (w .deadline)) left)) []
+
+-- What every step ends with: "then exceptions, founds in the order served, nothings."
+pub data Ends (f : Frame) (m : Model) : List Record → Type 0 where
+  in-order : {founds : List Record} {left : List LookUp} → Service f (lapsed f m) founds left
+      → Ends f m (exceptions f m ++ founds ++ nothings f m left)
+
+-- "The frame's own record comes first"
 pub data Said (f : Frame) (m : Model) : List Record → Type 0 where
-  writes : {founds : List Record} {left : List LookUp} → isWrite (f .op) ≡ true
-      → f .txn ≡ 0
-      → Service (stored m f) founds left
-      → Said f m (written f (m .nextEntry) ∷ founds)
-  writes-inside : isWrite (f .op) ≡ true → (f .txn ≡ 0 → ⊥) → Said f m (written f (m .nextEntry) ∷ [])
-  creates : isCreate (f .op) ≡ true → Said f m (created f (m .nextTxn) ∷ [])
-  commits : {founds : List Record} {left : List LookUp} → isCommit (f .op) ≡ true
-      → Service (commit (f .txn) m) founds left
-      → Said f m (committed f ∷ founds)
-  aborts : {founds : List Record} {left : List LookUp} → isAbort (f .op) ≡ true
-      → Service (abort (f .txn) m) founds left
-      → Said f m (aborted f ∷ founds)
-  ticks : {founds : List Record} {left : List LookUp} → isTick (f .op) ≡ true
-      → Service (lapsed m) founds left
-      → Said f m (ticked ∷ map exception (ended m) ++ founds ++ map nothing (due m left))
+  own-first : {own : Record} {n : Model} {rest : List Record} → Own f m own n → Ends f n rest → Said f m (own ∷ rest)

@@ -8,11 +8,11 @@ use mathlib.Core.List.{List, [], _∷_, _++_, map, List·Memᴰ}
 use lib.Dec.{eqb}
 use Rattle.rules.specs.declared.Entry.{Entry}
 use Rattle.rules.specs.declared.Txn.{Txn}
-use Rattle.rules.specs.Lists.{filterb, anyb, joined}
+use Rattle.rules.specs.Lists.{filterb, anyb, joined, distinct}
 use Rattle.rules.specs.Time.{reached}
 use Rattle.rules.specs.State.{Model}
 use Rattle.rules.specs.Template.{bit}
-use Rattle.demands.specs.SerialRun.{Kept, Operation, adds, finds, Pending, Run, keptOf, distinct}
+use Rattle.rules.specs.SerialRun.{Kept, Operation, adds, finds, Pending, Run, keptOf}
 
 -- an entry: the transaction that it is private to (0: committed), those that have taken it, and those that have read it
 pub record Told : Type 0 where

@@ -1,0 +1,61 @@
+-- Lists that ascend by number: of what is left, renewed or added; each number stands once.
+use Prim.Native.Nat.{ℕ, _<_}
+use mathlib.Core.Bool.{Bool, true}
+use mathlib.Core.Path.{_≡_, refl, sym, ap, _∙_, subst⁻¹}
+use mathlib.Core.List.{List, [], _∷_, _++_, map, List·Memᴰ, List·Memᴰ·head, List·Memᴰ·tail, Memᴰ·map}
+use native.Mathlib.Omega.{arith}
+use borrow.Author.Tests.{ne-eqb}
+use lib.Dec.{eqb}
+use Rattle.rules.specs.Lists.{filterb, distinct}
+use Rattle.rules.proofs.BoolLaws.{cond-cases}
+use Rattle.rules.proofs.ListLaws.{all-false}
+use Rattle.demands.specs.Bounds.{Ascending}
+use Rattle.demands.proofs.AllLaws.{All, all-none, all-snoc, all-filter, all-map}
+
+module _ {A : Type 0} (number : A → ℕ) where
+  pub ascend-filter : (p : A → Bool) (xs : List A) → Ascending (map number xs) → Ascending (map number (filterb p xs))
+  unfolding Ascending
+  ascend-filter p [] a = tt
+  ascend-filter p (x ∷ xs) a =
+      let rest = ascend-filter p xs (a .1) in
+      cond-cases (λ (l : List A). Ascending (map number l)) (p x)
+      (λ _. (
+        all-map (λ k. number x < k) number (filterb p xs)
+            (all-filter p xs (λ y i _. a .0 (number y) (Memᴰ·map number i))),
+        rest,
+      )) (λ _. rest)
+
+  pub ascend-map : (g : A → A) → ((x : A) → number (g x) ≡ number x) → (xs : List A) → Ascending (map number xs)
+      → Ascending (map number (map g xs))
+  ascend-map g h xs a = subst⁻¹ Ascending (same xs) a
+    where
+      same : (xs : List A) → map number (map g xs) ≡ map number xs
+      same [] = refl
+      same (x ∷ xs) = rw (h x, same xs)
+
+  pub ascend-snoc : (x : A) (xs : List A) → All (λ y. number y < number x) xs → Ascending (map number xs)
+      → Ascending (map number (xs ++ (x ∷ [])))
+  unfolding Ascending
+  ascend-snoc x [] h a = (all-none (λ k. number x < k), tt)
+  ascend-snoc x (y ∷ ys) h a = (
+    all-map (λ k. number y < k) number (ys ++ (x ∷ []))
+        (all-snoc ys (λ z i. a .0 (number z) (Memᴰ·map number i)) (h y (List·Memᴰ·head refl))),
+    ascend-snoc x ys (λ z i. h z (List·Memᴰ·tail i)) (a .1),
+  )
+
+  -- two with one number are one
+  pub ascend-unique : {x y : A} {xs : List A} → Ascending (map number xs) → List·Memᴰ x xs → List·Memᴰ y xs
+      → number x ≡ number y → x ≡ y
+  unfolding Ascending
+  ascend-unique a (List·Memᴰ·head e) (List·Memᴰ·head d) q = e ∙ sym d
+  ascend-unique {x} {y} a (List·Memᴰ·head e) (List·Memᴰ·tail j) q =
+      absurd (let l = a .0 (number y) (Memᴰ·map number j) in let same = ap number e in omega arith)
+  ascend-unique {x} {y} a (List·Memᴰ·tail i) (List·Memᴰ·head d) q =
+      absurd (let l = a .0 (number x) (Memᴰ·map number i) in let same = ap number d in omega arith)
+  ascend-unique a (List·Memᴰ·tail i) (List·Memᴰ·tail j) q = ascend-unique (a .1) i j q
+
+pub ascending-distinct : (ns : List ℕ) → Ascending ns → distinct ns ≡ true
+unfolding Ascending distinct
+ascending-distinct [] a = refl
+ascending-distinct (n ∷ ns) a =
+    rw (all-false (eqb n) ns (λ k i. ne-eqb n k (λ q. let l = a .0 k i in omega arith))) (ascending-distinct ns (a .1))

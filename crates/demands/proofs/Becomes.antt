@@ -1,0 +1,175 @@
+-- Where an entry, a look-up and a transaction come from that are there after an event.
+use Prim.Native.Nat.{ℕ, _+_}
+use mathlib.Core.Bool.{Bool, true, not}
+use mathlib.Core.Logic.{_⊎_, inl, inr}
+use mathlib.Core.Path.{_≡_, refl}
+use mathlib.Core.List.{List, map, List·Memᴰ}
+use borrow.Author.Tests.{eqb-false, not-true}
+use lib.Dec.{eqb}
+use Rattle.rules.specs.declared.Entry.{Entry}
+use Rattle.rules.specs.declared.Txn.{Txn}
+use Rattle.rules.specs.declared.LookUp.{LookUp}
+use Rattle.rules.specs.Lists.{filterb}
+use Rattle.rules.specs.Time.{until, reached}
+use Rattle.rules.specs.State.{Model}
+use Rattle.rules.specs.Holds.{available}
+use Rattle.rules.specs.Frame.{Frame, isWrite, isLookUp, isCreate, isCommit, isTick}
+use Rattle.rules.specs.Records.{written, found, nothing, waiting, created, committed, aborted, exception, ticked}
+use Rattle.rules.specs.Records.{refused}
+use Rattle.rules.specs.Write.{newEntry, stored}
+use Rattle.rules.specs.LookUp.{lookUpOf}
+use Rattle.rules.specs.Transactions.{freeSlot, create, privateTo, takenBy, released, withoutTxn, commit, abort}
+use Rattle.rules.specs.Tick.{dropEnded}
+use Rattle.rules.specs.SerialRun.{Kept, keptOf}
+use Rattle.rules.proofs.ListLaws.{count}
+use Rattle.demands.specs.Answers.{isTicked}
+use Rattle.demands.specs.Bounds.{ByNumber}
+use Rattle.demands.proofs.AllLaws.{All, all-snoc, all-filter, all-map, out-all, out-mem}
+use Rattle.demands.proofs.AscendingLaws.{ascend-unique}
+use Rattle.demands.proofs.HoldLaws.{eqb-cases, heldBy, handed-all}
+use Rattle.demands.proofs.Events.{Admitted, Heard, says, Event, refuses, asks, writes, is-found, is-nothing}
+use Rattle.demands.proofs.Events.{is-waiting, creates, commits, aborts, ticks, excepts, expires}
+
+-- the transaction that a create makes
+abbrev pub newTxn : Model → Frame → Txn
+newTxn m f =
+    record {
+      id = record { 0 = m .nextTxn };
+      party = f .party;
+      end = until (m .clock) (f .leaseOrTimeout);
+      slot = freeSlot (m .txns);
+    }
+
+-- an entry, with the transactions that are live then: it is new; or it is an old one, with number, fields and end as
+-- they were, unchanged, or committed and with a hold, or released by a transaction that ends
+pub data Becomes (f : Frame) (m : Model) : Entry → List Txn → Type 0 where
+  is-new : isWrite (f .op) ≡ true → Admitted f m → (f .leaseOrTimeout ≡ 0 → ⊥) → Becomes f m (newEntry m f) (m .txns)
+  as-was : (e : Entry) → List·Memᴰ e (m .entries) → Becomes f m e (m .txns)
+  as-ever : (e : Entry) → List·Memᴰ e (m .entries) → Becomes f m e (create m f .model .txns)
+  is-held : (w : LookUp) (e : Entry) (b : Bool) → List·Memᴰ w (m .waits) → List·Memᴰ e (m .entries)
+      → available (m .txns) w e ≡ true → w .takes ≡ b → e .«private_to» .0 ≡ 0 → (w .txn .0 ≡ 0 → ⊥)
+      → Becomes f m (heldBy (m .txns) w e b) (m .txns)
+  is-freed : (t : ℕ) (e : Entry) → List·Memᴰ e (m .entries)
+      → Becomes f m (released (m .txns) t e) (withoutTxn t (m .txns))
+
+freed-all : (f : Frame) (m : Model) (t : ℕ) (p : Entry → Bool)
+    → All (λ e. Becomes f m e (withoutTxn t (m .txns))) (map (released (m .txns) t) (filterb p (m .entries)))
+freed-all f m t p =
+    all-map (λ e. Becomes f m e (withoutTxn t (m .txns))) (released (m .txns) t) (filterb p (m .entries))
+    (all-filter p (m .entries) (λ e i _. is-freed t e i))
+
+pub becomes : {f : Frame} {m n : Model} {hs : List Heard} → Event f m hs n → ByNumber m
+    → All (λ e. Becomes f m e (n .txns)) (n .entries)
+unfolding stored create commit abort dropEnded
+becomes (refuses m bs area q) s = as-was
+becomes (asks m t a) s = as-was
+becomes {f} (writes m t a) s =
+    eqb-cases (All (λ e. Becomes f m e (m .txns))) (f .leaseOrTimeout) 0 (λ _. as-was)
+    (λ d. all-snoc (m .entries) as-was (is-new t a d))
+becomes {f} (is-found m w e ws o i av) s =
+    handed-all (m .txns) w e (m .entries) av (λ x. Becomes f m x (m .txns))
+    (λ x j q. ascend-unique (λ (y : Entry). y .id .0) (s .entries) j i q) (λ x j _. as-was x j)
+    (λ _ _. as-was e i) (λ b t c d. is-held w e b (out-mem o) i av t c d)
+becomes (is-nothing m w ws o n c) s = as-was
+becomes (is-waiting m w i q n d c) s = as-was
+becomes (creates m t a) s = as-ever
+becomes {f} (commits m t a) s = freed-all f m (f .txn) (λ e. not (takenBy (f .txn) e))
+becomes {f} (aborts m t a) s = freed-all f m (f .txn) (λ e. not (privateTo (f .txn) e))
+becomes (ticks m t a) s = as-was
+becomes {f} (excepts m t k i r) s = freed-all f m (t .id .0) (λ e. not (privateTo (t .id .0) e))
+becomes (expires m k) s = all-filter (λ e. not (reached (m .clock) (e .end))) (m .entries) (λ e i _. as-was e i)
+
+-- a look-up, with the transactions that are live then: the frame's, or one that waited on, not inside one that ends
+-- (nobody waits inside the one that a frame ends: Sound)
+pub data WaitsOn (f : Frame) (m : Model) : LookUp → List Txn → Type 0 where
+  is-asked : isLookUp (f .op) ≡ true → Admitted f m → WaitsOn f m (lookUpOf m f) (m .txns)
+  waited : (w : LookUp) → List·Memᴰ w (m .waits) → WaitsOn f m w (m .txns)
+  waited-ever : (w : LookUp) → List·Memᴰ w (m .waits) → WaitsOn f m w (create m f .model .txns)
+  waited-commit : isCommit (f .op) ≡ true → Admitted f m → (w : LookUp) → List·Memᴰ w (m .waits)
+      → WaitsOn f m w (withoutTxn (f .txn) (m .txns))
+  is-outside : (t : ℕ) (w : LookUp) → List·Memᴰ w (m .waits) → (w .txn .0 ≡ t → ⊥)
+      → WaitsOn f m w (withoutTxn t (m .txns))
+
+outside-all : (f : Frame) (m : Model) (t : ℕ)
+    → All (λ w. WaitsOn f m w (withoutTxn t (m .txns))) (filterb (λ w. not (eqb (w .txn .0) t)) (m .waits))
+outside-all f m t =
+    all-filter (λ w. not (eqb (w .txn .0) t)) (m .waits)
+    (λ w i r. is-outside t w i (eqb-false (w .txn .0) t (not-true _ r)))
+
+pub waits-on : {f : Frame} {m n : Model} {hs : List Heard} → Event f m hs n
+    → All (λ w. WaitsOn f m w (n .txns)) (n .waits)
+unfolding stored create commit abort dropEnded
+waits-on (refuses m bs area q) = waited
+waits-on (asks m t a) = all-snoc (m .waits) waited (is-asked t a)
+waits-on (writes m t a) = waited
+waits-on (is-found m w e ws o i av) = out-all o waited
+waits-on (is-nothing m w ws o n c) = out-all o waited
+waits-on (is-waiting m w i q n d c) = waited
+waits-on (creates m t a) = waited-ever
+waits-on (commits m t a) = waited-commit t a
+waits-on {f} (aborts m t a) = outside-all f m (f .txn)
+waits-on (ticks m t a) = waited
+waits-on {f} (excepts m t k i r) = outside-all f m (t .id .0)
+waits-on (expires m k) = waited
+
+-- what holds of numbers, fields and ends holds on, if it holds of a new entry
+pub kept-all : (K : Kept → Type 0) {f : Frame} {m n : Model} {hs : List Heard} → Event f m hs n → ByNumber m
+    → (isWrite (f .op) ≡ true → Admitted f m → (f .leaseOrTimeout ≡ 0 → ⊥) → K (keptOf (newEntry m f)))
+    → All (λ e. K (keptOf e)) (m .entries) → All (λ e. K (keptOf e)) (n .entries)
+unfolding released
+kept-all K {f} {m} e s new h x i = go (becomes e s x i)
+  where
+    go : {x : Entry} {ts : List Txn} → Becomes f m x ts → K (keptOf x)
+    go (is-new t a d) = new t a d
+    go (as-was x i) = h x i
+    go (as-ever x i) = h x i
+    go (is-held w x b j i av t c d) = h x i
+    go (is-freed t x i) = h x i
+
+-- what holds of the look-ups holds on, if it holds of the frame's
+pub waits-all : (W : LookUp → Type 0) {f : Frame} {m n : Model} {hs : List Heard} → Event f m hs n
+    → (isLookUp (f .op) ≡ true → Admitted f m → W (lookUpOf m f)) → All W (m .waits) → All W (n .waits)
+waits-all W {f} {m} e new h w i = go (waits-on e w i)
+  where
+    go : {w : LookUp} {ts : List Txn} → WaitsOn f m w ts → W w
+    go (is-asked t a) = new t a
+    go (waited w i) = h w i
+    go (waited-ever w i) = h w i
+    go (waited-commit t a w i) = h w i
+    go (is-outside t w i d) = h w i
+
+-- and so of the live transactions
+pub txns-all : (T : Txn → Type 0) {f : Frame} {m n : Model} {hs : List Heard} → Event f m hs n
+    → (isCreate (f .op) ≡ true → Admitted f m → T (newTxn m f)) → All T (m .txns) → All T (n .txns)
+unfolding stored create commit abort withoutTxn dropEnded
+txns-all T (refuses m bs area q) new h = h
+txns-all T (asks m t a) new h = h
+txns-all T (writes m t a) new h = h
+txns-all T (is-found m w e ws o i av) new h = h
+txns-all T (is-nothing m w ws o n c) new h = h
+txns-all T (is-waiting m w i q n d c) new h = h
+txns-all T (creates m t a) new h = all-snoc (m .txns) h (new t a)
+txns-all T {f} (commits m t a) new h = all-filter (λ x. not (eqb (x .id .0) (f .txn))) (m .txns) (λ x i _. h x i)
+txns-all T {f} (aborts m t a) new h = all-filter (λ x. not (eqb (x .id .0) (f .txn))) (m .txns) (λ x i _. h x i)
+txns-all T (ticks m t a) new h = h
+txns-all T (excepts m t k i r) new h = all-filter (λ x. not (eqb (x .id .0) (t .id .0))) (m .txns) (λ x i _. h x i)
+txns-all T (expires m k) new h = h
+
+-- the clock stands, or a tick moves it and says so
+pub clock-moves : {f : Frame} {m n : Model} {hs : List Heard} → Event f m hs n
+    → ((n .clock ≡ m .clock) × (count (says isTicked) hs ≡ 0))
+    ⊎ ((n .clock ≡ m .clock + 1) × (count (says isTicked) hs ≡ 1) × (isTick (f .op) ≡ true) × Admitted f m)
+unfolding stored create commit abort dropEnded written found nothing waiting created committed aborted exception ticked
+    refused
+clock-moves (refuses m bs area q) = inl (refl, refl)
+clock-moves (asks m t a) = inl (refl, refl)
+clock-moves (writes m t a) = inl (refl, refl)
+clock-moves (is-found m w e ws o i av) = inl (refl, refl)
+clock-moves (is-nothing m w ws o n c) = inl (refl, refl)
+clock-moves (is-waiting m w i q n d c) = inl (refl, refl)
+clock-moves (creates m t a) = inl (refl, refl)
+clock-moves (commits m t a) = inl (refl, refl)
+clock-moves (aborts m t a) = inl (refl, refl)
+clock-moves (ticks m t a) = inr (refl, refl, t, a)
+clock-moves (excepts m t k i r) = inl (refl, refl)
+clock-moves (expires m k) = inl (refl, refl)

@@ -1,0 +1,145 @@
+-- The book that frames and records alone keep is the space's clock, next numbers, live transactions and waiting
+-- look-ups; and each found and nothing closes exactly one look-up.
+use Prim.Native.Nat.{ℕ, _+_, _≤_}
+use mathlib.Core.Bool.{Bool, true, false, not, cond, _&&_}
+use mathlib.Core.Path.{_≡_, refl, sym, ap, ap₂, _∙_, subst}
+use mathlib.Core.List.{List, [], _∷_, _++_, map, map-append}
+use native.Mathlib.Omega.{arith}
+use native.Mathlib.Nat.{le-trans}
+use borrow.Author.Tests.{eq-eqb, ne-eqb}
+use lib.Dec.{eqb}
+use lib.ListN.{length}
+use Rattle.rules.specs.declared.Record.{Record}
+use Rattle.rules.specs.declared.Txn.{Txn}
+use Rattle.rules.specs.declared.LookUp.{LookUp}
+use Rattle.rules.specs.Lists.{filterb}
+use Rattle.rules.specs.Time.{until}
+use Rattle.rules.specs.State.{Model, empty, withClock}
+use Rattle.rules.specs.Frame.{Frame}
+use Rattle.rules.specs.Records.{written, found, nothing, waiting, created, committed, aborted, exception, ticked}
+use Rattle.rules.specs.Records.{refused}
+use Rattle.rules.specs.Write.{stored}
+use Rattle.rules.specs.LookUp.{lookUpOf}
+use Rattle.rules.specs.Transactions.{create, withoutTxn, commit, abort}
+use Rattle.rules.specs.Tick.{dropEnded}
+use Rattle.rules.proofs.LayoutLaws.{abort-ends}
+use Rattle.rules.proofs.ListLaws.{filter-filter, filter-pass, length-filter, count, count-cons, count-mem}
+use Rattle.demands.specs.Answers.{ofParty}
+use Rattle.demands.specs.Book.{LiveTold, Book, newBook, names, enters, entersAll, withAsked, arrives, keepBook}
+use Rattle.demands.specs.Book.{bookOf, Booked}
+use Rattle.demands.proofs.Runs.{Input, runs, made}
+use Rattle.demands.proofs.AllLaws.{filter-map, Out, here, there}
+use Rattle.demands.proofs.HoldLaws.{not-so}
+use Rattle.demands.proofs.EachLaws.{Each}
+use Rattle.demands.proofs.Events.{Heard, Event, refuses, asks, writes, is-found, is-nothing, is-waiting, creates}
+use Rattle.demands.proofs.Events.{commits, aborts, ticks, excepts, expires}
+use Rattle.demands.proofs.Sound.{Sound, not-inside}
+use Rattle.demands.proofs.SoundProof.{Reader, hearsAll, reads-log, made-keep}
+
+-- one place passes, and no other can: the rest is the list without it
+one-passes : {A : Type 0} (p : A → Bool) {x : A} {xs ys : List A} → Out x xs ys → p x ≡ true → count p xs ≤ 1
+    → (filterb (λ y. not (p y)) xs ≡ ys) × (count p xs ≡ 1)
+one-passes p {x} (here xs) t h =
+    let n : count p (x ∷ xs) ≡ 1 + count p xs = count-cons p x xs ∙ ap (λ b. cond b 1 0 + count p xs) t in
+    let alone = filter-pass (λ y. not (p y)) xs
+    (λ y i. ap not (not-so (p y) (λ u. let l = count-mem p i u in omega arith))) in
+    (rw t alone, omega arith)
+one-passes {A} p (there {y} {xs} {ys} o) t h = go (p y) refl (one-passes p o t (omega (arith, count-cons p y xs)))
+  where
+    go : (b : Bool) → p y ≡ b → (filterb (λ z. not (p z)) xs ≡ ys) × (count p xs ≡ 1)
+        → (cond (not b) (y ∷ filterb (λ z. not (p z)) xs) (filterb (λ z. not (p z)) xs) ≡ y ∷ ys)
+        × (length (cond b (y ∷ filterb p xs) (filterb p xs)) ≡ 1)
+    go true e r =
+        let n : count p (y ∷ xs) ≡ 1 + count p xs = count-cons p y xs ∙ ap (λ b. cond b 1 0 + count p xs) e in
+        absurd (let q = r .1 in omega arith)
+    go false e r = (ap {B = List A} (λ l. y ∷ l) (r .0), r .1)
+
+-- where each party has one look-up at most, a record names one look-up at most
+named : (a : Record) (w : LookUp) {xs ys : List LookUp} → names a w ≡ true → Each xs → Out w xs ys
+    → (filterb (λ v. not (names a v)) xs ≡ ys) × (count (names a) xs ≡ 1)
+named a w {xs} t h o =
+    let inside : LookUp → Bool = λ v. eqb (v .txn .0) (a .txn .0) in
+    let few =
+    subst (λ (l : List LookUp). length l ≤ count (ofParty (a .party)) xs) (filter-filter inside (ofParty (a .party)) xs)
+    (length-filter inside (filterb (ofParty (a .party)) xs)) in
+    one-passes (names a) o t (le-trans few (h (a .party)))
+
+itself : (w : LookUp) → (eqb (w .party) (w .party) && eqb (w .txn .0) (w .txn .0)) ≡ true
+itself w = ap₂ (λ p q. p && q) (eq-eqb (w .party) (w .party) refl) (eq-eqb (w .txn .0) (w .txn .0) refl)
+
+-- the live transactions without one
+told : Txn → LiveTold
+told t = record { number = t .id .0; party = t .party; end = t .end }
+
+module _ {b : Book} {m : Model} (h : Booked b m) where
+  ended : (t : ℕ) → filterb (λ (x : LiveTold). not (eqb (x .number) t)) (b .live) ≡ map told (withoutTxn t (m .txns))
+  unfolding told withoutTxn
+  ended t =
+      let left : LiveTold → Bool = λ x. not (eqb (x .number) t) in
+      ap (filterb left) (h .live) ∙ filter-map left told (m .txns)
+
+  -- a record that the book has nothing to say to
+  fine : (b .right && true) ≡ true
+  fine = ap (λ x. x && true) (h .right)
+
+  counted : (i j : ℕ) → i ≡ j → (b .right && eqb i j) ≡ true
+  counted i j q = ap₂ (λ x y. x && y) (h .right) (eq-eqb i j q)
+
+booked : {b : Book} {m : Model} → b .right ≡ true → b .clock ≡ m .clock → b .nextEntry ≡ m .nextEntry
+    → b .nextTxn ≡ m .nextTxn → b .live ≡ map told (m .txns) → b .waiting ≡ m .waits → Booked b m
+unfolding told
+booked r c e t l w = record { right = r; clock = c; next-entry = e; next-txn = t; live = l; waiting = w }
+
+books : Reader Book
+books = record { asked = λ f b. withAsked (lookUpOf (withClock (b .clock) empty) f) b; reads = enters }
+
+-- each event is booked as it happens
+book-event : {f : Frame} {m n : Model} {hs : List Heard} (b : Book) → Event f m hs n → Sound m → Booked b m
+    → Booked (hearsAll books f hs b) n
+unfolding books enters told written stored found nothing waiting created create committed commit aborted abort exception
+    ticked refused
+    dropEnded lookUpOf
+book-event {f} b (refuses m bs area q) s h =
+    booked (fine h) (h .clock) (h .next-entry) (h .next-txn) (h .live) (h .waiting)
+book-event {f} b (asks m t a) s h =
+    booked (h .right) (h .clock) (h .next-entry) (h .next-txn) (h .live)
+    (ap₂ (λ (l : List LookUp) (n : ℕ). l ++ (lookUpOf (withClock n empty) f ∷ [])) (h .waiting) (h .clock))
+book-event {f} b (writes m t a) s h =
+    booked (counted h (m .nextEntry) (b .nextEntry) (sym (h .next-entry))) (h .clock) (ap (λ n. n + 1) (h .next-entry))
+    (h .next-txn) (h .live) (h .waiting)
+book-event {f} b (is-found m w x ws o i av) s h =
+    let r = named (found w x) w (itself w) (s .each) o in
+    booked (counted h _ 1 (ap (count (names (found w x))) (h .waiting) ∙ r .1)) (h .clock) (h .next-entry) (h .next-txn)
+    (h .live) (ap (filterb (λ v. not (names (found w x) v))) (h .waiting) ∙ r .0)
+book-event {f} b (is-nothing m w ws o n c) s h =
+    let r = named (nothing w) w (itself w) (s .each) o in
+    booked (counted h _ 1 (ap (count (names (nothing w))) (h .waiting) ∙ r .1)) (h .clock) (h .next-entry) (h .next-txn)
+    (h .live) (ap (filterb (λ v. not (names (nothing w) v))) (h .waiting) ∙ r .0)
+book-event {f} b (is-waiting m w i q n d c) s h =
+    booked (fine h) (h .clock) (h .next-entry) (h .next-txn) (h .live) (h .waiting)
+book-event {f} b (creates m t a) s h =
+    booked (counted h (m .nextTxn) (b .nextTxn) (sym (h .next-txn))) (h .clock) (h .next-entry)
+    (ap (λ n. n + 1) (h .next-txn)) (ap₂ (λ (l : List LiveTold) (k : ℕ).
+    l ++ (record { number = m .nextTxn; party = f .party; end = until k (f .leaseOrTimeout) } ∷ []))
+    (h .live) (h .clock) ∙ sym (map-append told (m .txns) _)) (h .waiting)
+book-event {f} b (commits m t a) s h =
+    booked (fine h) (h .clock) (h .next-entry) (h .next-txn) (ended h (f .txn)) (h .waiting)
+book-event {f} b (aborts m t a) s h =
+    let outside : LookUp → Bool = λ w. not (eqb (w .txn .0) (f .txn)) in
+    let calm = not-inside s a (a .ends (abort-ends (f .op) t)) in
+    booked (fine h) (h .clock) (h .next-entry) (h .next-txn) (ended h (f .txn))
+    (h .waiting ∙ sym (filter-pass outside (m .waits) (λ w i. ap not (ne-eqb (w .txn .0) (f .txn) (calm w i)))))
+book-event {f} b (ticks m t a) s h =
+    booked (fine h) (ap (λ n. n + 1) (h .clock)) (h .next-entry) (h .next-txn) (h .live) (h .waiting)
+book-event {f} b (excepts m t k i r) s h =
+    booked (fine h) (h .clock) (h .next-entry) (h .next-txn) (ended h (t .id .0))
+    (ap (filterb (λ (w : LookUp). not (eqb (w .txn .0) (t .id .0)))) (h .waiting))
+book-event b (expires m k) s h = booked (h .right) (h .clock) (h .next-entry) (h .next-txn) (h .live) (h .waiting)
+
+pub book-demand : (is : List Input) → Booked (bookOf (runs empty is .log)) (made is)
+unfolding books bookOf keepBook entersAll arrives told
+book-demand is =
+    subst (λ c. Booked c (made is))
+    (reads-log books entersAll keepBook (λ f b. refl) (λ f a rs b. refl) (λ b. refl) (λ l ls b. refl)
+    (runs empty is .log) newBook)
+    (made-keep books (λ m b. Booked b m) (λ f m n hs b. book-event b) newBook (booked refl refl refl refl refl refl) is)

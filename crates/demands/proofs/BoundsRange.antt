@@ -1,0 +1,201 @@
+-- The records of a history of frames that are bytes have every number in the range of its bytes.
+use Prim.Native.Nat.{ℕ, zero, suc, _+_, _*_, _≤_, _<_}
+use mathlib.Core.Bool.{not, _&&_}
+use mathlib.Core.Path.{refl, subst⁻¹}
+use mathlib.Core.List.{List, [], _∷_, List·Memᴰ, List·Memᴰ·head, List·Memᴰ·tail, Memᴰ·map}
+use native.Mathlib.Omega.{arith}
+use Rattle.rules.specs.declared.Entry.{Entry}
+use Rattle.rules.specs.declared.Fields.{Fields}
+use Rattle.rules.specs.declared.Record.{Record}
+use Rattle.rules.specs.declared.Txn.{Txn}
+use Rattle.rules.specs.declared.LookUp.{LookUp}
+use Rattle.rules.specs.Numbers.{forever}
+use Rattle.rules.specs.State.{Model, empty}
+use Rattle.rules.specs.Frame.{Frame, byteAt, numberAt, decode, isLookUp}
+use Rattle.rules.specs.Records.{noFields, plain, written, found, nothing, waiting, created, committed, aborted}
+use Rattle.rules.specs.Records.{exception, ticked, refused}
+use Rattle.rules.specs.Write.{newEntry, stored}
+use Rattle.rules.specs.LookUp.{lookUpOf}
+use Rattle.rules.specs.Transactions.{create, commit, abort}
+use Rattle.rules.specs.Tick.{dropEnded}
+use Rattle.rules.specs.Refusals.{refusal}
+use Rattle.rules.specs.Step.{step}
+use Rattle.rules.specs.SerialRun.{Kept, keptOf, wasRefused}
+use Rattle.rules.proofs.BoolLaws.{cond-cases}
+use Rattle.demands.specs.Bounds.{InRange, AllInRange, AreBytes}
+use Rattle.demands.specs.History.{recordsOf}
+use Rattle.demands.proofs.Runs.{Input, runs, answersTo}
+use Rattle.demands.proofs.AllLaws.{All, all-none, all-cons, all-append, out-mem}
+use Rattle.demands.proofs.Events.{Heard, asking, saying, heard, Event, refuses, asks, writes, is-found}
+use Rattle.demands.proofs.Events.{is-nothing, is-waiting, creates, commits, aborts, ticks, excepts, expires}
+use Rattle.demands.proofs.Events.{Events, over, then}
+use Rattle.demands.proofs.Becomes.{kept-all, waits-all, txns-all}
+use Rattle.demands.proofs.EventsProof.{step-events}
+use Rattle.demands.proofs.Sound.{Sound}
+use Rattle.demands.proofs.SoundProof.{sound-event, sound-events, sound-empty}
+use Rattle.demands.proofs.JudgedProof.{refusal-fits}
+
+record FieldsIn (x : Fields) : Type 0 where
+  kind : x .kind < 4294967296
+  side : x .side < 4294967296
+  image : x .image < 4294967296
+  place : x .place < 4294967296
+
+record FrameIn (f : Frame) : Type 0 where
+  party : f .party < 256
+  txn : f .txn < 4294967296
+  fields : FieldsIn (f .fields)
+
+-- a frame of bytes
+byte-in : (bs : List ℕ) → AreBytes bs → (i : ℕ) → byteAt bs i < 256
+byte-in [] h i = omega arith
+byte-in (b ∷ bs) h zero = h b (List·Memᴰ·head refl)
+byte-in (b ∷ bs) h (suc i) = byte-in bs (λ c j. h c (List·Memᴰ·tail j)) i
+
+number-in : (bs : List ℕ) → AreBytes bs → (i : ℕ) → numberAt bs i < 4294967296
+unfolding numberAt
+number-in bs h i = sum (byte-in bs h i) (byte-in bs h (i + 1)) (byte-in bs h (i + 2)) (byte-in bs h (i + 3))
+  where
+    sum : {a b c d : ℕ} → a < 256 → b < 256 → c < 256 → d < 256 → a + 256 * b + 65536 * c + 16777216 * d < 4294967296
+    sum p q r s = omega arith
+
+frame-in : (bs : List ℕ) → AreBytes bs → FrameIn (decode bs)
+unfolding decode
+frame-in bs h =
+    record {
+      party = byte-in bs h 1;
+      txn = number-in bs h 4;
+      fields =
+          record {
+            kind = number-in bs h 12;
+            side = number-in bs h 16;
+            image = number-in bs h 20;
+            place = number-in bs h
+                24;
+          };
+    }
+
+-- the tables
+abbrev KeptIn : Kept → Type 0
+KeptIn k = (k .number < 4294967296) × FieldsIn (k .fields)
+
+abbrev TxnIn : Txn → Type 0
+TxnIn t = (t .id .0 < 4294967296) × (t .party < 256)
+
+abbrev WaitIn : LookUp → Type 0
+WaitIn w = (w .txn .0 < 4294967296) × (w .party < 256)
+
+record Ranged (m : Model) : Type 0 where
+  next : (m .nextEntry ≤ forever) × (m .nextTxn ≤ forever)
+  entries : All (λ e. KeptIn (keptOf e)) (m .entries)
+  txns : All TxnIn (m .txns)
+  waits : All WaitIn (m .waits)
+
+-- the records
+range : (a : Record) → a .kind < 256 → a .party < 256 → a .refusal < 256 → a .txn .0 < 4294967296
+    → a .entry .0 < 4294967296 → FieldsIn (a .fields) → InRange a
+range a k p r t e x =
+    record {
+      kind = k;
+      party = p;
+      refusal = r;
+      txn = t;
+      entry = e;
+      field-kind = x .kind;
+      field-side = x .side;
+      field-image = x .image;
+      field-place = x .place;
+    }
+
+none-in : FieldsIn noFields
+none-in = record { kind = omega arith; side = omega arith; image = omega arith; place = omega arith }
+
+plain-in : (k p t : ℕ) → k < 256 → p < 256 → t < 4294967296 → InRange (plain k p t)
+plain-in k p t a b c = range (plain k p t) a b (omega arith) c (omega arith) none-in
+
+written-in : (f : Frame) (n : ℕ) → FrameIn f → n < 4294967296 → InRange (written f n)
+unfolding written
+written-in f n h l = range (written f n) (omega arith) (h .party) (omega arith) (h .txn) l none-in
+
+refused-in : (bs : List ℕ) (n : ℕ) → FrameIn (decode bs) → n < 256 → InRange (refused bs n)
+unfolding refused decode
+refused-in bs n h l = range (refused bs n) (omega arith) (h .party) l (omega arith) (omega arith) none-in
+
+found-in : (w : LookUp) (e : Entry) → WaitIn w → KeptIn (keptOf e) → InRange (found w e)
+unfolding found
+found-in w e h k = range (found w e) (omega arith) (h .1) (omega arith) (h .0) (k .0) (k .1)
+
+abbrev HeardIn : Heard → Type 0
+HeardIn asking = Unit {0}
+HeardIn (saying a) = InRange a
+
+says-in : {a : Record} → InRange a → All HeardIn (saying a ∷ [])
+says-in h = all-cons h (all-none HeardIn)
+
+module _ {f : Frame} (h : FrameIn f) where
+  heard-in : {m n : Model} {hs : List Heard} → Event f m hs n → Ranged m
+      → All HeardIn hs × ((n .nextEntry ≤ forever) × (n .nextTxn ≤ forever))
+  unfolding stored create commit abort dropEnded nothing waiting created committed aborted exception ticked
+  heard-in (refuses m bs area q) r = (
+    says-in (refused-in bs (refusal m bs area) (subst⁻¹ FrameIn q h)
+        (let l = refusal-fits m bs area in omega arith)),
+    r .next,
+  )
+  heard-in (asks m t a) r = (all-cons tt (all-none HeardIn), r .next)
+  heard-in (writes m t a) r =
+      let l = a .entry-number t in
+      (says-in (written-in f (m .nextEntry) h (omega arith)), (omega arith, r .next .1))
+  heard-in (is-found m w e ws o i av) r = (says-in (found-in w e (r .waits w (out-mem o)) (r .entries e i)), r .next)
+  heard-in (is-nothing m w ws o n c) r =
+      let k = r .waits w (out-mem o) in (says-in (plain-in 3 _ _ (omega arith) (k .1) (k .0)), r .next)
+  heard-in (is-waiting m w i q n d c) r =
+      let k = r .waits w i in (says-in (plain-in 4 _ _ (omega arith) (k .1) (k .0)), r .next)
+  heard-in (creates m t a) r =
+      let l = a .txn-number t in
+      (says-in (plain-in 5 _ _ (omega arith) (h .party) (omega arith)), (r .next .0, omega arith))
+  heard-in (commits m t a) r = (says-in (plain-in 6 _ _ (omega arith) (h .party) (h .txn)), r .next)
+  heard-in (aborts m t a) r = (says-in (plain-in 7 _ _ (omega arith) (h .party) (h .txn)), r .next)
+  heard-in (ticks m t a) r = (says-in (plain-in 9 0 0 (omega arith) (omega arith) (omega arith)), r .next)
+  heard-in (excepts m t k i q) r =
+      let l = r .txns t i in (says-in (plain-in 8 _ _ (omega arith) (l .1) (l .0)), r .next)
+  heard-in (expires m k) r = (all-none HeardIn, r .next)
+
+  ranged-event : {m n : Model} {hs : List Heard} → Event f m hs n → Sound m → Ranged m → Ranged n
+  unfolding newEntry lookUpOf
+  ranged-event e s r =
+      record {
+        next = heard-in e r .1;
+        entries =
+            kept-all KeptIn e (s .ordered) (λ t a _. let l = a .entry-number t in (omega arith, h .fields))
+            (r .entries);
+        txns = txns-all TxnIn e (λ t a. let l = a .txn-number t in (omega arith, h .party)) (r .txns);
+        waits = waits-all WaitIn e (λ t a. (h .txn, h .party)) (r .waits);
+      }
+
+  events-in : {m n : Model} {hs : List Heard} → Events f m hs n → Sound m → Ranged m → All HeardIn hs × Ranged n
+  events-in over s r = (all-none HeardIn, r)
+  events-in (then {hs = hs} e t) s r =
+      let k = events-in t (sound-event e s) (ranged-event e s r) in
+      (all-append hs (heard-in e r .0) (k .0), k .1)
+
+runs-in : (m : Model) (is : List Input) → All (λ i. AreBytes (i .frame)) is → Sound m → Ranged m
+    → AllInRange (answersTo m is)
+unfolding answersTo recordsOf runs
+runs-in m [] h s r = all-none InRange
+runs-in m (i ∷ is) h s r =
+    let f = decode (i .frame) in
+    let o = step (i .choice) m (i .frame) (i .area) in
+    let e = step-events (i .choice) m (i .frame) (i .area) (s .ordered .txns) in
+    let k = events-in (frame-in (i .frame) (h i (List·Memᴰ·head refl))) e s r in
+    all-append (o .records) (λ a j. k .0 (saying a) (said f (o .records) a j))
+    (runs-in (o .model) is (λ l j. h l (List·Memᴰ·tail j)) (sound-events e s) (k .1))
+  where
+    said : (f : Frame) (rs : List Record) (a : Record) → List·Memᴰ a rs → List·Memᴰ (saying a) (heard f rs)
+    said f rs a j =
+        cond-cases (λ (l : List Heard). List·Memᴰ (saying a) l) (isLookUp (f .op) && not (wasRefused rs))
+        (λ _. List·Memᴰ·tail (Memᴰ·map saying j)) (λ _. Memᴰ·map saying j)
+
+pub range-demand : (is : List Input) → All (λ i. AreBytes (i .frame)) is → AllInRange (answersTo empty is)
+range-demand is h =
+    runs-in empty is h sound-empty
+    (record { next = (omega arith, omega arith); entries = all-none _; txns = all-none _; waits = all-none _ })

@@ -1,0 +1,102 @@
+-- A space whose every step is one that the rules give with some choice: its histories are runs of the rules.
+use Prim.Native.Nat.{ℕ}
+use mathlib.Core.Path.{_≡_, refl, sym, ap, ap₂, _∙_}
+use mathlib.Core.List.{List, [], _∷_}
+use lib.ListN.{length}
+use Rattle.rules.specs.declared.Record.{Record}
+use Rattle.rules.specs.State.{Model, empty}
+use Rattle.rules.specs.Words.{view}
+use Rattle.rules.specs.Records.{areaAfter}
+use Rattle.rules.specs.Step.{step}
+use Rattle.rules.specs.Allowed.{Answered}
+use Rattle.rules.specs.SerialRun.{Logged}
+use Rattle.demands.specs.Machine.{Handed, Machine, theSpace, answeredBy, theRules}
+use Rattle.demands.specs.History.{History, begun, handed, Made}
+use Rattle.demands.proofs.Runs.{Input, runs}
+use Rattle.demands.proofs.JudgedProof.{number-is, refused-model}
+
+-- a step that the rules give, with the choice made
+pub record ByRule (S : Machine) (s : S .State) (h : Handed) (t : S .State) (a : Answered) : Type 0 where
+  pub choice : ℕ → ℕ
+  pub space : S .view t ≡ step choice (S .view s) (h .frame) (length (h .area)) .model
+  pub records : a .records ≡ step choice (S .view s) (h .frame) (length (h .area)) .records
+  pub count : a .count ≡ length (a .records)
+  pub number : a .number ≡ step choice (S .view s) (h .frame) (length (h .area)) .number
+  pub bytes : a .area ≡ areaAfter (a .records) (h .area)
+  pub unchanged : (a .number ≡ 0 → ⊥) → t ≡ s
+
+pub record Follows (S : Machine) : Type 0 where
+  pub starts : (s : S .State) → S .Empty s → S .view s ≡ empty
+  pub steps : (s : S .State) (h : Handed) (t : S .State) (a : Answered) → S .Steps s h t a → ByRule S s h t a
+
+-- the space that is built, and the rules themselves
+pub space-follows : Follows theSpace
+space-follows =
+    record {
+      starts = λ s e. e;
+      steps = λ s h t a p.
+          record {
+            choice = p .choice;
+            space = p .space;
+            records = p .records;
+            count = p .count;
+            number = p .number;
+            bytes = p .bytes;
+            unchanged = p .unchanged;
+          };
+    }
+
+pub rules-follow : Follows theRules
+unfolding answeredBy
+rules-follow =
+    record {
+      starts = λ s e. e;
+      steps = λ s h t a p.
+          let o = step (p .choice) s (h .frame) (length (h .area)) in
+          let number : a .number ≡ o .number = ap (λ (x : Answered). x .number) (p .answered) in
+          let records : a .records ≡ o .records = ap (λ (x : Answered). x .records) (p .answered) in
+          record {
+            choice = p .choice;
+            space = p .space;
+            records = records;
+            count = ap (λ (x : Answered). x .count) (p .answered) ∙ ap length (sym records);
+            number = number;
+            bytes =
+                ap (λ (x : Answered). x .area) (p .answered)
+                ∙ ap (λ (rs : List Record). areaAfter rs (h .area)) (sym records);
+            unchanged = λ n.
+                p .space ∙ refused-model (p .choice) s (h .frame) (length (h .area))
+                (λ e. n (number ∙ number-is (p .choice) s (h .frame) (length (h .area)) ∙ e));
+          };
+    }
+
+-- the input of a step
+abbrev pub inputOf : Handed → (ℕ → ℕ) → Input
+inputOf h choice = record { frame = h .frame; area = length (h .area); choice = choice }
+
+-- a run from the model m with this log, to the model n
+pub record RunTo (m : Model) (log : List Logged) (n : Model) : Type 0 where
+  pub inputs : List Input
+  pub model : n ≡ runs m inputs .model
+  pub log-is : log ≡ runs m inputs .log
+
+module _ (S : Machine) (f : Follows S) where
+  pub run-to : {s t : S .State} {log : List Logged} (m : Model) → S .view s ≡ m → History S s log t
+      → RunTo m log (S .view t)
+  unfolding runs
+  run-to m e (begun s) = record { inputs = []; model = e; log-is = refl }
+  run-to m e (handed {s} {t} {u} {log} h a p rest) =
+      let q = f .steps s h t a p in
+      let o = step (q .choice) m (h .frame) (length (h .area)) in
+      let r = run-to (o .model) (q .space ∙ ap (λ n. step (q .choice) n (h .frame) (length (h .area)) .model) e) rest in
+      record {
+        inputs = inputOf h (q .choice) ∷ r .inputs;
+        model = r .model;
+        log-is =
+            ap₂ {C = List Logged} (λ (rs : List Record) l. record { frame = h .frame; records = rs } ∷ l)
+            (q .records ∙ ap (λ n. step (q .choice) n (h .frame) (length (h .area)) .records) e) (r .log-is);
+      }
+
+  -- a state that frames made is a run from the empty model
+  pub run-of : {t : S .State} {log : List Logged} → Made S log t → RunTo empty log (S .view t)
+  run-of r = run-to empty (f .starts (r .0) (r .1)) (r .2)

@@ -1,0 +1,99 @@
+-- What follows for any space that meets demands 1 and 2: it holds of the rules, and its tables and theirs are twins.
+use mathlib.Core.Bool.{Bool, true, false, cond}
+use mathlib.Core.Path.{_≡_, sym, ap, ap₂, _∙_, subst, subst⁻¹}
+use mathlib.Core.List.{List, [], _∷_, _++_, List·Memᴰ}
+use Rattle.rules.specs.declared.Record.{Record}
+use Rattle.rules.specs.declared.LookUp.{LookUp}
+use Rattle.rules.specs.State.{Model, withWaits}
+use Rattle.rules.specs.Time.{reached}
+use Rattle.rules.specs.Holds.{available}
+use Rattle.rules.specs.Frame.{Frame, decode, isLookUp}
+use Rattle.rules.specs.Records.{found, nothing, waiting}
+use Rattle.rules.specs.LookUp.{lookUpOf}
+use Rattle.demands.specs.Machine.{theRules}
+use Rattle.demands.specs.Answers.{AnsweredNow, asked, OneEach}
+use Rattle.demands.specs.Consequences.{ConsequencesFollow}
+use Rattle.rules.proofs.ListLaws.{mem-filter, filter-mem}
+use Rattle.demands.proofs.Twins.{Twins, some-same, asks-same, gives-same, available-same, available-in}
+use Rattle.demands.proofs.Twins.{found-same}
+use Rattle.demands.proofs.DeterminedProof.{rules-follow-on, made-snoc, twins, goes-on, determined-run, beside}
+
+answered-twins : (f : Frame) {m n u o : Model} {rs : List Record} → Twins m n → Twins u o
+    → AnsweredNow n (lookUpOf n f) (f .leaseOrTimeout) rs o → AnsweredNow m (lookUpOf m f) (f .leaseOrTimeout) rs u
+answered-twins f {m} {n} {u} {o} {rs} t t′ a =
+    let w = lookUpOf m f in
+    let w′ = lookUpOf n f in
+    record {
+      found-case = λ q.
+          let x = a .found-case (sym (some-same f t) ∙ q) in
+          let i = mem-filter (available (n .txns) w′) (n .entries) (x .1) in
+          let e = t .entries .back (x .0) (i .0) in
+          let av : available (m .txns) w (e .0) ≡ true =
+          available-same (t .peers) w (e .0) (x .0) (e .2) ∙ ap (λ v. available (n .txns) v (x .0)) (asks-same f t)
+          ∙ i .1 in (
+            e .0,
+            filter-mem (available (m .txns) w) (e .1) av,
+            x .2
+                ∙ ap (λ (r : Record). r ∷ []) (ap (λ v. found v (x .0)) (sym (asks-same f t))
+                ∙ sym (found-same w (e .2))),
+          );
+      nothing-case = λ q g.
+          a .nothing-case (sym (some-same f t) ∙ q) (sym (gives-same f t) ∙ g)
+          ∙ ap (λ v. nothing v ∷ []) (sym (asks-same f t));
+      waiting-case = λ q g.
+          let r = a .waiting-case (sym (some-same f t) ∙ q) (sym (gives-same f t) ∙ g) in (
+            r .0 ∙ ap (λ v. waiting v ∷ []) (sym (asks-same f t)),
+            ap (λ k. k .waits) (t′ .same) ∙ r .1
+                ∙ ap₂ (λ (k : Model) (v : LookUp). k .waits ++ (v ∷ [])) (sym (t .same)) (sym (asks-same f t)),
+          );
+    }
+
+asked-same : (f : Frame) {m n : Model} → Twins m n → asked m f .waits ≡ asked n f .waits
+unfolding asked
+asked-same f {m} {n} t = go (isLookUp (f .op))
+  where
+    waits : m .waits ≡ n .waits
+    waits = ap (λ k. k .waits) (t .same)
+
+    go : (b : Bool)
+        → cond b (withWaits (m .waits ++ (lookUpOf m f ∷ [])) m) m .waits
+        ≡ cond b (withWaits (n .waits ++ (lookUpOf n f ∷ [])) n) n .waits
+    go true = ap₂ (λ (ws : List LookUp) (w : LookUp). ws ++ (w ∷ [])) waits (asks-same f t)
+    go false = waits
+
+pub every-consequence : ConsequencesFollow
+unfolding ConsequencesFollow
+every-consequence S d1 d2 =
+    record {
+      found-exactly = λ log t u h a made p z l.
+          let b = beside S d1 d2 made p in
+          answered-twins (decode (h .frame)) (b .here) (b .there)
+          (rules-follow-on .found-exactly log (b .before) (b .after) h a (b .run) (b .steps) (sym (b .carried) ∙ z) l);
+      nothing-only = λ log t u h a made p z w i j.
+          let b = beside S d1 d2 made p in
+          available-in (b .there .peers) (b .there .entries) w
+          ∙ rules-follow-on .nothing-only log (b .before) (b .after) h a (b .run) (b .steps) (sym (b .carried) ∙ z) w
+          (subst (λ (ws : List LookUp). List·Memᴰ w ws) (asked-same (decode (h .frame)) (b .here)) i) j;
+      in-time = λ log t u h a made p later v rest z l d.
+          let b = beside S d1 d2 made p in
+          let r = goes-on S d1 d2 (made-snoc S made p) (made-snoc theRules (b .run) (b .steps)) rest in
+          rules-follow-on .in-time log (b .before) (b .after) h a (b .run) (b .steps) later (r .0) (r .1)
+          (sym (b .carried) ∙ z) l d;
+      settled = λ log t made.
+          let d = determined-run S d1 d2 made in
+          let k = twins S d1 d2 made (d .1) in
+          let s = rules-follow-on .settled log (d .0) (d .1) in
+          record {
+            none-available = λ w i.
+                available-in (k .peers) (k .entries) w
+                ∙ s .none-available w (subst (λ (x : Model). List·Memᴰ w (x .waits)) (k .same) i);
+            not-reached = λ w i.
+                ap (λ (x : Model). reached (x .clock) (w .deadline)) (k .same)
+                ∙ s .not-reached w (subst (λ (x : Model). List·Memᴰ w (x .waits)) (k .same) i);
+          };
+      one-each = λ log t made.
+          let d = determined-run S d1 d2 made in subst⁻¹ OneEach (twins S d1 d2 made (d .1) .same)
+          (rules-follow-on .one-each log (d .0) (d .1));
+      few = λ log t u h a made p.
+          let b = beside S d1 d2 made p in rules-follow-on .few log (b .before) (b .after) h a (b .run) (b .steps);
+    }

@@ -1,0 +1,350 @@
+-- Every history of a space that meets demands 1 and 2 is one of the rules; so demand 3 follows.
+use Prim.Native.Nat.{ℕ, suc, _*_, _≤_, _<_}
+use mathlib.Core.Bool.{true, false, _||_}
+use mathlib.Core.Logic.{_⊎_, inl, inr, ⊎-elim}
+use mathlib.Core.Path.{_≡_, refl, sym, ap, ap₂, _∙_, subst, subst⁻¹}
+use mathlib.Core.Option.{Option, none}
+use mathlib.Core.List.{List, [], _∷_, _++_, map, List·Memᴰ, Memᴰ·of-map, Memᴰ·cast}
+use native.Mathlib.Omega.{arith}
+use borrow.Author.Tests.{eqb-true, eqb-false, eq-eqb}
+use lib.Dec.{eqb}
+use lib.ListN.{length, take, drop, length-map, take-append-drop}
+use Rattle.rules.specs.declared.Entry.{Entry}
+use Rattle.rules.specs.declared.Record.{Record}
+use Rattle.rules.specs.declared.Txn.{Txn}
+use Rattle.rules.specs.declared.TxnId.{TxnId}
+use Rattle.rules.specs.Lists.{filterb, anyb, distinct}
+use Rattle.rules.specs.State.{Model, empty}
+use Rattle.rules.specs.Holds.{liveTxn}
+use Rattle.rules.specs.Frame.{decode}
+use Rattle.rules.specs.Records.{waiting, refused, answerBytes, areaAfter}
+use Rattle.rules.specs.LookUp.{mustWait}
+use Rattle.rules.specs.Transactions.{privateTo}
+use Rattle.rules.specs.Refusals.{partyWaits, notLive, isOf, notOwn, tooLate, entriesFull, txnsFull, noNumber, waitsFull}
+use Rattle.rules.specs.Refusals.{refusal}
+use Rattle.rules.specs.Step.{Outcome, step, accepted}
+use Rattle.rules.specs.Allowed.{Answered}
+use Rattle.rules.specs.SerialRun.{Logged, Kept, keptOf, Run, committedIn, numbersOf}
+use Rattle.demands.specs.Machine.{Handed, Machine, answeredBy, theRules}
+use Rattle.demands.specs.History.{logged, History, begun, handed, Made}
+use Rattle.demands.specs.Judged.{Judged}
+use Rattle.demands.specs.Book.{LiveTold, Book, Booked}
+use Rattle.demands.specs.Told.{Told, AsTold, Explained}
+use Rattle.demands.specs.Bounds.{Ascending}
+use Rattle.demands.specs.Demands.{Demand1, Demand2, Demand3}
+use Rattle.demands.specs.Consequences.{Consequences}
+use Rattle.demands.specs.Determined.{Determined, ThirdFollows}
+use Rattle.rules.proofs.ListLaws.{mem-any}
+use Rattle.rules.proofs.BoolLaws.{bool-cases}
+use Rattle.rules.proofs.DistinctLaws.{distinct-filter}
+use Rattle.demands.proofs.AscendingLaws.{ascend-unique}
+use Rattle.demands.proofs.Sound.{TxnsOk, Sound, cover}
+use Rattle.demands.proofs.SoundProof.{sound}
+use Rattle.demands.proofs.ByRule.{rules-follow, run-of}
+use Rattle.demands.proofs.Follows.{follows-2, follows-3, follow-on}
+use Rattle.demands.proofs.JudgedProof.{number-is, refused-record, no-record}
+use Rattle.demands.proofs.OwnPartLaws.{step-accepted}
+use Rattle.demands.proofs.SaidProof.{each-once, said-given}
+use Rattle.demands.proofs.Twins.{same-test, cond-both, Matched, matched-filter, matched-map, SameLive, live-ind}
+use Rattle.demands.proofs.Twins.{other-live, Like, Twins, some-same, gives-same, said-twins}
+
+-- ---- two spaces with the same log are twins
+
+-- transactions told alike, each with a slot of its own
+ok-told : (k : ℕ) (ts us : List Txn) → SameLive ts us → TxnsOk k us → Ascending (map (λ (t : Txn). t .id .0) us)
+    → ((t u : Txn) → List·Memᴰ t ts → List·Memᴰ u ts → t .slot ≡ u .slot → t ≡ u) → TxnsOk k ts
+ok-told k ts us s ok ascend slots =
+    let numbers : map (λ (t : Txn). t .id .0) ts ≡ map (λ (t : Txn). t .id .0) us =
+    live-ind (λ ts us. map (λ (t : Txn). t .id .0) ts ≡ map (λ (t : Txn). t .id .0) us) refl
+    (λ x y ts us q below. ap₂ {C = List ℕ} (λ (l : LiveTold) ns. l .number ∷ ns) q below) ts us s in
+    record {
+      unique = λ a b i j. ascend-unique (λ (t : Txn). t .id .0) (subst⁻¹ Ascending numbers ascend) i j;
+      slot = slots;
+      above = λ t i.
+          let u = other-live ts us s t i in subst (λ (l : LiveTold). 0 < l .number) (u .2) (ok .above (u .0) (u .1));
+      below = λ t i.
+          let u = other-live ts us s t i in subst (λ (l : LiveTold). l .number < k) (u .2) (ok .below (u .0) (u .1));
+    }
+
+-- an entry told
+same-taker : (a b : ℕ) → ((t : ℕ) → 0 < t → a ≡ t → b ≡ t) → ((t : ℕ) → 0 < t → b ≡ t → a ≡ t) → a ≡ b
+same-taker a b f g =
+    ⊎-elim (λ p. ⊎-elim (λ q. eqb-true a 0 p ∙ sym (eqb-true b 0 q))
+    (λ q. let z = eqb-false b 0 q in g b (omega arith) refl) (bool-cases (eqb b 0)))
+    (λ p. let z = eqb-false a 0 p in sym (f a (omega arith) refl)) (bool-cases (eqb a 0))
+
+module _ {r : Run} {m n : Model} (x : Explained r m) (y : Explained r n) where
+  like-told : (e u : Entry) → List·Memᴰ e (m .entries) → List·Memᴰ u (n .entries) → (z : Told) → AsTold (m .txns) e z
+      → AsTold (n .txns) u z → Like (m .txns) (n .txns) e u
+  like-told e u i j z p q =
+      record {
+        kept = p .kept ∙ sym (q .kept);
+        owner = ap (λ (k : ℕ). record { 0 = k }) (p .«private_to» ∙ sym (q .«private_to»));
+        taker =
+            ap (λ (k : ℕ). record { 0 = k })
+            (same-taker (e .«taken_by» .0) (u .«taken_by» .0) (λ t k h. q .«taken_by» t k .1 (p .«taken_by» t k .0 h))
+            (λ t k h. p .«taken_by» t k .1 (q .«taken_by» t k .0 h)));
+        held = record {
+          bits = λ a b k l h.
+              same-test _ _ (λ t. q .readers b l .1
+              (subst (λ (c : ℕ). List·Memᴰ c (z .readers)) h (p .readers a k .0 t)))
+              (λ t. p .readers a k .1 (subst⁻¹ (λ (c : ℕ). List·Memᴰ c (z .readers)) h (q .readers b l .0 t)));
+          live = λ k. x .holders-live e k i;
+          live′ = λ k. y .holders-live u k j;
+        };
+      }
+
+  entries-told : Matched (Like (m .txns) (n .txns)) (m .entries) (n .entries)
+  entries-told =
+      record {
+        forth = λ e i.
+            let z = x .stored-told e i in let u = y .told-stored (z .0) (z .1) in
+            (u .0, u .1, like-told e (u .0) i (u .1) (z .0) (z .2) (u .2));
+        back = λ u j.
+            let z = y .stored-told u j in let e = x .told-stored (z .0) (z .1) in
+            (e .0, e .1, like-told (e .0) u (e .1) j (z .0) (e .2) (z .2));
+      }
+
+twins-told : {b : Book} {r : Run} (m n : Model) → Booked b m → Booked b n → Explained r m → Explained r n → Sound n
+    → Twins m n
+twins-told m n p q x y s =
+    let live = sym (p .live) ∙ q .live in
+    let clock = sym (p .clock) ∙ q .clock in
+    let entry = sym (p .next-entry) ∙ q .next-entry in
+    let txn = sym (p .next-txn) ∙ q .next-txn in
+    let waits = sym (p .waiting) ∙ q .waiting in
+    record {
+      same = cc;
+      peers = record {
+        next = n .nextTxn;
+        ok = ok-told (n .nextTxn) (m .txns) (n .txns) live (s .txns-ok) (s .ordered .txns) (x .own-slot);
+        ok′ = s .txns-ok;
+        live = live;
+      };
+      entries = entries-told x y;
+    }
+
+-- ---- twins refuse alike
+
+no-more : {R : Entry → Entry → Type 0} (es xs : List Entry) → ((e x : Entry) → R e x → e .id .0 ≡ x .id .0)
+    → distinct (map (λ (e : Entry). e .id .0) es) ≡ true
+    → ((e : Entry) → List·Memᴰ e es → (x : Entry) × List·Memᴰ x xs × R e x) → length es ≤ length xs
+no-more es xs same d h =
+    omega (
+      arith,
+      length-map es (λ (e : Entry). e .id .0),
+      cover (λ (e : Entry). e .id .0) (map (λ (e : Entry). e .id .0) es) xs d
+          (λ p i. let e = Memᴰ·of-map (λ (e : Entry). e .id .0) es i in
+          let x = h (e .0) (e .1) in
+          mem-any (λ (y : Entry). eqb (y .id .0) p) (x .1)
+          (eq-eqb (x .0 .id .0) p (sym (same (e .0) (x .0) (x .2)) ∙ e .2))),
+    )
+
+refusal-same : (m n : Model) (bs : List ℕ) (area : ℕ) → Twins m n → length (m .entries) ≡ length (n .entries)
+    → refusal m bs area ≡ refusal n bs area
+unfolding refusal partyWaits notLive notOwn liveTxn tooLate entriesFull txnsFull noNumber waitsFull mustWait
+refusal-same m n bs area t entries =
+    let f = decode bs in
+    let waits : m .waits ≡ n .waits = ap (λ k. k .waits) (t .same) in
+    let clock : m .clock ≡ n .clock = ap (λ k. k .clock) (t .same) in
+    let next-entry : m .nextEntry ≡ n .nextEntry = ap (λ k. k .nextEntry) (t .same) in
+    let next-txn : m .nextTxn ≡ n .nextTxn = ap (λ k. k .nextTxn) (t .same) in
+    let live = t .peers .live in
+    let any =
+    live-ind (λ ts us. anyb (λ (x : Txn). eqb (x .id .0) (f .txn)) ts ≡ anyb (λ (x : Txn). eqb (x .id .0) (f .txn)) us)
+    refl
+    (λ x y ts us q below. ap₂ (λ (l : LiveTold) b. eqb (l .number) (f .txn) || b) q below) (m .txns) (n .txns) live in
+    let own =
+    live-ind (λ ts us. isOf (f .party) (liveTxn (f .txn) ts) ≡ isOf (f .party) (liveTxn (f .txn) us)) refl
+    (λ x y ts us q below. cond-both (λ (a b : Option Txn). isOf (f .party) a ≡ isOf (f .party) b)
+    (eqb (x .id .0) (f .txn)) (eqb (y .id .0) (f .txn))
+    (ap (λ (l : LiveTold). eqb (l .number) (f .txn)) q) (ap (λ (l : LiveTold). eqb (l .party) (f .party)) q) below)
+    (m .txns) (n .txns) live in
+    let txns =
+    live-ind (λ ts us. length ts ≡ length us) refl (λ x y ts us q below. ap suc below) (m .txns) (n .txns) live in
+    rw (some-same f t, gives-same f t, waits, any, own, clock, entries, txns, next-entry, next-txn)
+
+-- ---- twins answer alike
+
+rules-2 : Demand2 theRules
+rules-2 = follows-2 theRules rules-follow
+
+pub rules-follow-on : Consequences theRules
+rules-follow-on = follow-on theRules rules-follow
+
+-- what is answered, by its parts
+answer-is : (a : Answered) (o : Outcome) (area : List ℕ) → a .records ≡ o .records → a .count ≡ length (a .records)
+    → a .number ≡ o .number → a .area ≡ areaAfter (a .records) area → a ≡ answeredBy o area
+unfolding answeredBy
+answer-is a o area r c n b =
+    ap₂ (λ (k : ℕ) (bytes : List ℕ). record { records = a .records; count = k; number = a .number; area = bytes }) c b
+    ∙ ap₂ (λ (rs : List Record) (k : ℕ).
+    record { records = rs; count = length rs; number = k; area = areaAfter rs area }) r n
+
+area-is : (rs : List Record) (area bytes : List ℕ) → take (28 * length rs) bytes ≡ answerBytes rs
+    → drop (28 * length rs) bytes ≡ drop (28 * length rs) area → bytes ≡ areaAfter rs area
+unfolding areaAfter
+area-is rs area bytes p q = sym (take-append-drop (28 * length rs) bytes) ∙ ap₂ (λ (x y : List ℕ). x ++ y) p q
+
+-- one step more
+history-snoc : (S : Machine) {s t u : S .State} {log : List Logged} {h : Handed} {a : Answered} → History S s log t
+    → S .Steps t h u a → History S s (log ++ (logged h a ∷ [])) u
+history-snoc S {h = h} {a = a} (begun s) p = handed h a p (begun _)
+history-snoc S (handed h a q rest) p = handed h a q (history-snoc S rest p)
+
+pub made-snoc : (S : Machine) {log : List Logged} {t u : S .State} {h : Handed} {a : Answered} → Made S log t
+    → S .Steps t h u a → Made S (log ++ (logged h a ∷ [])) u
+made-snoc S (s, e, r) p = (s, e, history-snoc S r p)
+
+module _ (S : Machine) (d1 : Demand1 S) (d2 : Demand2 S) where
+  module _ {log : List Logged} {t : S .State} {n : Model} (made : Made S log t) (run : Made theRules log n) where
+    pub twins : Twins (S .view t) n
+    twins =
+        let r = run-of theRules rules-follow run in
+        twins-told (S .view t) n (d2 .booked log t made) (rules-2 .booked log n run) (d2 .told log t made)
+        (rules-2 .told log n run)
+        (subst⁻¹ Sound (r .model) (sound (r .inputs)))
+
+    same-length : length (S .view t .entries) ≡ length (n .entries)
+    same-length =
+        let h = twins .entries in
+        let a =
+        no-more (S .view t .entries) (n .entries) (λ e x l. ap (λ (k : Kept). k .number) (l .kept))
+        (d2 .told log t made .once) (h .forth) in
+        let b =
+        no-more (n .entries) (S .view t .entries) (λ x e l. sym (ap (λ (k : Kept). k .number) (l .kept)))
+        (rules-2 .told log n run .once) (h .back) in
+        omega arith
+
+    same-refusal : (h : Handed)
+        → refusal (S .view t) (h .frame) (length (h .area)) ≡ refusal n (h .frame) (length (h .area))
+    same-refusal h = refusal-same (S .view t) n (h .frame) (length (h .area)) twins same-length
+
+    module _ {h : Handed} {u : S .State} {a : Answered} (p : S .Steps t h u a) where
+      abbrev code : ℕ
+      code = refusal n (h .frame) (length (h .area))
+
+      judged : Judged S t h u a
+      judged = d1 .judged log t u h a made p
+
+      number : a .number ≡ code
+      number = judged .first-row ∙ same-refusal h
+
+      -- a choice with which the rules write the same records
+      same-records : (choice : ℕ → ℕ) × (a .records ≡ step choice n (h .frame) (length (h .area)) .records)
+      unfolding accepted
+      same-records = go (bool-cases (eqb code 0)) (bool-cases (eqb code 1))
+        where
+          go : (eqb code 0 ≡ true) ⊎ (eqb code 0 ≡ false) → (eqb code 1 ≡ true) ⊎ (eqb code 1 ≡ false)
+              → (choice : ℕ → ℕ) × (a .records ≡ step choice n (h .frame) (length (h .area)) .records)
+          go (inl z) k =
+              let none = eqb-true _ 0 z in
+              let c =
+              said-given (said-twins twins (d2 .said log t u h a made p (same-refusal h ∙ none)))
+              (each-once (n .waits) (rules-follow-on .one-each log n run)) in (
+                c .0,
+                sym (c .1) ∙ ap (λ (o : Outcome). o .records)
+                    (sym (step-accepted (c .0) n (h .frame) (length (h .area)) none)),
+              )
+          go (inr z) (inl k) =
+              let one = eqb-true _ 1 k in (
+                (λ x. 0),
+                judged .no-record (number ∙ one)
+                    ∙ sym (no-record (λ x. 0) n (h .frame) (length (h .area)) one),
+              )
+          go (inr z) (inr k) =
+              let some-number = eqb-false _ 0 z in
+              let not-one = eqb-false _ 1 k in (
+                (λ x. 0),
+                judged .one-record (λ e. some-number (sym number ∙ e)) (λ e. not-one (sym number ∙ e))
+                    ∙ ap (λ i. refused (h .frame) i ∷ []) number
+                    ∙ sym (refused-record (λ x. 0) n (h .frame) (length (h .area)) some-number not-one),
+              )
+
+      next : (o : Model) × theRules .Steps n h o a
+      next =
+          let c = same-records in (
+            step (c .0) n (h .frame) (length (h .area)) .model,
+            record {
+              choice = c .0;
+              space = refl;
+              answered =
+                  answer-is a (step (c .0) n (h .frame) (length (h .area))) (h .area) (c .1)
+                  (d2 .counted log t u h a made p) (number ∙ sym (number-is (c .0) n (h .frame) (length (h .area))))
+                  (area-is (a .records) (h .area) (a .area) (judged .written) (judged .kept));
+            },
+          )
+
+  -- a history goes on in the rules as it does in the space
+  pub goes-on : {s t : S .State} {before log : List Logged} {n : Model} → Made S before s → Made theRules before n
+      → History S s log t → (m : Model) × History theRules n log m
+  goes-on {n = n} made run (begun s) = (n, begun n)
+  goes-on made run (handed h a p rest) =
+      let o = next made run p in
+      let r = goes-on (made-snoc S made p) (made-snoc theRules run (o .1)) rest in
+      (r .0, handed h a (o .1) (r .1))
+
+  pub determined-run : {log : List Logged} {t : S .State} → Made S log t → (m : Model) × Made theRules log m
+  determined-run (s, e, r) = let q = goes-on (s, e, begun s) (empty, refl, begun empty) r in (q .0, (empty, refl, q .1))
+
+  -- a step of the space beside one of the rules
+  pub record Beside (log : List Logged) (t : S .State) (h : Handed) (u : S .State) (a : Answered) : Type 0 where
+    pub before : Model
+    pub after : Model
+    pub run : Made theRules log before
+    pub steps : theRules .Steps before h after a
+    pub here : Twins (S .view t) before
+    pub there : Twins (S .view u) after
+    pub carried : refusal (S .view t) (h .frame) (length (h .area)) ≡ refusal before (h .frame) (length (h .area))
+
+  pub beside : {log : List Logged} {t u : S .State} {h : Handed} {a : Answered} → Made S log t → S .Steps t h u a
+      → Beside log t h u a
+  beside {h = h} made p =
+      let r = determined-run made in
+      let o = next made (r .1) p in
+      record {
+        before = r .0;
+        after = o .0;
+        run = r .1;
+        steps = o .1;
+        here = twins made (r .1);
+        there = twins (made-snoc S made p) (made-snoc theRules (r .1) (o .1));
+        carried = same-refusal made (r .1) h;
+      }
+
+pub every-history : Determined
+unfolding Determined
+every-history S d1 d2 log t made =
+    let r = determined-run S d1 d2 made in (r .0, r .1, λ h u a p. next S d1 d2 made (r .1) p)
+
+-- ---- what is committed in twins is the same
+
+committed-numbers : (es : List Entry) → numbersOf (map keptOf es) ≡ map (λ (e : Entry). e .id .0) es
+committed-numbers [] = refl
+committed-numbers (e ∷ es) = ap {B = List ℕ} (λ l. e .id .0 ∷ l) (committed-numbers es)
+
+committed-same : {m n : Model} → Twins m n → Matched _≡_ (committedIn m) (committedIn n)
+unfolding committedIn
+committed-same t =
+    matched-map (matched-filter (t .entries) (privateTo 0) (privateTo 0)
+    (λ e x l. ap (λ (o : TxnId). eqb (o .0) 0) (l .owner)))
+    _≡_ keptOf keptOf (λ e x l. l .kept)
+
+pub every-serial : ThirdFollows
+unfolding ThirdFollows Demand3 committedIn
+every-serial S d1 d2 log t made =
+    let d = determined-run S d1 d2 made in
+    let same = committed-same (twins S d1 d2 made (d .1)) in
+    let s = follows-3 theRules rules-follow log (d .0) (d .1) in
+    record {
+      succeeds = s .succeeds;
+      taken-once = s .taken-once;
+      left-once = s .left-once;
+      committed-once =
+          ap distinct (committed-numbers (filterb (privateTo 0) (S .view t .entries)))
+          ∙ distinct-filter (λ (e : Entry). e .id .0) (privateTo 0) (S .view t .entries) (d2 .told log t made .once);
+      same = λ k. (
+        (λ i. let x = same .back k (s .same k .0 i) in Memᴰ·cast (sym (x .2)) (x .1)),
+        λ i. let x = same .forth k i in s .same k .1 (Memᴰ·cast (x .2) (x .1)),
+      );
+    }

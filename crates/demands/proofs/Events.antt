@@ -1,0 +1,113 @@
+-- The events of a step: each is small, and at most one thing is heard of it, that the frame's look-up arrives, or a
+-- record. A new operation is a constructor here, its part in EventsProof, and a clause in each lemma that goes by events
+-- (in Becomes, SoundProof, SettledProof, AnswersProof, BookProof, BoundsRange and SerialRunProof).
+use Prim.Native.Nat.{ℕ, _+_, _<_}
+use mathlib.Core.Bool.{Bool, true, false, cond, not, _&&_}
+use mathlib.Core.Logic.{_⊎_}
+use mathlib.Core.Path.{_≡_}
+use mathlib.Core.List.{List, [], _∷_, _++_, map, append-assoc, List·Memᴰ}
+use lib.ListN.{length}
+use Rattle.rules.specs.declared.Entry.{Entry}
+use Rattle.rules.specs.declared.Record.{Record}
+use Rattle.rules.specs.declared.Txn.{Txn}
+use Rattle.rules.specs.declared.LookUp.{LookUp}
+use Rattle.rules.specs.Numbers.{forever, lastClock, maxTxns}
+use Rattle.rules.specs.Time.{until, reached}
+use Rattle.rules.specs.State.{Model, withEntries, withWaits, withClock}
+use Rattle.rules.specs.Holds.{available, someAvailable, someConflicts}
+use Rattle.rules.specs.Frame.{Frame, decode, isWrite, isLookUp, isCreate, isCommit, isAbort, isTick, hasLeaseOrTimeout}
+use Rattle.rules.specs.Frame.{endsTxn}
+use Rattle.rules.specs.Records.{written, found, nothing, waiting, created, committed, aborted, exception, ticked}
+use Rattle.rules.specs.Records.{refused}
+use Rattle.rules.specs.Write.{stored}
+use Rattle.rules.specs.LookUp.{lookUpOf, handOut}
+use Rattle.rules.specs.Transactions.{create, commit, abort}
+use Rattle.rules.specs.Tick.{dropEnded}
+use Rattle.rules.specs.Refusals.{refusal}
+use Rattle.rules.specs.SerialRun.{wasRefused}
+use Rattle.demands.specs.Bounds.{EndFits, Ascending}
+use Rattle.demands.proofs.AllLaws.{Out}
+
+-- a live transaction of a party
+abbrev pub LiveOf : ℕ → ℕ → List Txn → Type 0
+LiveOf t party ts = (x : Txn) × List·Memᴰ x ts × (x .id .0 ≡ t) × (x .party ≡ party)
+
+-- transactions stand by number
+abbrev pub Ordered : List Txn → Type 0
+Ordered ts = Ascending (map (λ (t : Txn). t .id .0) ts)
+
+-- what the refusal table lets pass
+pub record Admitted (f : Frame) (m : Model) : Type 0 where
+  -- outside transactions, or in a live one of the party; a commit or abort in one
+  pub inside : (f .txn ≡ 0) ⊎ LiveOf (f .txn) (f .party) (m .txns)
+  pub ends : endsTxn (f .op) ≡ true → LiveOf (f .txn) (f .party) (m .txns)
+  -- the party does not wait
+  pub free : (w : LookUp) → List·Memᴰ w (m .waits) → w .party ≡ f .party → ⊥
+  -- a lease or timeout ends in time, and so does the clock
+  pub in-time : hasLeaseOrTimeout (f .op) ≡ true → EndFits (until (m .clock) (f .leaseOrTimeout))
+  pub ticks-on : isTick (f .op) ≡ true → m .clock < lastClock
+  -- there is a slot and a number for what is made
+  pub slot-left : isCreate (f .op) ≡ true → length (m .txns) < maxTxns
+  pub entry-number : isWrite (f .op) ≡ true → m .nextEntry < forever
+  pub txn-number : isCreate (f .op) ≡ true → m .nextTxn < forever
+
+-- what is heard of a step: that the frame's look-up arrives, and records
+pub data Heard : Type 0 where
+  asking : Heard
+  saying : Record → Heard
+
+-- why a look-up without an available entry is given nothing
+abbrev pub Closes : Frame → Model → LookUp → Type 0
+Closes f m w = (reached (m .clock) (w .deadline) ≡ true)
+    ⊎ ((w ≡ lookUpOf m f) × (w .«if_exists» ≡ true) × (someConflicts (m .txns) w (m .entries) ≡ false))
+
+pub data Event (f : Frame) : Model → List Heard → Model → Type 0 where
+  refuses : (m : Model) (bs : List ℕ) (area : ℕ) → decode bs ≡ f
+      → Event f m (saying (refused bs (refusal m bs area)) ∷ []) m
+  -- the frame's look-up arrives last
+  asks : (m : Model) → isLookUp (f .op) ≡ true → Admitted f m
+      → Event f m (asking ∷ []) (withWaits (m .waits ++ (lookUpOf m f ∷ [])) m)
+  writes : (m : Model) → isWrite (f .op) ≡ true → Admitted f m
+      → Event f m (saying (written f (m .nextEntry)) ∷ []) (stored m f)
+  -- the entry is stored and available just then; the look-up waits no longer
+  is-found : (m : Model) (w : LookUp) (e : Entry) (ws : List LookUp) → Out w (m .waits) ws → List·Memᴰ e (m .entries)
+      → available (m .txns) w e ≡ true
+      → Event f m (saying (found w e) ∷ []) (withEntries (handOut (m .txns) w e (m .entries)) (withWaits ws m))
+  is-nothing : (m : Model) (w : LookUp) (ws : List LookUp) → Out w (m .waits) ws
+      → someAvailable (m .txns) w (m .entries) ≡ false → Closes f m w
+      → Event f m (saying (nothing w) ∷ []) (withWaits ws m)
+  -- it stays, since none is available, its deadline lies ahead, and for an IfExists kind some entry conflicts
+  is-waiting : (m : Model) (w : LookUp) → List·Memᴰ w (m .waits) → w ≡ lookUpOf m f
+      → someAvailable (m .txns) w (m .entries) ≡ false → reached (m .clock) (w .deadline) ≡ false
+      → (w .«if_exists» ≡ true → someConflicts (m .txns) w (m .entries) ≡ true) → Event f m (saying (waiting w) ∷ []) m
+  creates : (m : Model) → isCreate (f .op) ≡ true → Admitted f m
+      → Event f m (saying (created f (m .nextTxn)) ∷ []) (create m f .model)
+  commits : (m : Model) → isCommit (f .op) ≡ true → Admitted f m
+      → Event f m (saying (committed f) ∷ []) (commit (f .txn) m)
+  aborts : (m : Model) → isAbort (f .op) ≡ true → Admitted f m → Event f m (saying (aborted f) ∷ []) (abort (f .txn) m)
+  ticks : (m : Model) → isTick (f .op) ≡ true → Admitted f m
+      → Event f m (saying ticked ∷ []) (withClock (m .clock + 1) m)
+  -- the transaction is live and ends just then
+  excepts : (m : Model) (t : Txn) → isTick (f .op) ≡ true → List·Memᴰ t (m .txns) → reached (m .clock) (t .end) ≡ true
+      → Event f m (saying (exception t) ∷ []) (abort (t .id .0) m)
+  -- entries that end now are removed
+  expires : (m : Model) → isTick (f .op) ≡ true → Event f m [] (dropEnded m)
+
+-- one after the other
+pub data Events (f : Frame) : Model → List Heard → Model → Type 0 where
+  over : {m : Model} → Events f m [] m
+  then : {m n o : Model} {hs ks : List Heard} → Event f m hs n → Events f n ks o → Events f m (hs ++ ks) o
+
+pub join : {f : Frame} {m n o : Model} {hs ks : List Heard} → Events f m hs n → Events f n ks o
+    → Events f m (hs ++ ks) o
+join over u = u
+join (then e t) u = rw append-assoc (then e (join t u))
+
+-- of a frame's step are heard the arrival of its look-up, unless it is refused, and the records
+abbrev pub heard : Frame → List Record → List Heard
+heard f rs = cond (isLookUp (f .op) && not (wasRefused rs)) (asking ∷ map saying rs) (map saying rs)
+
+-- whether a record passes a test is heard
+abbrev pub says : (Record → Bool) → Heard → Bool
+says p asking = false
+says p (saying a) = p a

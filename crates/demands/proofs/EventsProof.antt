@@ -1,0 +1,466 @@
+-- Every step of the rules is a sequence of events; and what holds when it is over.
+use Prim.Native.Nat.{ℕ, _+_, _<_}
+use mathlib.Core.Bool.{Bool, true, false, cond, not, _&&_, or-true, and-false, true≢false}
+use mathlib.Core.Logic.{inl, inr, ⊎-elim}
+use mathlib.Core.Path.{_≡_, refl, sym, ap, _∙_, subst, subst⁻¹}
+use mathlib.Core.Option.{Option, none, some}
+use mathlib.Core.List.{List, [], _∷_, _++_, map, map-append, append-nil, List·Memᴰ, List·Memᴰ·head, List·Memᴰ·tail}
+use mathlib.Core.List.{Memᴰ·append-right, Memᴰ·map}
+use native.Mathlib.Omega.{arith}
+use borrow.Author.Tests.{eqb-true, eqb-false, ne-eqb, le-leb, lt-leb, leb-false, ltb-false, not-true, not-false}
+use lib.Dec.{eqb, leb, ltb}
+use lib.ListN.{length}
+use Rattle.rules.specs.declared.Entry.{Entry}
+use Rattle.rules.specs.declared.Record.{Record}
+use Rattle.rules.specs.declared.Txn.{Txn}
+use Rattle.rules.specs.declared.LookUp.{LookUp}
+use Rattle.rules.specs.declared.Until.{Until}
+use Rattle.rules.specs.Numbers.{forever, lastClock, maxTxns, areaRefused, kindRefused, kindFound, kindNothing}
+use Rattle.rules.specs.Lists.{filterb, pick}
+use Rattle.rules.specs.Time.{until, reached}
+use Rattle.rules.specs.State.{Model, withEntries, withWaits}
+use Rattle.rules.specs.Holds.{liveTxn, availableTo, someAvailable, someConflicts}
+use Rattle.rules.specs.Frame.{Frame, decode, isWrite, isLookUp, isCreate, isTick, hasLeaseOrTimeout, isOperation}
+use Rattle.rules.specs.Frame.{serves}
+use Rattle.rules.specs.Records.{written, found, nothing, waiting, created, committed, aborted, exception, ticked}
+use Rattle.rules.specs.Records.{refused}
+use Rattle.rules.specs.Done.{Carried, Done, quiet}
+use Rattle.rules.specs.Write.{write}
+use Rattle.rules.specs.LookUp.{removes, isEntry, marked, lookUpOf, handOut, givesNothing, answer, answerFound}
+use Rattle.rules.specs.LookUp.{answerNothing, answerWaiting, lookUp}
+use Rattle.rules.specs.Transactions.{create, withoutTxn, abort}
+use Rattle.rules.specs.Service.{serve, service}
+use Rattle.rules.specs.Tick.{tick, endedTxns, abortAll, dropEnded, lapsed, closeWaits}
+use Rattle.rules.specs.Refusals.{isOf, inTxn, partyWaits, notOwn, tooLate, txnsFull, noNumber, refusal}
+use Rattle.rules.specs.Step.{Outcome, commitFrame, abortFrame, finish, carriedOut, step, accepted, refusedWith}
+use Rattle.rules.specs.SerialRun.{wasRefused}
+use Rattle.rules.proofs.BoolLaws.{cond-cases, bool-cases, and-left, and-right, or-left, or-right, or-cases}
+use Rattle.rules.proofs.BoolLaws.{and-false-right}
+use Rattle.rules.proofs.ListLaws.{filter-mem, none-mem, find-some}
+use Rattle.rules.proofs.LayoutLaws.{write-not-tick, lookUp-not-tick, create-not-tick, commit-not-tick, abort-not-tick}
+use Rattle.rules.proofs.LayoutLaws.{tick-serves, lookUp-serves, finish-quiet}
+use Rattle.rules.proofs.StepCases.{own-cases, serve-ind}
+use Rattle.rules.proofs.RefusalLaws.{Clear, clear, is-one}
+use Rattle.demands.specs.Bounds.{EndFits, Ascending}
+use Rattle.demands.specs.Answers.{asked}
+use Rattle.demands.proofs.AllLaws.{All, all-none, all-cons, all-append, all-snoc, all-filter, all-map, Out, here}
+use Rattle.demands.proofs.AllLaws.{there, out-last}
+use Rattle.demands.proofs.HoldLaws.{mark-cases}
+use Rattle.demands.proofs.Events.{LiveOf, Ordered, Admitted, Heard, saying, heard, Closes, Event, refuses, asks}
+use Rattle.demands.proofs.Events.{writes, is-found, is-nothing, is-waiting, creates, commits, aborts, ticks}
+use Rattle.demands.proofs.Events.{excepts, expires, Events, over, then, join}
+use Rattle.demands.proofs.Becomes.{waits-all}
+use Rattle.demands.proofs.Unavailable.{picked, pick-nothing, serve-settled}
+use Rattle.demands.proofs.AscendingLaws.{ascend-filter}
+
+-- a lease or timeout other than 0 is not over as it starts, and one of 0 is
+pub until-later : (clock lease : ℕ) → (lease ≡ 0 → ⊥) → reached clock (until clock lease) ≡ false
+unfolding until reached
+until-later clock lease h =
+    cond-cases (λ (u : Until). reached clock u ≡ false) (eqb lease forever) (λ e. refl)
+    (λ e. lt-leb (clock + lease) clock (omega arith))
+
+pub until-now : (clock : ℕ) → reached clock (until clock 0) ≡ true
+unfolding until reached
+until-now clock = le-leb (clock + 0) clock (omega arith)
+
+-- what it lets pass, row by row
+module _ (f : Frame) (m : Model) where
+  own-named : notOwn m f ≡ false → inTxn f ≡ true → LiveOf (f .txn) (f .party) (m .txns)
+  unfolding notOwn liveTxn
+  own-named e t = go (liveTxn (f .txn) (m .txns)) refl (not-false _ (and-false-right (inTxn f) _ t e))
+    where
+      go : (o : Option Txn) → liveTxn (f .txn) (m .txns) ≡ o → isOf (f .party) o ≡ true
+          → LiveOf (f .txn) (f .party) (m .txns)
+      go none q r = absurd (true≢false (sym r))
+      go (some x) q r =
+          let s = find-some (λ (y : Txn). eqb (y .id .0) (f .txn)) (m .txns) q in
+          (x, s .0, eqb-true (x .id .0) (f .txn) (s .1), eqb-true (x .party) (f .party) r)
+
+  until-fits : tooLate m f ≡ false → hasLeaseOrTimeout (f .op) ≡ true → EndFits (until (m .clock) (f .leaseOrTimeout))
+  unfolding tooLate until
+  until-fits h t =
+      cond-cases EndFits (eqb (f .leaseOrTimeout) forever) (λ _. tt)
+      (λ q. ltb-false lastClock (m .clock + f .leaseOrTimeout)
+      (and-false-right (hasLeaseOrTimeout (f .op) && not (eqb (f .leaseOrTimeout) forever)) _ (rw (t, q))
+      (or-left _ (isTick (f .op) && leb lastClock (m .clock)) h)))
+
+  clock-fits : tooLate m f ≡ false → isTick (f .op) ≡ true → m .clock < lastClock
+  unfolding tooLate
+  clock-fits h t =
+      leb-false lastClock (m .clock) (and-false-right (isTick (f .op)) _ t
+      (or-right (hasLeaseOrTimeout (f .op) && not (eqb (f .leaseOrTimeout) forever) && ltb lastClock
+      (m .clock + f .leaseOrTimeout)) _ h))
+
+admitted : (m : Model) (bs : List ℕ) (area : ℕ) → Clear m bs area → Admitted (decode bs) m
+unfolding partyWaits txnsFull noNumber
+admitted m bs area c =
+    let f = decode bs in
+    record {
+      inside =
+          ⊎-elim (λ t. inl (eqb-true (f .txn) 0 t)) (λ t. inr (own-named f m (c .own) (rw t)))
+          (bool-cases (eqb (f .txn) 0));
+      ends = λ t. own-named f m (c .own) (rw (t, or-true));
+      free = λ w i. eqb-false (w .party) (f .party) (none-mem (λ (v : LookUp). eqb (v .party) (f .party)) (c .free) i);
+      in-time = until-fits f m (c .time);
+      ticks-on = clock-fits f m (c .time);
+      slot-left = λ t. leb-false maxTxns (length (m .txns)) (and-false-right (isCreate (f .op)) _ t (c .txn-room));
+      entry-number = λ t.
+          leb-false forever (m .nextEntry) (and-false-right (isWrite (f .op)) _ t
+          (or-left _ (isCreate (f .op) && leb forever (m .nextTxn)) (c .numbers)));
+      txn-number = λ t.
+          leb-false forever (m .nextTxn) (and-false-right (isCreate (f .op)) _ t
+          (or-right (isWrite (f .op) && leb forever (m .nextEntry)) _ (c .numbers)));
+    }
+
+-- parts of a step that ask for nothing
+abbrev Part : Frame → Model → Done → Type 0
+Part f m d = Events f m (map saying (d .records)) (d .model)
+
+-- what is out of a list is out of a list that it lies in
+abbrev Lifts : (List LookUp → List LookUp) → Type 0
+Lifts pre = (x : LookUp) (ys zs : List LookUp) → Out x ys zs → Out x (pre ys) (pre zs)
+
+module _ (f : Frame) where
+  pub service-events : (choice : ℕ → ℕ) (m : Model) → Part f m (service choice m)
+  unfolding service
+  service-events choice m =
+      serve-ind choice (m .txns)
+      (λ es ws r. (pre : List LookUp → List LookUp) → Lifts pre → Events f (withEntries es (withWaits (pre ws) m))
+      (map saying (r .records)) (withEntries (r .entries) (withWaits (pre (r .waits)) m))) (λ es pre l. over)
+      (λ es w ws q below pre l. below (λ vs. pre (w ∷ vs)) (λ x ys zs o. l x (w ∷ ys) (w ∷ zs) (there o)))
+      (λ es w ws x q below pre l.
+      let s = picked (choice (w .party)) (m .txns) w es x q in
+      let o = l w (w ∷ ws) ws (here ws) in
+      then (is-found (withEntries es (withWaits (pre (w ∷ ws)) m)) w x (pre ws) o (s .0) (s .1)) (below pre l))
+      (m .entries) (m .waits) (λ ws. ws) (λ x ys zs o. o)
+
+  -- look-ups whose deadline is reached, none of which has an available entry
+  pub close-events : (m : Model) → All (λ w. someAvailable (m .txns) w (m .entries) ≡ false) (m .waits)
+      → Part f m (closeWaits m)
+  unfolding closeWaits
+  close-events m h = go (m .waits) h (λ ws. ws) (λ x ys zs o. o)
+    where
+      due : LookUp → Bool
+      due w = reached (m .clock) (w .deadline)
+
+      go : (ws : List LookUp) → All (λ w. someAvailable (m .txns) w (m .entries) ≡ false) ws
+          → (pre : List LookUp → List LookUp) → Lifts pre
+          → Events f (withWaits (pre ws) m) (map saying (map nothing (filterb due ws)))
+          (withWaits (pre (filterb (λ w. not (due w)) ws)) m)
+      go [] h pre l = over
+      go (w ∷ ws) h pre l = each (due w) refl (go ws (λ v i. h v (List·Memᴰ·tail i)))
+        where
+          each : (b : Bool) → due w ≡ b → ((pre : List LookUp → List LookUp) → Lifts pre
+              → Events f (withWaits (pre ws) m) (map saying (map nothing (filterb due ws)))
+              (withWaits (pre (filterb (λ w. not (due w)) ws)) m)) → Events f (withWaits (pre (w ∷ ws)) m)
+              (map saying (map nothing (cond b (w ∷ filterb due ws) (filterb due ws))))
+              (withWaits (pre (cond (not b) (w ∷ filterb (λ w. not (due w)) ws) (filterb (λ w. not (due w)) ws))) m)
+          each true e below =
+              let o = l w (w ∷ ws) ws (here ws) in
+              then (is-nothing (withWaits (pre (w ∷ ws)) m) w (pre ws) o (h w (List·Memᴰ·head refl)) (inl e))
+              (below pre l)
+          each false e below = below (λ vs. pre (w ∷ vs)) (λ x ys zs o. l x (w ∷ ys) (w ∷ zs) (there o))
+
+  -- the transactions that end now, by number
+  abort-events : isTick (f .op) ≡ true → (ts : List Txn) (m : Model) → Ordered ts
+      → All (λ t. List·Memᴰ t (m .txns) × (reached (m .clock) (t .end) ≡ true)) ts
+      → Events f m (map saying (map exception ts)) (abortAll ts m)
+  unfolding abortAll abort withoutTxn Ascending
+  abort-events tk [] m a h = over
+  abort-events tk (t ∷ ts) m a h =
+      let first = h t (List·Memᴰ·head refl) in
+      then (excepts m t tk (first .0) (first .1)) (abort-events tk ts (abort (t .id .0) m) (a .1)
+      (λ u i. let l = a .0 (u .id .0) (Memᴰ·map (λ (t : Txn). t .id .0) i) in
+      let r = h u (List·Memᴰ·tail i) in (
+        filter-mem (λ (x : Txn). not (eqb (x .id .0) (t .id .0))) (r .0)
+            (ap not (ne-eqb (u .id .0) (t .id .0) (λ q. omega arith))),
+        r .1,
+      )))
+
+  lapsed-events : isTick (f .op) ≡ true → (m : Model) → Ordered (m .txns) → Part f m (lapsed m)
+  unfolding lapsed endedTxns
+  lapsed-events tk m a =
+      let ended : Txn → Bool = λ t. reached (m .clock) (t .end) in
+      let gone =
+      abort-events tk (filterb ended (m .txns)) m (ascend-filter (λ (t : Txn). t .id .0) ended (m .txns) a)
+      (all-filter ended (m .txns) (λ t i e. (i, e))) in
+      subst (λ hs. Events f m hs (lapsed m .model)) (append-nil (map saying (lapsed m .records)))
+      (join gone (then (expires _ tk) over))
+
+-- nobody who waits has an available entry; no deadline is reached; no entry is past its lease
+abbrev pub NoneFor : Model → Type 0
+NoneFor m = All (λ w. someAvailable (m .txns) w (m .entries) ≡ false) (m .waits)
+
+abbrev pub OpenIn : Model → Type 0
+OpenIn m = All (λ w. reached (m .clock) (w .deadline) ≡ false) (m .waits)
+
+abbrev pub Lasting : Model → Type 0
+Lasting m = All (λ e. reached (m .clock) (e .end) ≡ false) (m .entries)
+
+-- a record is of a look-up that waited, and that has no available entry now
+abbrev pub Closed : List LookUp → Record → Model → Type 0
+Closed ws a n = (w : LookUp) × List·Memᴰ w ws × (nothing w ≡ a) × (someAvailable (n .txns) w (n .entries) ≡ false)
+
+-- service hands out what lasts, and says nothing but found
+serve-lasting : (choice : ℕ → ℕ) (clock : ℕ) (ts : List Txn) (es : List Entry) (ws : List LookUp)
+    → All (λ e. reached clock (e .end) ≡ false) es
+    → All (λ e. reached clock (e .end) ≡ false) (serve choice ts es ws .entries)
+unfolding handOut
+serve-lasting choice clock ts =
+    serve-ind choice ts (λ es ws r. All lasts es → All lasts (r .entries)) (λ es h. h) (λ es w ws q below. below)
+    (λ es w ws e q below h. below
+    (cond-cases (All lasts) (removes w e) (λ _. all-filter (λ x. not (isEntry e x)) es (λ x i _. h x i))
+    (λ _. all-map lasts (λ x. cond (isEntry e x) (marked ts w x) x) es
+    (λ x i. cond-cases lasts (isEntry e x) (λ _. mark-cases ts w x lasts (λ _. h x i) (λ b _ _. h x i)) (λ _. h x i)))))
+  where
+    lasts : Entry → Type 0
+    lasts e = reached clock (e .end) ≡ false
+
+serve-founds : (choice : ℕ → ℕ) (ts : List Txn) (es : List Entry) (ws : List LookUp)
+    → All (λ a. a .kind ≡ kindFound) (serve choice ts es ws .records)
+unfolding found
+serve-founds choice ts =
+    serve-ind choice ts (λ es ws r. All (λ a. a .kind ≡ kindFound) (r .records))
+    (λ es. all-none (λ a. a .kind ≡ kindFound)) (λ es w ws q below. below) (λ es w ws x q below. all-cons refl below)
+
+-- no look-up waits that did not wait before
+events-waits : {f : Frame} {m n : Model} {hs : List Heard} → isLookUp (f .op) ≡ false → Events f m hs n
+    → All (λ w. List·Memᴰ w (m .waits)) (n .waits)
+events-waits z over w i = i
+events-waits {f} {m} z (then e t) w i =
+    waits-all (λ v. List·Memᴰ v (m .waits)) e (λ u _. absurd (true≢false (sym u ∙ z))) (λ v j. j) w
+    (events-waits z t w i)
+
+-- what a frame finishes with
+module _ (choice : ℕ → ℕ) (f : Frame) (m : Model) where
+  abbrev ended : Done
+  ended = cond (isTick (f .op)) (lapsed m) (quiet m)
+
+  abbrev served : Done
+  served = cond (serves f) (service choice (ended .model)) (quiet (ended .model))
+
+  abbrev closed : Done
+  closed = cond (isTick (f .op)) (closeWaits (served .model)) (quiet (served .model))
+
+  service-settles : serves f ≡ true → NoneFor (served .model)
+  unfolding service
+  service-settles t = rw t (serve-settled choice (ended .model .txns) (ended .model .entries) (ended .model .waits))
+
+  module _ (ordered : isTick (f .op) ≡ true → Ordered (m .txns)) where
+    until-served : Events f m (map saying (ended .records) ++ map saying (served .records)) (served .model)
+    until-served =
+        join (cond-cases (Part f m) (isTick (f .op)) (λ t. lapsed-events f t m (ordered t)) (λ _. over))
+        (cond-cases (Part f (ended .model)) (serves f) (λ _. service-events f choice (ended .model)) (λ _. over))
+
+    finish-events : Part f m (finish choice f m)
+    unfolding finish
+    finish-events =
+        rw (map-append, map-append) (join until-served
+        (cond-cases (Part f (served .model)) (isTick (f .op))
+        (λ t. close-events f (served .model) (service-settles (tick-serves f t))) (λ _. over)))
+
+    -- what is given nothing waited, and has no available entry now
+    finish-closes : isLookUp (f .op) ≡ false
+        → All (λ a. a .kind ≡ kindNothing → Closed (m .waits) a (finish choice f m .model)) (finish choice f m .records)
+    unfolding finish closeWaits lapsed exception service
+    finish-closes z =
+        all-append (ended .records ++ served .records) (all-append (ended .records)
+        (cond-cases (λ (d : Done). All Q (d .records)) (isTick (f .op))
+        (λ _. all-map Q exception (endedTxns m) (λ t i (k : 8 ≡ 3). absurd (omega arith))) (λ _. all-none Q))
+        (cond-cases (λ (d : Done). All Q (d .records)) (serves f)
+        (λ _ a i k. absurd (let l = serve-founds choice (ended .model .txns) (ended .model .entries)
+        (ended .model .waits) a i in omega arith)) (λ _. all-none Q)))
+        (cond-cases (λ (d : Done). All (λ a. a .kind ≡ kindNothing → Closed (m .waits) a (d .model)) (d .records))
+        (isTick (f .op))
+        (λ t. all-map (λ a. a .kind ≡ kindNothing → Closed (m .waits) a (closeWaits (served .model) .model)) nothing _
+        (all-filter (λ w. reached (served .model .clock) (w .deadline)) (served .model .waits)
+        (λ w i _ _. (w, events-waits z until-served w i, refl, service-settles (tick-serves f t) w i))))
+        (λ _. all-none (λ a. a .kind ≡ kindNothing → Closed (m .waits) a (served .model))))
+      where
+        Q : Record → Type 0
+        Q a = a .kind ≡ kindNothing → Closed (m .waits) a (closed .model)
+
+  -- after service nobody who waits has an available entry; after a tick nothing is past its end
+  finish-settles : serves f ≡ true → NoneFor (finish choice f m .model)
+  unfolding finish closeWaits
+  finish-settles t =
+      cond-cases (λ (d : Done). NoneFor (d .model)) (isTick (f .op))
+      (λ _. all-filter (λ w. not (reached (served .model .clock) (w .deadline))) (served .model .waits)
+      (λ w i _. service-settles t w i)) (λ _. service-settles t)
+
+  finish-opens : isTick (f .op) ≡ true → OpenIn (finish choice f m .model)
+  unfolding finish closeWaits
+  finish-opens t =
+      cond-cases (λ (d : Done). OpenIn (d .model)) (isTick (f .op))
+      (λ _. all-filter (λ w. not (reached (served .model .clock) (w .deadline))) (served .model .waits)
+      (λ w i r. not-true _ r)) (λ z. absurd (true≢false (sym t ∙ z)))
+
+  finish-lasts : isTick (f .op) ≡ true → Lasting (finish choice f m .model)
+  unfolding finish closeWaits service lapsed dropEnded
+  finish-lasts t =
+      let left = abortAll (endedTxns m) m in
+      rw (t, tick-serves f t) (serve-lasting choice (left .clock) (left .txns) _ (left .waits)
+      (all-filter (λ e. not (reached (left .clock) (e .end))) (left .entries) (λ e i r. not-true _ r)))
+
+-- what holds when a frame is carried out
+pub record Rested (f : Frame) (m : Model) (rs : List Record) (n : Model) : Type 0 where
+  -- after service nobody who waits has an available entry, after a tick nothing is past its end
+  pub settled : serves f ≡ true → NoneFor n
+  pub ahead : isTick (f .op) ≡ true → OpenIn n
+  pub lasting : isTick (f .op) ≡ true → Lasting n
+  -- the frame's look-up, if it waits on, has no available entry, and its deadline lies ahead
+  pub waits-well : isLookUp (f .op) ≡ true → All (λ w. w .party ≡ f .party
+      → (someAvailable (n .txns) w (n .entries) ≡ false) × (reached (n .clock) (w .deadline) ≡ false)) (n .waits)
+  -- what is given nothing has no available entry now
+  pub closed : All (λ a. a .kind ≡ kindNothing → Closed (asked m f .waits) a n) rs
+
+pub record Carries (f : Frame) (m : Model) (rs : List Record) (n : Model) : Type 0 where
+  pub events : Events f m (heard f rs) n
+  pub rested : Rested f m rs n
+
+-- a frame's own part, and what it finishes with
+module _ (choice : ℕ → ℕ) (f : Frame) (m : Model) (a : Admitted f m)
+    (ordered : Ordered (m .txns)) where
+  abbrev Whole : Carried → Type 0
+  Whole c = Carries f m (c .own ∷ finish choice f (c .model) .records) (finish choice f (c .model) .model)
+
+  plain : (c : Carried) → isLookUp (f .op) ≡ false → (c .own .kind ≡ kindNothing → ⊥)
+      → (isTick (f .op) ≡ true → Ordered (c .model .txns)) → Event f m (saying (c .own) ∷ []) (c .model) → Whole c
+  unfolding asked
+  plain c z k o e =
+      record {
+        events = rw z (then e (finish-events choice f (c .model) o));
+        rested = record {
+          settled = finish-settles choice f (c .model);
+          ahead = finish-opens choice f (c .model);
+          lasting = finish-lasts choice f (c .model);
+          waits-well = λ t. absurd (true≢false (sym t ∙ z));
+          closed = rw z (all-cons (λ q. absurd (k q))
+              (λ b i q. let r = finish-closes choice f (c .model) o z b i q in
+              (r .0, events-waits z (then e over) (r .0) (r .1), r .2, r .3)));
+        };
+      }
+
+  -- a look-up arrives, and is answered
+  abbrev grown : Model
+  grown = withWaits (m .waits ++ (lookUpOf m f ∷ [])) m
+
+  answered : (c : Carried) → isLookUp (f .op) ≡ true → eqb (c .own .kind) kindRefused ≡ false
+      → Event f grown (saying (c .own) ∷ []) (c .model)
+      → All (λ w. w .party ≡ f .party → (someAvailable (c .model .txns) w (c .model .entries) ≡ false)
+      × (reached (c .model .clock) (w .deadline) ≡ false)) (c .model .waits)
+      → (c .own .kind ≡ kindNothing → Closed (grown .waits) (c .own) (c .model)) → Whole c
+  unfolding wasRefused asked
+  answered c t z e well shut =
+      let k = lookUp-not-tick (f .op) t in
+      let quiet-after = finish-quiet choice f (c .model) k (lookUp-serves f t) in
+      subst⁻¹ (λ (d : Done). Carries f m (c .own ∷ d .records) (d .model)) quiet-after
+      (record {
+        events = rw (t, z) (then (asks m t a) (then e over));
+        rested = record {
+          settled = λ q. absurd (true≢false (sym q ∙ lookUp-serves f t));
+          ahead = λ q. absurd (true≢false (sym q ∙ k));
+          lasting = λ q. absurd (true≢false (sym q ∙ k));
+          waits-well = λ _. well;
+          closed = rw t (all-cons shut (all-none (λ b. b .kind ≡ kindNothing → Closed (grown .waits) b (c .model))));
+        };
+      })
+
+  look-up : isLookUp (f .op) ≡ true → (k : ℕ) (o : Option Entry)
+      → pick k (availableTo (m .txns) (lookUpOf m f) (m .entries)) ≡ o
+      → Whole (answer m (lookUpOf m f) (f .leaseOrTimeout) o)
+  unfolding answer answerFound answerNothing answerWaiting givesNothing lookUpOf found nothing waiting
+  look-up t k (some x) q =
+      let s = picked k (m .txns) (lookUpOf m f) (m .entries) x q in
+      answered (answerFound m (lookUpOf m f) x) t refl
+      (is-found grown (lookUpOf m f) x (m .waits) (out-last (m .waits) (lookUpOf m f)) (s .0) (s .1))
+      (λ v i p. absurd (a .free v i p)) (λ (p : 2 ≡ 3). absurd (omega arith))
+  look-up t k none q =
+      cond-cases Whole (givesNothing m w timeout) (λ g. answered (answerNothing m w) t refl
+      (is-nothing grown w (m .waits) (out-last (m .waits) w) nobody (reason g))
+      (λ v i p. absurd (a .free v i p)) (λ _. (w, there-last, refl, nobody)))
+      (λ g. let later = until-later (m .clock) timeout (eqb-false timeout 0 (or-left _ _ g)) in
+      answered (answerWaiting m w) t refl (is-waiting grown w there-last refl nobody later
+      (λ z. not-false _ (and-false-right (w .«if_exists») _ z (or-right (eqb timeout 0) _ g))))
+      (all-snoc (m .waits) (λ v i p. absurd (a .free v i p)) (λ _. (nobody, later)))
+      (λ (p : 4 ≡ 3). absurd (omega arith)))
+    where
+      w : LookUp
+      w = lookUpOf m f
+
+      timeout : ℕ
+      timeout = f .leaseOrTimeout
+
+      there-last : List·Memᴰ w (m .waits ++ (w ∷ []))
+      there-last = Memᴰ·append-right (m .waits) (List·Memᴰ·head refl)
+
+      nobody : someAvailable (m .txns) w (m .entries) ≡ false
+      nobody = pick-nothing k (m .txns) w (m .entries) q
+
+      reason : givesNothing m w timeout ≡ true → Closes f grown w
+      reason g =
+          ⊎-elim (λ z. inl (rw (eqb-true timeout 0 z) (until-now (m .clock))))
+          (λ z. inr (
+            refl,
+            and-left _ (not (someConflicts (m .txns) w (m .entries))) z,
+            not-true _
+                (and-right (w .«if_exists») _ z),
+          )) (or-cases (eqb timeout 0) _ g)
+
+  pub carries : isOperation (f .op) ≡ true → Carries f m (carriedOut choice m f .records) (carriedOut choice m f .model)
+  unfolding carriedOut write lookUp create commitFrame abortFrame tick written created committed aborted ticked
+  carries is =
+      let w = lookUpOf m f in
+      own-cases Whole choice m f is (λ t. plain (write m f) (rw (eqb-true (f .op) 1 t)) (λ (k : 1 ≡ 3). omega arith)
+      (not-now (write-not-tick (f .op) t)) (writes m t a))
+      (λ t. look-up t (choice (w .party)) (pick (choice (w .party)) (availableTo (m .txns) w (m .entries))) refl)
+      (λ t. plain (create m f) (rw (eqb-true (f .op) 6 t)) (λ (k : 5 ≡ 3). omega arith)
+      (not-now (create-not-tick (f .op) t)) (creates m t a))
+      (λ t. plain (commitFrame m f) (rw (eqb-true (f .op) 7 t)) (λ (k : 6 ≡ 3). omega arith)
+      (not-now (commit-not-tick (f .op) t)) (commits m t a))
+      (λ t. plain (abortFrame m f) (rw (eqb-true (f .op) 8 t)) (λ (k : 7 ≡ 3). omega arith)
+      (not-now (abort-not-tick (f .op) t)) (aborts m t a))
+      (λ t. plain (tick m) (rw (eqb-true (f .op) 9 t)) (λ (k : 9 ≡ 3). omega arith) (λ _. ordered) (ticks m t a))
+    where
+      not-now : {P : Type 0} → isTick (f .op) ≡ false → isTick (f .op) ≡ true → P
+      not-now z t = absurd (true≢false (sym t ∙ z))
+
+-- a frame that is not refused
+pub step-carries : (choice : ℕ → ℕ) (m : Model) (bs : List ℕ) (area : ℕ) → Ordered (m .txns) → refusal m bs area ≡ 0
+    → Admitted (decode bs) m × Carries (decode bs) m (step choice m bs area .records) (step choice m bs area .model)
+unfolding step accepted
+step-carries choice m bs area ordered e =
+    let c = clear m bs area e in
+    let a = admitted m bs area c in
+    rw e (a, carries choice (decode bs) m a ordered (is-one bs (c .operation)))
+
+-- every step: one that is carried out, or refused
+pub data StepIs (f : Frame) (m : Model) (rs : List Record) (n : Model) : Type 0 where
+  is-carried : Admitted f m → Carries f m rs n → StepIs f m rs n
+  is-refused : Events f m (heard f rs) n → n ≡ m → StepIs f m rs n
+
+pub step-is : (choice : ℕ → ℕ) (m : Model) (bs : List ℕ) (area : ℕ) → Ordered (m .txns)
+    → StepIs (decode bs) m (step choice m bs area .records) (step choice m bs area .model)
+unfolding step accepted refusedWith wasRefused refused
+step-is choice m bs area ordered =
+    cond-cases (λ (o : Outcome). StepIs f m (o .records) (o .model)) (eqb n 0)
+    (λ e. let c = clear m bs area (eqb-true n 0 e) in
+    let a = admitted m bs area c in
+    is-carried a (carries choice f m a ordered (is-one bs (c .operation)))) (λ _. is-refused
+    (cond-cases (λ (rs : List Record). Events f m (heard f rs) m) (eqb n areaRefused) (λ _. rw and-false over)
+    (λ _. rw and-false (then (refuses m bs area refl) over))) refl)
+  where
+    f : Frame
+    f = decode bs
+
+    n : ℕ
+    n = refusal m bs area
+
+pub step-events : (choice : ℕ → ℕ) (m : Model) (bs : List ℕ) (area : ℕ) → Ordered (m .txns)
+    → Events (decode bs) m (heard (decode bs) (step choice m bs area .records)) (step choice m bs area .model)
+step-events choice m bs area o = go (step-is choice m bs area o)
+  where
+    go : {n : Model} {rs : List Record} → StepIs (decode bs) m rs n → Events (decode bs) m (heard (decode bs) rs) n
+    go (is-carried a c) = c .events
+    go (is-refused e q) = e

@@ -1,0 +1,165 @@
+-- Between frames no entry is past its lease, every deadline lies ahead, and no waiting look-up has an available entry.
+use Prim.Native.Nat.{ℕ}
+use mathlib.Core.Bool.{true, false, cond, not, _&&_, true≢false}
+use mathlib.Core.Logic.{_⊎_, inl, inr, ⊎-elim}
+use mathlib.Core.Path.{_≡_, refl, sym, ap, _∙_, subst⁻¹}
+use mathlib.Core.Option.{some}
+use mathlib.Core.List.{List, [], _∷_, _++_, List·Memᴰ}
+use native.Mathlib.Omega.{arith}
+use borrow.Author.Tests.{eqb-false, ne-eqb}
+use lib.Dec.{eqb}
+use Rattle.rules.specs.declared.Entry.{Entry}
+use Rattle.rules.specs.declared.Record.{Record}
+use Rattle.rules.specs.declared.Txn.{Txn}
+use Rattle.rules.specs.declared.LookUp.{LookUp}
+use Rattle.rules.specs.Time.{reached}
+use Rattle.rules.specs.State.{Model}
+use Rattle.rules.specs.Template.{matches}
+use Rattle.rules.specs.Holds.{liveTxn, dropReaderOf, readByOther, visible, available, someAvailable}
+use Rattle.rules.specs.Frame.{Frame, decode, isLookUp, isTick, serves}
+use Rattle.rules.specs.Write.{newEntry, stored}
+use Rattle.rules.specs.LookUp.{lookUpOf}
+use Rattle.rules.specs.Transactions.{create}
+use Rattle.rules.specs.Step.{step}
+use Rattle.rules.proofs.BoolLaws.{bool-cases}
+use Rattle.rules.proofs.ListLaws.{none-mem, all-false}
+use Rattle.rules.proofs.LayoutLaws.{write-serves, commit-serves, abort-serves, tick-serves}
+use Rattle.demands.proofs.Runs.{Input, made, made-keep}
+use Rattle.demands.proofs.AllLaws.{All, all-none, all-snoc, out-all}
+use Rattle.demands.proofs.HoldLaws.{eqb-cases, not-so, available-free}
+use Rattle.demands.proofs.Unavailable.{handOut-unavailable}
+use Rattle.demands.proofs.Events.{Heard, Event, refuses, asks, writes, is-found, is-nothing, is-waiting, creates}
+use Rattle.demands.proofs.Events.{commits, aborts, ticks, excepts, expires, Events, over, then}
+use Rattle.demands.proofs.Becomes.{newTxn, kept-all, waits-all, clock-moves}
+use Rattle.demands.proofs.EventsProof.{until-later, NoneFor, OpenIn, Lasting, StepIs, is-carried, is-refused}
+use Rattle.demands.proofs.EventsProof.{step-is}
+use Rattle.demands.proofs.Sound.{Sound, ok-below, not-inside}
+use Rattle.demands.proofs.SoundProof.{sound-event, sound-events, sound-empty}
+
+pub record Stable (m : Model) : Type 0 where
+  pub sound-model : Sound m
+  pub lasting : Lasting m
+  pub ahead : OpenIn m
+  pub none-for : NoneFor m
+
+-- in the midst of a frame's step: so but for its own look-up, and for what a tick or service mends
+abbrev Own : Frame → LookUp → Type 0
+Own f w = (isLookUp (f .op) ≡ true) × (w .party ≡ f .party)
+
+abbrev NoneElse : Frame → Model → Type 0
+NoneElse f m = All (λ w. Own f w ⊎ (someAvailable (m .txns) w (m .entries) ≡ false)) (m .waits)
+
+record Steady (f : Frame) (m : Model) : Type 0 where
+  lasting : (isTick (f .op) ≡ true) ⊎ Lasting m
+  ahead : (isTick (f .op) ≡ true) ⊎ All (λ w. Own f w ⊎ (reached (m .clock) (w .deadline) ≡ false)) (m .waits)
+  none-for : (serves f ≡ true) ⊎ NoneElse f m
+
+-- a transaction made later changes nothing for a look-up
+find-snoc : (t : ℕ) (ts : List Txn) (x : Txn) → (x .id .0 ≡ t → ⊥) → liveTxn t (ts ++ (x ∷ [])) ≡ liveTxn t ts
+unfolding liveTxn
+find-snoc t [] x d = rw (ne-eqb (x .id .0) t d)
+find-snoc t (y ∷ ts) x d = ap (λ r. cond (eqb (y .id .0) t) (some y) r) (find-snoc t ts x d)
+
+available-same : (ts us : List Txn) (w : LookUp) → liveTxn (w .txn .0) ts ≡ liveTxn (w .txn .0) us → (e : Entry)
+    → available ts w e ≡ available us w e
+unfolding available readByOther
+available-same ts us w p e =
+    ap (λ o. matches (w .mask) (w .fields) (e .fields) && visible (w .txn .0) e && not
+    (w .takes && not (eqb (dropReaderOf o (e .readers)) 0))) p
+
+-- where service does not follow
+none-event : {f : Frame} {m n : Model} {hs : List Heard} → serves f ≡ false → Event f m hs n → Sound m → NoneElse f m
+    → NoneElse f n
+unfolding stored newEntry lookUpOf create
+none-event z (refuses m bs area q) s h = h
+none-event z (asks m t a) s h = all-snoc (m .waits) h (inl (t, refl))
+none-event {f} z (writes m t a) s h =
+    λ w i. ⊎-elim inl
+    (λ n. inr (eqb-cases (λ (l : List Entry). someAvailable (m .txns) w l ≡ false) (f .leaseOrTimeout) 0 (λ _. n)
+    (λ _. all-false (available (m .txns) w) (m .entries ++ (newEntry m f ∷ []))
+    (all-snoc (m .entries) (λ e j. none-mem (available (m .txns) w) n j) (not-so _ (λ u. hidden w i u)))))) (h w i)
+  where
+    inside : f .txn ≡ 0 → ⊥
+    inside = eqb-false (f .txn) 0 (sym (write-serves f t) ∙ z)
+
+    hidden : (w : LookUp) → List·Memᴰ w (m .waits) → available (m .txns) w (newEntry m f) ≡ true → ⊥
+    hidden w i u =
+        ⊎-elim inside (λ q. ⊎-elim inside (λ y. not-inside s a y w i (sym q)) (a .inside))
+        (available-free (m .txns) w (newEntry m f) u .owner)
+none-event z (is-found m w e ws o i av) s h =
+    out-all o (λ v j. ⊎-elim inl (λ n. inr (handOut-unavailable (m .txns) v w e av (m .entries) n)) (h v j))
+none-event z (is-nothing m w ws o n c) s h = out-all o h
+none-event z (is-waiting m w i q n d c) s h = h
+none-event {f} z (creates m t a) s h =
+    λ w i. ⊎-elim inl (λ n. inr (all-false (available (m .txns ++ (newTxn m f ∷ [])) w) (m .entries)
+    (λ e j. available-same (m .txns ++ (newTxn m f ∷ [])) (m .txns) w
+    (find-snoc (w .txn .0) (m .txns) (newTxn m f)
+    (λ (q : m .nextTxn ≡ w .txn .0). let b = ok-below s (⊎-elim inl (λ x. inr (x .0, x .1, x .2)) (s .owned w i)) in
+    omega arith)) e ∙ none-mem (available (m .txns) w) n j))) (h w i)
+none-event {f} z (commits m t a) s h = absurd (true≢false (sym (commit-serves f t) ∙ z))
+none-event {f} z (aborts m t a) s h = absurd (true≢false (sym (abort-serves f t) ∙ z))
+none-event {f} z (ticks m t a) s h = absurd (true≢false (sym (tick-serves f t) ∙ z))
+none-event {f} z (excepts m t k i r) s h = absurd (true≢false (sym (tick-serves f k) ∙ z))
+none-event {f} z (expires m k) s h = absurd (true≢false (sym (tick-serves f k) ∙ z))
+
+steady-event : {f : Frame} {m n : Model} {hs : List Heard} → Event f m hs n → Sound m → Steady f m → Steady f n
+unfolding newEntry lookUpOf
+steady-event {f} {m} {n} e s h =
+    record {
+      lasting = ⊎-elim inl (λ k. ⊎-elim (λ q. inr (lasts (q .0) k)) (λ t. inl (t .2)) (clock-moves e)) (h .lasting);
+      ahead = ⊎-elim inl (λ k. ⊎-elim (λ q. inr (lie-ahead (q .0) k)) (λ t. inl (t .2)) (clock-moves e)) (h .ahead);
+      none-for = ⊎-elim inl (λ k. ⊎-elim inl (λ z. inr (none-event z e s k)) (bool-cases (serves f))) (h .none-for);
+    }
+  where
+    lasts : n .clock ≡ m .clock → Lasting m → Lasting n
+    lasts q k =
+        subst⁻¹ (λ c. All (λ x. reached c (x .end) ≡ false) (n .entries)) q
+        (kept-all (λ x. reached (m .clock) (x .end) ≡ false) e (s .ordered)
+        (λ t a d. until-later (m .clock) (f .leaseOrTimeout) d) k)
+
+    lie-ahead : n .clock ≡ m .clock → All (λ w. Own f w ⊎ (reached (m .clock) (w .deadline) ≡ false)) (m .waits)
+        → All (λ w. Own f w ⊎ (reached (n .clock) (w .deadline) ≡ false)) (n .waits)
+    lie-ahead q k =
+        subst⁻¹ (λ c. All (λ w. Own f w ⊎ (reached c (w .deadline) ≡ false)) (n .waits)) q
+        (waits-all (λ w. Own f w ⊎ (reached (m .clock) (w .deadline) ≡ false)) e (λ t a. inl (t, refl)) k)
+
+steady-events : {f : Frame} {m n : Model} {hs : List Heard} → Events f m hs n → Sound m → Steady f m → Steady f n
+steady-events over s h = h
+steady-events (then e t) s h = steady-events t (sound-event e s) (steady-event e s h)
+
+-- and when it is over
+pub stable-step : (i : Input) (m : Model) → Stable m → Stable (step (i .choice) m (i .frame) (i .area) .model)
+stable-step i m k = go (step-is (i .choice) m (i .frame) (i .area) (k .sound-model .ordered .txns))
+  where
+    f : Frame
+    f = decode (i .frame)
+
+    go : {rs : List Record} {n : Model} → StepIs f m rs n → Stable n
+    go (is-refused e q) = subst⁻¹ Stable q k
+    go (is-carried a c) =
+        let r = c .rested in
+        let h =
+        steady-events (c .events) (k .sound-model)
+        (record {
+          lasting = inr (k .lasting);
+          ahead = inr (λ w i. inr (k .ahead w i));
+          none-for = inr
+              (λ w i. inr (k .none-for w i));
+        }) in
+        record {
+          sound-model = sound-events (c .events) (k .sound-model);
+          lasting = ⊎-elim (r .lasting) (λ x. x) (h .lasting);
+          ahead =
+              ⊎-elim (r .ahead) (λ x w i. ⊎-elim (λ o. r .waits-well (o .0) w i (o .1) .1) (λ y. y) (x w i)) (h .ahead);
+          none-for =
+              ⊎-elim (r .settled) (λ x w i. ⊎-elim (λ o. r .waits-well (o .0) w i (o .1) .0) (λ y. y) (x w i))
+              (h .none-for);
+        }
+
+pub stable : (is : List Input) → Stable (made is)
+stable =
+    made-keep Stable stable-step
+    (record { sound-model = sound-empty; lasting = all-none _; ahead = all-none _; none-for = all-none _ })
+
+pub lasting : (is : List Input) → Lasting (made is)
+lasting is = stable is .lasting

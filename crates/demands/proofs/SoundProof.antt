@@ -1,0 +1,331 @@
+-- Each event keeps a space sound; and what each event keeps, of a sound space and of what a reader of frames and
+-- records makes of them, holds of every space that frames make of the empty one.
+use Prim.Native.Nat.{ℕ, _+_, _<_}
+use mathlib.Core.Bool.{Bool, true, false, cond, not, _&&_, true≢false}
+use mathlib.Core.Logic.{_⊎_, inl, inr, ⊎-elim}
+use mathlib.Core.Path.{_≡_, refl, sym, ap, _∙_, subst⁻¹}
+use mathlib.Core.Option.{none}
+use mathlib.Core.List.{List, [], _∷_, _++_, map, List·Memᴰ·not-nil, Memᴰ·append-left}
+use native.Mathlib.Omega.{arith}
+use lib.Dec.{eqb}
+use Rattle.rules.specs.declared.Entry.{Entry}
+use Rattle.rules.specs.declared.Record.{Record}
+use Rattle.rules.specs.declared.Txn.{Txn}
+use Rattle.rules.specs.declared.TxnId.{TxnId}
+use Rattle.rules.specs.declared.LookUp.{LookUp}
+use Rattle.rules.specs.Lists.{filterb}
+use Rattle.rules.specs.State.{Model, empty}
+use Rattle.rules.specs.Holds.{liveTxn, dropReaderOf}
+use Rattle.rules.specs.Frame.{Frame, decode, isLookUp}
+use Rattle.rules.specs.Write.{newEntry, stored}
+use Rattle.rules.specs.LookUp.{lookUpOf, removes, isEntry, marked, handOut}
+use Rattle.rules.specs.Transactions.{noTxn, create, released, withoutTxn, commit, abort}
+use Rattle.rules.specs.Tick.{dropEnded}
+use Rattle.rules.specs.Step.{step}
+use Rattle.rules.specs.SerialRun.{Logged, wasRefused}
+use Rattle.rules.proofs.BoolLaws.{cond-cases}
+use Rattle.rules.proofs.LayoutLaws.{commit-ends}
+use Rattle.rules.proofs.ReaderLaws.{bit-of-zero}
+use Rattle.demands.specs.Bounds.{Ascending}
+use Rattle.demands.proofs.Runs.{Input, runs, made}
+use Rattle.demands.proofs.AllLaws.{All, all-none, all-snoc, all-filter, all-map}
+use Rattle.demands.proofs.AscendingLaws.{ascend-filter, ascend-map, ascend-snoc}
+use Rattle.demands.proofs.EachLaws.{Each, filtered, each-out, each-snoc}
+use Rattle.demands.proofs.HoldLaws.{eqb-cases, cleared-cases, available-free, mark-cases}
+use Rattle.demands.proofs.Events.{LiveOf, Heard, asking, saying, heard, Event, refuses, asks, writes, is-found}
+use Rattle.demands.proofs.Events.{is-nothing, is-waiting, creates, commits, aborts, ticks, excepts, expires}
+use Rattle.demands.proofs.Events.{Events, over, then}
+use Rattle.demands.proofs.EventsProof.{step-events}
+use Rattle.demands.proofs.Sound.{Ok, EntryOk, TxnsOk, Sound, not-inside, slot-free, txns-filter, txns-snoc}
+use Rattle.demands.proofs.HolderLaws.{lives-on, stays-live, add-live, drop-live, drop-none, freed-at}
+use Rattle.demands.proofs.Becomes.{newTxn, Becomes, is-new, as-was, as-ever, is-held, is-freed, becomes, WaitsOn}
+use Rattle.demands.proofs.Becomes.{is-asked, waited, waited-ever, waited-commit, is-outside, waits-on}
+
+-- numbers: entries stand by number, below the next
+abbrev Numbered : ℕ → List Entry → Type 0
+Numbered n es = Ascending (map (λ (e : Entry). e .id .0) es) × All (λ e. e .id .0 < n) es
+
+numbered-filter : {n : ℕ} (p : Entry → Bool) (es : List Entry) → Numbered n es → Numbered n (filterb p es)
+numbered-filter p es h = (ascend-filter (λ (e : Entry). e .id .0) p es (h .0), all-filter p es (λ e i _. h .1 e i))
+
+numbered-map : {n : ℕ} (g : Entry → Entry) → ((e : Entry) → g e .id .0 ≡ e .id .0) → (es : List Entry) → Numbered n es
+    → Numbered n (map g es)
+numbered-map {n} g q es h =
+    let below = all-map (λ e. e .id .0 < n) g es (λ e i. let l = h .1 e i in let same = q e in omega arith) in
+    (ascend-map (λ (e : Entry). e .id .0) g q es (h .0), below)
+
+handed-numbered : {n : ℕ} (ts : List Txn) (w : LookUp) (e : Entry) (es : List Entry) → Numbered n es
+    → Numbered n (handOut ts w e es)
+unfolding handOut
+handed-numbered {n} ts w e es h =
+    cond-cases (Numbered n) (removes w e) (λ _. numbered-filter (λ x. not (isEntry e x)) es h)
+    (λ _. numbered-map (λ x. cond (isEntry e x) (marked ts w x) x)
+    (λ x. let same : Entry → Type 0 = λ y. y .id .0 ≡ x .id .0 in
+    cond-cases same (isEntry e x) (λ _. mark-cases ts w x same (λ _. refl) (λ b _ _. refl)) (λ _. refl)) es h)
+
+freed-numbered : {n : ℕ} (ts : List Txn) (t : ℕ) (p : Entry → Bool) (es : List Entry) → Numbered n es
+    → Numbered n (map (released ts t) (filterb p es))
+unfolding released
+freed-numbered ts t p es h = numbered-map (released ts t) (λ _. refl) (filterb p es) (numbered-filter p es h)
+
+numbered : {f : Frame} {m n : Model} {hs : List Heard} → Event f m hs n → Numbered (m .nextEntry) (m .entries)
+    → Numbered (n .nextEntry) (n .entries)
+unfolding stored newEntry create commit abort dropEnded
+numbered (refuses m bs area q) h = h
+numbered (asks m t a) h = h
+numbered {f} (writes m t a) h =
+    let more : All (λ e. e .id .0 < m .nextEntry + 1) (m .entries) = λ e i. let l = h .1 e i in omega arith in
+    eqb-cases (Numbered (m .nextEntry + 1)) (f .leaseOrTimeout) 0 (λ _. (h .0, more))
+    (λ _. let up = ascend-snoc (λ (e : Entry). e .id .0) (newEntry m f) (m .entries) (h .1) (h .0) in
+    (up, all-snoc (m .entries) more (omega arith)))
+numbered (is-found m w e ws o i av) h = handed-numbered (m .txns) w e (m .entries) h
+numbered (is-nothing m w ws o n c) h = h
+numbered (is-waiting m w i q n d c) h = h
+numbered (creates m t a) h = h
+numbered {f} (commits m t a) h = freed-numbered (m .txns) (f .txn) _ (m .entries) h
+numbered {f} (aborts m t a) h = freed-numbered (m .txns) (f .txn) _ (m .entries) h
+numbered (ticks m t a) h = h
+numbered (excepts m t k i r) h = freed-numbered (m .txns) (t .id .0) _ (m .entries) h
+numbered (expires m k) h = numbered-filter _ (m .entries) h
+
+-- the live transactions stand by number, each at a slot of its own
+abbrev Living : ℕ → List Txn → Type 0
+Living n ts = Ascending (map (λ (t : Txn). t .id .0) ts) × TxnsOk n ts × (0 < n)
+
+ended : {n : ℕ} (t : ℕ) (ts : List Txn) → Living n ts → Living n (withoutTxn t ts)
+unfolding withoutTxn
+ended {n} t ts h =
+    let left : Txn → Bool = λ x. not (eqb (x .id .0) t) in
+    (ascend-filter (λ (x : Txn). x .id .0) left ts (h .0), txns-filter n left ts (h .1), h .2)
+
+living : {f : Frame} {m n : Model} {hs : List Heard} → Event f m hs n → Living (m .nextTxn) (m .txns)
+    → Living (n .nextTxn) (n .txns)
+unfolding stored create commit abort dropEnded
+living (refuses m bs area q) h = h
+living (asks m t a) h = h
+living (writes m t a) h = h
+living (is-found m w e ws o i av) h = h
+living (is-nothing m w ws o n c) h = h
+living (is-waiting m w i q n d c) h = h
+living {f} (creates m t a) h = (
+  ascend-snoc (λ (x : Txn). x .id .0) (newTxn m f) (m .txns) (h .1 .below) (h .0),
+  txns-snoc (newTxn m f) (m .txns) (h .2) (slot-free (m .txns) (a .slot-left t)) (h .1),
+  omega arith,
+)
+living {f} (commits m t a) h = ended (f .txn) (m .txns) h
+living {f} (aborts m t a) h = ended (f .txn) (m .txns) h
+living (ticks m t a) h = h
+living (excepts m t k i r) h = ended (t .id .0) (m .txns) h
+living (expires m k) h = h
+
+-- a party waits once
+each : {f : Frame} {m n : Model} {hs : List Heard} → Event f m hs n → Each (m .waits) → Each (n .waits)
+unfolding stored create commit abort dropEnded lookUpOf
+each (refuses m bs area q) h = h
+each {f} (asks m t a) h = each-snoc (lookUpOf m f) (m .waits) (a .free) h
+each (writes m t a) h = h
+each (is-found m w e ws o i av) h = each-out o h
+each (is-nothing m w ws o n c) h = each-out o h
+each (is-waiting m w i q n d c) h = h
+each (creates m t a) h = h
+each (commits m t a) h = h
+each (aborts m t a) h = filtered _ (m .waits) h
+each (ticks m t a) h = h
+each (excepts m t k i r) h = filtered _ (m .waits) h
+each (expires m k) h = h
+
+-- who holds an entry, wherever it comes from
+entry-ok : {f : Frame} {m : Model} {e : Entry} {ts : List Txn} → Sound m → Becomes f m e ts → EntryOk ts e
+unfolding newEntry released create
+entry-ok s (is-new t a d) =
+    record {
+      own = inr (refl, refl);
+      owner = ⊎-elim inl (λ x. inr (x .0, x .1, x .2)) (a .inside);
+      taker = inl refl;
+      readers = λ p b. absurd (true≢false (sym b ∙ bit-of-zero p));
+      unread = inl refl;
+    }
+entry-ok s (as-was e i) = s .held e i
+entry-ok s (as-ever e i) =
+    let h = s .held e i in
+    record {
+      own = h .own;
+      owner = ⊎-elim inl (λ x. inr (x .0, Memᴰ·append-left _ (x .1), x .2)) (h .owner);
+      taker = ⊎-elim inl (λ x. inr (x .0, Memᴰ·append-left _ (x .1), x .2)) (h .taker);
+      readers = λ p b. let x = h .readers p b in (x .0, Memᴰ·append-left _ (x .1), x .2);
+      unread = h .unread;
+    }
+entry-ok {m = m} s (is-held w e true j i av t c d) =
+    let h = s .held e i in
+    record {
+      own = inl c;
+      owner = h .owner;
+      taker = ⊎-elim inl (λ x. inr (x .0, x .1, x .2)) (s .owned w j);
+      readers = λ p b. h .readers p (drop-live (e .readers) p (liveTxn (w .txn .0) (m .txns)) b);
+      unread = inr (available-free (m .txns) w e av .unread t);
+    }
+entry-ok {m = m} s (is-held w e false j i av t c d) =
+    let h = s .held e i in
+    record {
+      own = inl c;
+      owner = h .owner;
+      taker = h .taker;
+      readers = λ p b. ⊎-elim (h .readers p) (λ x. x) (add-live (e .readers) p (w .txn .0) (m .txns) b);
+      unread = inl (available-free (m .txns) w e av .untaken);
+    }
+entry-ok {m = m} s (is-freed t e i) =
+    let h = s .held e i in
+    let ts = m .txns in
+    let none : e .readers ≡ 0 → dropReaderOf (liveTxn t ts) (e .readers) ≡ 0 =
+    λ q. ap (dropReaderOf (liveTxn t ts)) q ∙ drop-none (liveTxn t ts) in
+    let free : (x : TxnId) → x .0 ≡ 0 → cond (eqb (x .0) t) noTxn x .0 ≡ 0 =
+    λ x q. cleared-cases (λ y. y .0 ≡ 0) t x (λ _. refl) (λ _. q) in
+    let ok : (x : TxnId) → Ok (x .0) ts → Ok (cond (eqb (x .0) t) noTxn x .0) (withoutTxn t ts) =
+    λ x l. cleared-cases (λ y. Ok (y .0) (withoutTxn t ts)) t x (λ _. inl refl)
+    (λ d. ⊎-elim inl (λ y. inr (stays-live t (x .0) ts d y)) l) in
+    record {
+      own = ⊎-elim (λ q. inl (free (e .«private_to») q)) (λ q. inr (free (e .«taken_by») (q .0), none (q .1))) (h .own);
+      owner = ok (e .«private_to») (h .owner);
+      taker = ok (e .«taken_by») (h .taker);
+      readers = λ p b. freed-at (s .txns-ok) t (e .readers) p (h .readers p) b;
+      unread = ⊎-elim (λ q. inl (free (e .«taken_by») q)) (λ q. inr (none q)) (h .unread);
+    }
+
+-- a look-up waits in no transaction, or in a live one of its party
+abbrev Owned : LookUp → List Txn → Type 0
+Owned w ts = (w .txn .0 ≡ 0) ⊎ LiveOf (w .txn .0) (w .party) ts
+
+still-owned : (t : ℕ) (w : LookUp) (ts : List Txn) → (w .txn .0 ≡ t → ⊥) → Owned w ts → Owned w (withoutTxn t ts)
+still-owned t w ts d = ⊎-elim inl (λ x. inr (x .0, lives-on t ts (x .0) (x .1) (λ q. d (sym (x .2) ∙ q)), x .2, x .3))
+
+owned-ok : {f : Frame} {m : Model} {w : LookUp} {ts : List Txn} → Sound m → WaitsOn f m w ts → Owned w ts
+unfolding lookUpOf create
+owned-ok s (is-asked t a) = a .inside
+owned-ok s (waited w i) = s .owned w i
+owned-ok s (waited-ever w i) = ⊎-elim inl (λ x. inr (x .0, Memᴰ·append-left _ (x .1), x .2, x .3)) (s .owned w i)
+owned-ok {f} {m} s (waited-commit t a w i) =
+    still-owned (f .txn) w (m .txns) (not-inside s a (a .ends (commit-ends (f .op) t)) w i) (s .owned w i)
+owned-ok {f} {m} s (is-outside t w i d) = still-owned t w (m .txns) d (s .owned w i)
+
+pub sound-event : {f : Frame} {m n : Model} {hs : List Heard} → Event f m hs n → Sound m → Sound n
+sound-event e s =
+    let entries = numbered e (s .ordered .entries, s .below) in
+    let txns = living e (s .ordered .txns, s .txns-ok, s .positive) in
+    record {
+      ordered = record { entries = entries .0; txns = txns .0 };
+      below = entries .1;
+      held = λ x i. entry-ok s (becomes e (s .ordered) x i);
+      txns-ok = txns .1;
+      positive = txns .2;
+      owned = λ w i. owned-ok s (waits-on e w i);
+      each = each e (s .each);
+    }
+
+pub sound-empty : Sound empty
+unfolding Ascending
+sound-empty =
+    record {
+      ordered = record { entries = tt; txns = tt };
+      below = all-none _;
+      held = all-none _;
+      txns-ok = record {
+        unique = λ a b i. absurd (List·Memᴰ·not-nil i);
+        slot = λ a b i. absurd (List·Memᴰ·not-nil i);
+        above = all-none _;
+        below = all-none _;
+      };
+      positive = omega arith;
+      owned = all-none _;
+      each = λ p. omega arith;
+    }
+
+pub sound-events : {f : Frame} {m n : Model} {hs : List Heard} → Events f m hs n → Sound m → Sound n
+sound-events over s = s
+sound-events (then e t) s = sound-events t (sound-event e s)
+
+-- who reads frames and records: what it makes of a look-up that arrives, and of a record
+pub record Reader (R : Type 0) : Type 0 where
+  pub asked : Frame → R → R
+  pub reads : Frame → Record → R → R
+
+abbrev pub hears : {R : Type 0} → Reader R → Frame → Heard → R → R
+hears k f asking r = k .asked f r
+hears k f (saying a) r = k .reads f a r
+
+abbrev pub hearsAll : {R : Type 0} → Reader R → Frame → List Heard → R → R
+hearsAll k f [] r = r
+hearsAll k f (h ∷ hs) r = hearsAll k f hs (hears k f h r)
+
+unfoldable pub readsLog : {R : Type 0} → Reader R → List Logged → R → R
+readsLog k [] r = r
+readsLog k (l ∷ ls) r = let f = decode (l .frame) in readsLog k ls (hearsAll k f (heard f (l .records)) r)
+
+hears-append : {R : Type 0} (k : Reader R) (f : Frame) (hs ks : List Heard) (r : R)
+    → hearsAll k f (hs ++ ks) r ≡ hearsAll k f ks (hearsAll k f hs r)
+hears-append k f [] ks r = refl
+hears-append k f (h ∷ hs) ks r = hears-append k f hs ks (hears k f h r)
+
+-- a fold over frames and records reads them so
+module _ {R : Type 0} (k : Reader R) (all : Frame → List Record → R → R) (log : List Logged → R → R)
+    (all-nil : (f : Frame) (r : R) → all f [] r ≡ r)
+    (all-more : (f : Frame) (a : Record) (rs : List Record) (r : R) → all f (a ∷ rs) r ≡ all f rs (k .reads f a r))
+    (log-nil : (r : R) → log [] r ≡ r) (log-more : (l : Logged) (ls : List Logged) (r : R) → log (l ∷ ls) r
+    ≡ log ls (all (decode (l .frame)) (l .records)
+    (cond (isLookUp (decode (l .frame) .op) && not (wasRefused (l .records))) (k .asked (decode (l .frame)) r) r)))
+  where
+    reads-all : (f : Frame) (rs : List Record) (r : R) → hearsAll k f (map saying rs) r ≡ all f rs r
+    reads-all f [] r = sym (all-nil f r)
+    reads-all f (a ∷ rs) r = reads-all f rs (k .reads f a r) ∙ sym (all-more f a rs r)
+
+    pub reads-log : (ls : List Logged) (r : R) → readsLog k ls r ≡ log ls r
+    unfolding readsLog
+    reads-log [] r = sym (log-nil r)
+    reads-log (l ∷ ls) r =
+        reads-log ls _ ∙ ap (log ls) (one (isLookUp (decode (l .frame) .op) && not (wasRefused (l .records))))
+        ∙ sym (log-more l ls r)
+      where
+        f : Frame
+        f = decode (l .frame)
+
+        one : (b : Bool) → hearsAll k f (cond b (asking ∷ map saying (l .records)) (map saying (l .records))) r
+            ≡ all f (l .records) (cond b (k .asked f r) r)
+        one true = reads-all f (l .records) (k .asked f r)
+        one false = reads-all f (l .records) r
+
+-- What each event keeps, every step keeps, and every list of frames.
+abbrev pub Keeps : {R : Type 0} → Reader R → (Model → R → Type 0) → Type 0
+Keeps {R} k Q = (f : Frame) (m n : Model) (hs : List Heard) (r : R) → Event f m hs n → Sound m → Q m r
+    → Q n (hearsAll k f hs r)
+
+module _ {R : Type 0} (k : Reader R) (Q : Model → R → Type 0) (keeps : Keeps k Q) where
+  events-keep : {f : Frame} {m n : Model} {hs : List Heard} (r : R) → Events f m hs n → Sound m → Q m r
+      → Q n (hearsAll k f hs r)
+  events-keep r over s h = h
+  events-keep {f} r (then {m} {n} {o} {hs} {ks} e t) s h =
+      subst⁻¹ (Q o) (hears-append k f hs ks r)
+      (events-keep (hearsAll k f hs r) t (sound-event e s) (keeps f m n hs r e s h))
+
+  pub runs-keep : (m : Model) (r : R) (is : List Input) → Sound m → Q m r
+      → Sound (runs m is .model) × Q (runs m is .model) (readsLog k (runs m is .log) r)
+  unfolding runs readsLog
+  runs-keep m r [] s h = (s, h)
+  runs-keep m r (i ∷ is) s h =
+      let f = decode (i .frame) in
+      let o = step (i .choice) m (i .frame) (i .area) in
+      let e = step-events (i .choice) m (i .frame) (i .area) (s .ordered .txns) in
+      runs-keep (o .model) (hearsAll k f (heard f (o .records)) r) is (sound-events e s) (events-keep r e s h)
+
+  pub made-keep : (r : R) → Q empty r → (is : List Input) → Q (made is) (readsLog k (runs empty is .log) r)
+  made-keep r h is = runs-keep empty r is sound-empty h .1
+
+-- of the space alone
+noReader : Reader (Unit {0})
+noReader = record { asked = λ f r. r; reads = λ f a r. r }
+
+module _ (P : Model → Type 0)
+    (keeps : (f : Frame) (m n : Model) (hs : List Heard) → Event f m hs n → Sound m → P m → P n) where
+  pub made-has : P empty → (is : List Input) → P (made is)
+  made-has h is = made-keep noReader (λ m r. P m) (λ f m n hs r. keeps f m n hs) tt h is
+
+pub sound : (is : List Input) → Sound (made is)
+sound is = runs-keep noReader (λ m r. Unit {0}) (λ f m n hs r e s h. tt) empty tt is sound-empty tt .0

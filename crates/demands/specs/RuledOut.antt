@@ -1,0 +1,215 @@
+-- What the demands rule out: a small wrong space for each of document 01's Contracts c, for each mistake that students
+-- make, and for silence, order and time; and the statement that the demand named for it fails. (`Determined` says that
+-- no wrong space is left.)
+use Prim.Native.Nat.{ℕ, suc, _+_}
+use mathlib.Core.Bool.{Bool, not, cond, _&&_, _||_}
+use mathlib.Core.Path.{_≡_}
+use mathlib.Core.List.{List, [], _∷_, _++_, map, reverse}
+use lib.Dec.{eqb}
+use Rattle.rules.specs.declared.Entry.{Entry}
+use Rattle.rules.specs.declared.LookUp.{LookUp}
+use Rattle.rules.specs.Numbers.{operationRefused}
+use Rattle.rules.specs.Lists.{filterb, pick}
+use Rattle.rules.specs.Time.{reached}
+use Rattle.rules.specs.State.{Model, withEntries, withWaits, withClock, withNextEntry}
+use Rattle.rules.specs.Template.{matches}
+use Rattle.rules.specs.Holds.{visible}
+use Rattle.rules.specs.Frame.{Frame, decode, isWrite, isLookUp, isCommit, isTick}
+use Rattle.rules.specs.Records.{written, found, committed, exception, ticked}
+use Rattle.rules.specs.Done.{Carried, Done, after, quiet}
+use Rattle.rules.specs.LookUp.{lookUpOf, handOut, answer, answerNothing, answerWaiting}
+use Rattle.rules.specs.Transactions.{abort, takenBy}
+use Rattle.rules.specs.Service.{serve, service}
+use Rattle.rules.specs.Tick.{endedTxns, abortAll, dropEnded, closeWaits}
+use Rattle.rules.specs.Refusals.{refusal}
+use Rattle.rules.specs.Write.{newEntry, stored}
+use Rattle.rules.specs.Step.{carriedOut, accepted, refusedWith, step}
+use Rattle.rules.specs.Allowed.{Answered}
+use Rattle.demands.specs.Machine.{Machine, Stepper, StepsBy, spaceOf, theRules}
+use Rattle.demands.specs.Demands.{Demand1, Demand2, Demand3}
+
+-- a space that judges as the rules do, and carries some frames out in another way
+abbrev pub carrying : (Frame → Bool) → ((ℕ → ℕ) → Model → Frame → Done) → Stepper
+carrying some wrongly choice m bs area =
+    let f = decode bs in
+    let n = refusal m bs area in
+    cond (eqb n 0) (accepted (cond (some f) (wrongly choice m f) (carriedOut choice m f))) (refusedWith m bs n)
+
+abbrev pub lookUps : Frame → Bool
+lookUps f = isLookUp (f .op)
+
+-- a frame's own part, and no more
+abbrev pub alone : Carried → Done
+alone c = after (c .own) (quiet (c .model))
+
+-- Contracts c, in its order
+
+-- says nothing, or waiting, while an entry is available
+unfoldable pub saysNothing : Stepper
+saysNothing = carrying lookUps (λ choice m f. alone (answerNothing m (lookUpOf m f)))
+
+unfoldable pub saysWaiting : Stepper
+saysWaiting = carrying lookUps (λ choice m f. alone (answerWaiting m (lookUpOf m f)))
+
+-- refuses every frame
+unfoldable pub refusesAll : Stepper
+refusesAll choice m bs area = refusedWith m bs operationRefused
+
+-- prints the same record always
+unfoldable pub sameRecord : Stepper
+sameRecord choice m bs area = record { model = step choice m bs area .model; records = ticked ∷ []; number = 0 }
+
+-- stores nothing: a write is answered, and its number used up, and no more
+unfoldable pub storesNothing : Stepper
+storesNothing =
+    carrying (λ f. isWrite (f .op))
+    (λ choice m f. record { model = withNextEntry (m .nextEntry + 1) m; records = written f (m .nextEntry) ∷ [] })
+
+-- works on the first frame only: once a number has been given out, every frame is refused
+unfoldable pub firstFrameOnly : Stepper
+firstFrameOnly choice m bs area =
+    cond (eqb (m .nextEntry) 1 && eqb (m .nextTxn) 1) (step choice m bs area) (refusedWith m bs operationRefused)
+
+-- returns an invented record count: one more than the records written
+abbrev pub oneMore : Answered → Answered
+oneMore a = record { records = a .records; count = suc (a .count); number = a .number; area = a .area }
+
+abbrev pub inventedCount : Machine
+inventedCount =
+    record {
+      State = Model;
+      view = λ m. m;
+      Empty = theRules .Empty;
+      Steps = λ m h n a. (b : Answered) × StepsBy step m h n b × (a ≡ oneMore b);
+    }
+
+-- honours a commit and loses it: the record says committed, the private entries go
+unfoldable pub losesCommit : Stepper
+losesCommit = carrying (λ f. isCommit (f .op)) (λ choice m f. after (committed f) (service choice (abort (f .txn) m)))
+
+-- Mistakes that students make
+
+-- a tick whose last three parts are others than the rules'
+abbrev pub tickWith : (Model → Model) → (Model → Done) → Model → Done
+tickWith drops closes m =
+    let later = withClock (m .clock + 1) m in
+    let ended = endedTxns later in
+    let last = closes (drops (abortAll ended later)) in
+    record { model = last .model; records = ticked ∷ map exception ended ++ last .records }
+
+abbrev pub then : (Model → Done) → (Model → Done) → Model → Done
+then first second m =
+    let a = first m in
+    let b = second (a .model) in
+    record { model = b .model; records = a .records ++ b .records }
+
+-- puts an entry back on abort after its lease ended: what is take-held is not dropped when its lease ends
+abbrev pub dropFree : Model → Model
+dropFree m = withEntries (filterb (λ e. not (reached (m .clock) (e .end)) || not (takenBy 0 e)) (m .entries)) m
+
+unfoldable pub putsBackLate : Stepper
+putsBackLate =
+    carrying (λ f. isTick (f .op))
+    (λ choice m f. tickWith dropFree (then (service choice) closeWaits) m)
+
+-- lets a transaction's own read bar its own take
+abbrev pub unreadByAny : LookUp → Entry → Bool
+unreadByAny w e =
+    matches (w .mask) (w .fields) (e .fields) && visible (w .txn .0) e && not (w .takes && not (eqb (e .readers) 0))
+
+unfoldable pub ownReadBars : Stepper
+ownReadBars =
+    carrying lookUps
+    (λ choice m f. let w = lookUpOf m f in
+    alone (answer m w (f .leaseOrTimeout) (pick (choice (w .party)) (filterb (unreadByAny w) (m .entries)))))
+
+-- gives nothing before service in the tick of the deadline
+unfoldable pub nothingFirst : Stepper
+nothingFirst = carrying (λ f. isTick (f .op)) (λ choice m f. tickWith dropEnded (then closeWaits (service choice)) m)
+
+-- shows another's private entry to a waiting look-up: the first that waits is handed what is written inside a
+-- transaction
+abbrev pub shown : Entry → Model → List LookUp → Done
+shown e m [] = quiet m
+shown e m (w ∷ ws) =
+    record { model = withWaits ws (withEntries (handOut (m .txns) w e (m .entries)) m); records = found w e ∷ [] }
+
+unfoldable pub showsPrivate : Stepper
+showsPrivate =
+    carrying (λ f. isWrite (f .op) && not (eqb (f .txn) 0))
+    (λ choice m f. after (written f (m .nextEntry)) (shown (newEntry m f) (stored m f) (m .waits)))
+
+-- Silence, order and time
+
+-- ignores writes: number 0, no record, nothing stored
+unfoldable pub ignoresWrites : Stepper
+ignoresWrites = carrying (λ f. isWrite (f .op)) (λ choice m f. quiet m)
+
+-- stores each entry twice, with two records
+unfoldable pub writesTwice : Stepper
+writesTwice =
+    carrying (λ f. isWrite (f .op))
+    (λ choice m f. after (written f (m .nextEntry)) (carriedOut choice (stored m f) f))
+
+-- ticks at each write, with all that a tick does
+unfoldable pub ticksAtWrites : Stepper
+ticksAtWrites =
+    carrying (λ f. isWrite (f .op))
+    (λ choice m f. then (λ n. carriedOut choice n f) (tickWith dropEnded (then (service choice) closeWaits)) m)
+
+-- lets no transaction expire
+unfoldable pub neverExpires : Stepper
+neverExpires =
+    carrying (λ f. isTick (f .op))
+    (λ choice m f. after ticked (then (service choice) closeWaits (dropEnded (withClock (m .clock + 1) m))))
+
+-- gives the exceptions of a tick in another order than by number
+unfoldable pub lastExceptionFirst : Stepper
+lastExceptionFirst =
+    carrying (λ f. isTick (f .op))
+    (λ choice m f. let later = withClock (m .clock + 1) m in
+    let ended = reverse (endedTxns later) in
+    let last = then (service choice) closeWaits (dropEnded (abortAll ended later)) in
+    record { model = last .model; records = ticked ∷ map exception ended ++ last .records })
+
+-- serves the last that arrived first
+unfoldable pub lastServedFirst : Stepper
+lastServedFirst =
+    carrying (λ f. isWrite (f .op))
+    (λ choice m f. let n = stored m f in
+    let r = serve choice (n .txns) (n .entries) (reverse (n .waits)) in
+    let left = withEntries (r .entries) (withWaits (reverse (r .waits)) n) in
+    after (written f (m .nextEntry)) (record { model = left; records = r .records }))
+
+-- serves before it removes the entries that end now
+unfoldable pub servesEnded : Stepper
+servesEnded =
+    carrying (λ f. isTick (f .op))
+    (λ choice m f. tickWith (λ n. n) (then (service choice) (then (λ n. quiet (dropEnded n)) closeWaits)) m)
+
+-- answers no frame at all
+abbrev pub mute : Machine
+mute = record { State = Model; view = λ m. m; Empty = theRules .Empty; Steps = λ m h n a. ⊥ }
+
+-- Each of them fails the demand named for it.
+pub record RuledOut : Type 0 where
+  pub says-nothing : Demand2 (spaceOf saysNothing) → ⊥
+  pub says-waiting : Demand2 (spaceOf saysWaiting) → ⊥
+  pub refuses-all : Demand2 (spaceOf refusesAll) → ⊥
+  pub same-record : Demand2 (spaceOf sameRecord) → ⊥
+  pub stores-nothing : Demand2 (spaceOf storesNothing) → ⊥
+  pub first-frame-only : Demand2 (spaceOf firstFrameOnly) → ⊥
+  pub invented-count : Demand2 inventedCount → ⊥
+  pub loses-commit : Demand3 (spaceOf losesCommit) → ⊥
+  pub puts-back-late : Demand3 (spaceOf putsBackLate) → ⊥
+  pub own-read-bars : Demand2 (spaceOf ownReadBars) → ⊥
+  pub nothing-first : Demand2 (spaceOf nothingFirst) → ⊥
+  pub shows-private : Demand3 (spaceOf showsPrivate) → ⊥
+  pub ignores-writes : Demand2 (spaceOf ignoresWrites) → ⊥
+  pub writes-twice : Demand2 (spaceOf writesTwice) → ⊥
+  pub ticks-at-writes : Demand2 (spaceOf ticksAtWrites) → ⊥
+  pub never-expires : Demand2 (spaceOf neverExpires) → ⊥
+  pub last-exception-first : Demand2 (spaceOf lastExceptionFirst) → ⊥
+  pub last-served-first : Demand2 (spaceOf lastServedFirst) → ⊥
+  pub serves-ended : Demand2 (spaceOf servesEnded) → ⊥
+  pub answers-none : Demand1 mute → ⊥
