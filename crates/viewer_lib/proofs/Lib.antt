@@ -1,4 +1,4 @@
 -- Proofs of the program's body.
-pub mod TextLaws
-pub mod LineLaws
+pub mod PrintedLaws
+pub mod RecordLines
 pub mod ShownLaws

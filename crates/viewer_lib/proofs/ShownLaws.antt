@@ -8,24 +8,25 @@ use mathlib.Core.List.{List·Memᴰ·cases-cons, Memᴰ·of-map}
 use native.Mathlib.Omega.{arith}
 use lib.Dec.{leb}
 use lib.ListN.{length, getD, take, drop}
+use Rattle.rules.specs.Numbers.{recordSize}
 use Rattle.rules.specs.State.{Model, empty}
 use Rattle.rules.specs.Records.{areaAfter}
 use Rattle.rules.specs.Tray.{pairs, trayRefusal, frameAt, TrayOutcome, runFrames, runPairs, runTray}
 use Rattle.rules.specs.Print.{doneLine, printed}
 use Rattle.rules.specs.Allowed.{TrayRan}
-use Rattle.rules.proofs.StepCases.{cond-cases}
+use Rattle.rules.proofs.BoolLaws.{cond-cases}
 use Rattle.demands.specs.Machine.{theRules}
-use Rattle.demands.specs.History.{Logged}
+use Rattle.rules.specs.SerialRun.{Logged}
 use Rattle.demands.specs.Bounds.{AreBytes, AllInRange}
 use Rattle.demands.specs.Trays.{HandedIn, none-left, one-more, TrayHistory, TraysAreHistories}
 use Rattle.demands.specs.Trays.{NumbersAreReadBack}
-use Rattle.demands.proofs.Carried.{rules-follow}
-use Rattle.demands.proofs.Trays.{trays-are-histories, numbers-are-read-back}
-use Rattle.demands.proofs.Theorems.{follows-bounds}
-use Rattle.printer.specs.Text.{Prints, hasLine}
+use Rattle.demands.proofs.ByRule.{rules-follow}
+use Rattle.demands.proofs.TraysProof.{trays-are-histories, numbers-are-read-back}
+use Rattle.demands.proofs.Follows.{follows-bounds}
+use Rattle.printer.specs.Text.{Prints, lineSize, hasLine}
 use Rattle.viewer_lib.specs.Shows.{recordTexts, Shows}
-use Rattle.viewer_lib.proofs.TextLaws.{lineAt, withLine, line-room, by-room, no-longer, prints-then}
-use Rattle.viewer_lib.proofs.LineLaws.{texts-are-lines}
+use Rattle.viewer_lib.proofs.PrintedLaws.{lineAt, withLine, line-room, by-room, no-longer, prints-then}
+use Rattle.viewer_lib.proofs.RecordLines.{texts-are-lines}
 
 -- the bytes of a slice, of a part of it, and of each frame of a tray
 pub are-bytes : (bs : List ℕ) → ((i : ℕ) → getD bs i 0 < 256) → AreBytes bs
@@ -62,7 +63,7 @@ handed-frame (one-more choices a s e h) l i =
 -- what a run leaves: its records fit their bytes, and the area
 record Left (area : ℕ) (o : TrayOutcome) : Type 0 where
   in-range : AllInRange (o .records)
-  fit : 28 * length (o .records) ≤ area
+  fit : recordSize * length (o .records) ≤ area
 
 left : (choices : ℕ → ℕ → ℕ) (tray area : List ℕ) → AreBytes tray
     → Left (length area) (runTray choices tray (length area))
@@ -114,7 +115,7 @@ module _ (tray area area′ : List ℕ) (told : ℕ) (r : TrayRan tray area told
             ∙ b .number,
       )
 
-  pub records-fit : 28 * recordsIn told ≤ length area
+  pub records-fit : recordSize * recordsIn told ≤ length area
   unfolding o
   records-fit = omega (arith, back .1, left (r .choices) tray area bytes .fit)
 
@@ -123,19 +124,19 @@ module _ (tray area area′ : List ℕ) (told : ℕ) (r : TrayRan tray area told
   text =
       ap₂ (λ (x y : List ℕ). x ++ y)
       (ap₂ recordTexts (back .1) (r .leaves)
-      ∙ texts-are-lines (o .records) (drop (28 * length (o .records)) area) in-range)
+      ∙ texts-are-lines (o .records) (drop (recordSize * length (o .records)) area) in-range)
       (ap (λ n. doneLine n (recordsIn told) (numberIn told)) (back .0) ∙ ap₂ (doneLine (o .frames)) (back .1) (back .2))
     where
       in-range : AllInRange (o .records)
       in-range = left (r .choices) tray area bytes .in-range
 
   module _ (old out new : List ℕ) (at n : ℕ) (f : Prints true (recordTexts (recordsIn told) area′) old out at)
-      (k : at + 100 ≤ length out) (p : Prints (hasLine (lineAt out at)) (lastLine told) (lineAt out at) new n)
+      (k : at + lineSize ≤ length out) (p : Prints (hasLine (lineAt out at)) (lastLine told) (lineAt out at) new n)
       (same : length new ≡ length (lineAt out at)) where
     last : Prints true (lastLine told) (lineAt out at) new n
     last = by-room (hasLine (lineAt out at)) (lastLine told) (lineAt out at) new n (line-room out at k) p
 
-    pub shown-short : n ≤ 100
+    pub shown-short : n ≤ lineSize
     shown-short = no-longer (recordTexts (recordsIn told) area′) (lastLine told) old out new at n f last same
 
     pub shown : Shows tray area old (withLine out at new) (at + n)

@@ -6,20 +6,20 @@ use mathlib.Core.Path.{_≡_, refl, subst}
 use native.Mathlib.Omega.{arith}
 use borrow.Author.Needs.{needs}
 use lib.ListN.{length}
-use Rattle.printer.specs.Text.{Prints}
+use Rattle.printer.specs.Text.{Prints, lineSize}
 use Rattle.viewer_lib.specs.Shows.{recordTexts}
-use Rattle.viewer_lib.proofs.TextLaws.{prints-length, none-printed, record-short, record-printed}
+use Rattle.viewer_lib.proofs.PrintedLaws.{prints-length, none-printed, record-short, record-printed}
 use Rattle.viewer_lib.proofs.text.put_records.Statement.{statement}
 use Rattle.viewer_lib.proofs.text.put_records.Tie as tie
 
 abbrev Inv-loop : tie.InvT-loop
 Inv-loop answers count out₀ at₀ i₀ out at i =
-    Prints true (recordTexts i answers) out₀ out at × (at ≤ 100 * i) × (i ≤ count) × (length out ≡ length out₀)
+    Prints true (recordTexts i answers) out₀ out at × (at ≤ lineSize * i) × (i ≤ count) × (length out ≡ length out₀)
 
 abbrev μ-loop : tie.MeasureT-loop
 μ-loop answers count out₀ at₀ i₀ out at i = count - i
 
-short : (c : tie.After-slice-known2 Inv-loop μ-loop) → c .before .before .record-line .result ≤ 100
+short : (c : tie.After-slice-known2 Inv-loop μ-loop) → c .before .before .record-line .result ≤ lineSize
 short c =
     let l = c .before .before .before .before .before .before .loop in
     let t = c .before .before .record-line in
@@ -47,8 +47,7 @@ pub put-records-spec : {M : Type 1} → statement M
 put-records-spec =
     tie.close
     (tie.spec
-    Inv-loop
-    μ-loop
+    Inv-loop μ-loop
     (λ c. (none-printed _ _, omega arith, omega arith, refl))
     (λ c. omega arith)
     (λ c. omega arith)

@@ -8,8 +8,9 @@ use native.Mathlib.Omega.{arith}
 use borrow.Author.Tests.{le-leb}
 use lib.ListN.{length, take, drop, length-append, length-take, length-drop, take-append-drop}
 use lib.Seq.{take-at, drop-at, drop-append-le, drop-drop}
-use Rattle.printer.specs.Text.{Prints, hasLine, hasRecord, recordText}
-use Rattle.tray.proofs.TrayLaws.{part-from}
+use Rattle.printer.specs.Text.{Prints, lineSize, hasLine, hasRecord, recordText}
+use Rattle.rules.specs.Numbers.{recordSize}
+use Rattle.rules.proofs.PartLaws.{part-from}
 use Rattle.viewer_lib.specs.Shows.{recordTexts}
 
 -- the lengths of a buffer and of a text printed into it
@@ -25,15 +26,15 @@ prints-length text old new n p h =
     let l = length-append text (drop (length text) old) in
     omega (arith, p .count, ap length (p .bytes), l, length-drop (length text) old)
 
--- the 100 bytes of a buffer from `at` on, and the buffer with other bytes in their place
+-- the bytes of a line of a buffer from `at` on, and the buffer with other bytes in their place
 abbrev pub lineAt : List ℕ → ℕ → List ℕ
-lineAt out at = take (at + 100 - at) (drop at out)
+lineAt out at = take (at + lineSize - at) (drop at out)
 
 abbrev pub withLine : List ℕ → ℕ → List ℕ → List ℕ
-withLine out at new = take at out ++ (new ++ drop (at + 100 - at) (drop at out))
+withLine out at new = take at out ++ (new ++ drop (at + lineSize - at) (drop at out))
 
-pub line-room : (out : List ℕ) (at : ℕ) → at + 100 ≤ length out → hasLine (lineAt out at) ≡ true
-line-room out at h = le-leb 100 (length (lineAt out at)) (simp (length-take, length-drop) (omega arith))
+pub line-room : (out : List ℕ) (at : ℕ) → at + lineSize ≤ length out → hasLine (lineAt out at) ≡ true
+line-room out at h = le-leb lineSize (length (lineAt out at)) (simp (length-take, length-drop) (omega arith))
 
 pub by-room : (room : Bool) (text old new : List ℕ) (n : ℕ) → room ≡ true → Prints room text old new n
     → Prints true text old new n
@@ -42,9 +43,15 @@ by-room room text old new n e p = subst (λ b. Prints b text old new n) e p
 -- a text is printed where another one ends
 module _ (first text old out new : List ℕ) (at n : ℕ) (f : Prints true first old out at)
     (t : Prints true text (lineAt out at) new n) (same : length new ≡ length (lineAt out at)) where
-  pub no-longer : n ≤ 100
+  pub no-longer : n ≤ lineSize
   no-longer =
-      omega (arith, prints-within text (lineAt out at) new n t same, same, length-take (at + 100 - at) (drop at out))
+      omega (
+        arith,
+        prints-within text (lineAt out at) new n t same,
+        same,
+        length-take (at + lineSize - at)
+            (drop at out),
+      )
 
   pub prints-then : Prints true (first ++ text) old (withLine out at new) (at + n)
   prints-then =
@@ -56,7 +63,7 @@ module _ (first text old out new : List ℕ) (at n : ℕ) (f : Prints true first
       }
     where
       size : ℕ
-      size = at + 100 - at
+      size = at + lineSize - at
 
       fits : length text ≤ length (lineAt out at)
       fits = omega (arith, prints-within text (lineAt out at) new n t same, same, t .count)
@@ -82,41 +89,45 @@ pub none-printed : (area old : List ℕ) → Prints true (recordTexts 0 area) ol
 unfolding recordTexts
 none-printed area old = record { bytes = refl; count = refl }
 
-texts-suc : (n : ℕ) (bs : List ℕ) → recordTexts (suc n) bs ≡ recordTexts n bs ++ recordText (drop (28 * n) bs)
+texts-suc : (n : ℕ) (bs : List ℕ) → recordTexts (suc n) bs ≡ recordTexts n bs ++ recordText (drop (recordSize * n) bs)
 unfolding recordTexts
 texts-suc zero bs = append-nil (recordText bs)
 texts-suc (suc n) bs =
-    let on : 28 + 28 * n ≡ 28 * suc n = omega arith in
-    let same : drop (28 * n) (drop 28 bs) ≡ drop (28 * suc n) bs = drop-drop (28 * n) 28 bs ∙ ap (λ k. drop k bs) on in
-    ap (λ l. recordText bs ++ l) (texts-suc n (drop 28 bs) ∙ ap (λ l. recordTexts n (drop 28 bs) ++ recordText l) same)
-    ∙ sym (append-assoc (recordText bs) (recordTexts n (drop 28 bs)) (recordText (drop (28 * suc n) bs)))
+    let on : recordSize + recordSize * n ≡ recordSize * suc n = omega arith in
+    let same : drop (recordSize * n) (drop recordSize bs) ≡ drop (recordSize * suc n) bs
+    = drop-drop (recordSize * n) recordSize bs ∙ ap (λ k. drop k bs) on in
+    ap (λ l. recordText bs ++ l)
+    (texts-suc n (drop recordSize bs) ∙ ap (λ l. recordTexts n (drop recordSize bs) ++ recordText l) same)
+    ∙ sym (append-assoc (recordText bs) (recordTexts n (drop recordSize bs))
+    (recordText (drop (recordSize * suc n) bs)))
 
 -- the bytes of an area from the record at i on
-abbrev pub recordAt : List ℕ → ℕ → List ℕ
-recordAt area i = take (length area - 28 * i) (drop (28 * i) area)
+abbrev pub recordFrom : List ℕ → ℕ → List ℕ
+recordFrom area i = take (length area - recordSize * i) (drop (recordSize * i) area)
 
 -- the line of the record at i, printed behind those before it
 module _ (area old out new : List ℕ) (at i n : ℕ) (f : Prints true (recordTexts i area) old out at)
-    (h : 28 * i + 28 ≤ length area) (k : at + 100 ≤ length out)
-    (p : Prints (hasRecord (recordAt area i) && hasLine (lineAt out at)) (recordText (recordAt area i))
+    (h : recordSize * i + recordSize ≤ length area) (k : at + lineSize ≤ length out)
+    (p : Prints (hasRecord (recordFrom area i) && hasLine (lineAt out at)) (recordText (recordFrom area i))
     (lineAt out at) new n)
     (same : length new ≡ length (lineAt out at)) where
-  its-line : Prints true (recordText (drop (28 * i) area)) (lineAt out at) new n
+  its-line : Prints true (recordText (drop (recordSize * i) area)) (lineAt out at) new n
   its-line =
-      subst (λ bs. Prints true (recordText bs) (lineAt out at) new n) (part-from area (28 * i))
-      (by-room _ (recordText (recordAt area i)) (lineAt out at) new n room p)
+      subst (λ bs. Prints true (recordText bs) (lineAt out at) new n) (part-from area (recordSize * i))
+      (by-room _ (recordText (recordFrom area i)) (lineAt out at) new n room p)
     where
-      whole : hasRecord (recordAt area i) ≡ true
-      whole = le-leb 28 (length (recordAt area i)) (simp (length-take, length-drop) (omega arith))
+      whole : hasRecord (recordFrom area i) ≡ true
+      whole = le-leb recordSize (length (recordFrom area i)) (simp (length-take, length-drop) (omega arith))
 
-      room : (hasRecord (recordAt area i) && hasLine (lineAt out at)) ≡ true
+      room : (hasRecord (recordFrom area i) && hasLine (lineAt out at)) ≡ true
       room = ap₂ (λ x y. x && y) whole (line-room out at k)
 
-  pub record-short : n ≤ 100
-  record-short = no-longer (recordTexts i area) (recordText (drop (28 * i) area)) old out new at n f its-line same
+  pub record-short : n ≤ lineSize
+  record-short =
+      no-longer (recordTexts i area) (recordText (drop (recordSize * i) area)) old out new at n f its-line same
 
   pub record-printed : Prints true (recordTexts (i + 1) area) old (withLine out at new) (at + n)
   record-printed =
       subst (λ text. Prints true text old (withLine out at new) (at + n))
       (sym (texts-suc i area) ∙ ap (λ k. recordTexts k area) (sym (add-one i)))
-      (prints-then (recordTexts i area) (recordText (drop (28 * i) area)) old out new at n f its-line same)
+      (prints-then (recordTexts i area) (recordText (drop (recordSize * i) area)) old out new at n f its-line same)
