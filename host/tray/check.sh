@@ -1,0 +1,66 @@
+#!/usr/bin/env bash
+# Checks the tool: its own tests, all lessons, all expectations, all drawings. The first failure ends it with a non-zero
+# status. Needs cargo, a linker, python3 and the proved archive; no browser.
+set -euo pipefail
+cd "$(dirname "$0")/../.."
+. host/build.sh
+to=$out/tool
+rm -rf "$to"
+mkdir -p "$to"
+
+fail() {
+    echo "FAILED: $*"
+    exit 1
+}
+
+find_archive || fail "no archive"
+cargo test --quiet --release --offline --manifest-path host/tray/Cargo.toml > "$to/test.log" 2>&1 ||
+    { tail -n 40 "$to/test.log"; fail "the tool's own tests"; }
+build_rust tray || fail "host/tray"
+tray=$built/tray
+
+# Lessons: every script and every history must expect something, and get it.
+lessons=0
+for lesson in examples/lessons/*; do
+    name=$(basename "$lesson")
+    case $lesson in
+        *.panes) verb=(explore "$lesson" -o "$to/$name.html") ;;
+        *.txt) verb=(run "$lesson") ;;
+        *) fail "$lesson is no lesson" ;;
+    esac
+    grep -q '^ *expect ' "$lesson" || fail "$lesson expects nothing"
+    "$tray" "${verb[@]}" > "$to/$name.out" 2> "$to/$name.err" || { cat "$to/$name.err"; fail "$lesson"; }
+    lessons=$((lessons + 1))
+done
+
+# Every example is drawn; a tray that is refused as a whole has no drawing.
+drawings=0
+for text in examples/*.txt examples/lessons/*.txt; do
+    name=$(basename "$text" .txt)
+    for ending in html svg; do
+        status=0
+        "$tray" draw "$text" -o "$to/$name.$ending" 2> "$to/$name.err" || status=$?
+        case $status:$name in
+            0:* | 3:refusal-01) drawings=$((drawings + 1)) ;;
+            3:refusal-15* | 3:refusal-16*) ;;
+            *) cat "$to/$name.err"; fail "$text as $ending" ;;
+        esac
+    done
+done
+# The pictures in docs/ are what the tool draws of the texts that they are named after.
+for picture in docs/*.svg; do
+    name=$(basename "$picture" .svg)
+    text=examples/$name.txt
+    [ -f "$text" ] || text=examples/lessons/$name.txt
+    "$tray" draw "$text" -o "$to/$name.svg"
+    cmp -s "$picture" "$to/$name.svg" || fail "$picture is not what the tool draws of $text"
+done
+PATH=$built:$PATH python3 host/tray/teaching.py docs/TEACHING.md . "$to/teaching" ||
+    fail "docs/TEACHING.md"
+python3 - "$to" "$to/teaching" docs <<'END' || fail "a drawing is not well formed"
+import glob, sys, xml.dom.minidom
+files = [file for folder in sys.argv[1:] for ending in ("html", "svg") for file in glob.glob(f"{folder}/*.{ending}")]
+for file in files:
+    xml.dom.minidom.parse(file)
+END
+echo "ok: tray: tests, $lessons lessons, $drawings drawings, the course"

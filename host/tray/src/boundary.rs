@@ -1,0 +1,87 @@
+//! The proved functions, called as a C host calls them (host/space.h).
+
+use crate::record::{Record, RECORD_BYTES, STEP_BYTES};
+use crate::words::{Words, WORDS};
+
+extern "C" {
+    fn space_empty(space: *mut u32);
+    fn space_step(space: *mut u32, frame: *const u8, frame_len: usize, answers: *mut u8, answers_len: usize) -> u64;
+    fn space_run_tray(tray: *const u8, tray_len: usize, answers: *mut u8, answers_len: usize) -> u64;
+}
+
+/// The program's answers area.
+pub const PROGRAM_AREA: usize = 65536;
+
+pub fn empty(words: &mut Words) {
+    unsafe { space_empty(words.as_mut_ptr()) }
+}
+
+/// Records + 65,536 × number.
+pub fn step(words: &mut Words, frame: &[u8], area: &mut [u8]) -> u64 {
+    unsafe { space_step(words.as_mut_ptr(), frame.as_ptr(), frame.len(), area.as_mut_ptr(), area.len()) }
+}
+
+/// Frames + 65,536 × records + 4,294,967,296 × number.
+pub fn run_tray(tray: &[u8], area: &mut [u8]) -> u64 {
+    unsafe { space_run_tray(tray.as_ptr(), tray.len(), area.as_mut_ptr(), area.len()) }
+}
+
+/// The parts of what `run_tray` returns.
+#[derive(Clone, Copy, PartialEq, Eq, Debug)]
+pub struct Done {
+    pub frames: usize,
+    pub records: usize,
+    pub number: u8,
+}
+
+impl Done {
+    pub fn of(returned: u64) -> Done {
+        Done {
+            frames: (returned % 65536) as usize,
+            records: (returned / 65536 % 65536) as usize,
+            number: (returned >> 32) as u8,
+        }
+    }
+}
+
+/// The parts of what `step` returns.
+#[derive(Clone, Copy, PartialEq, Eq, Debug)]
+pub struct Stepped {
+    pub records: usize,
+    pub number: u8,
+}
+
+impl Stepped {
+    pub fn of(returned: u64) -> Stepped {
+        Stepped { records: (returned % 65536) as usize, number: (returned / 65536) as u8 }
+    }
+}
+
+/// A space with an answers area of its own: frame after frame, from the empty space.
+#[derive(Clone)]
+pub struct Space {
+    pub words: Words,
+    area: [u8; STEP_BYTES],
+    written: usize,
+}
+
+impl Default for Space {
+    fn default() -> Space {
+        let mut space = Space { words: [0; WORDS], area: [0; STEP_BYTES], written: 0 };
+        empty(&mut space.words);
+        space
+    }
+}
+
+impl Space {
+    /// Carries out a frame; `records` then gives what it wrote. The area is never too small, so number 1 cannot come.
+    pub fn step(&mut self, frame: &[u8]) -> u8 {
+        let Stepped { records, number } = Stepped::of(step(&mut self.words, frame, &mut self.area));
+        self.written = records;
+        number
+    }
+
+    pub fn records(&self) -> impl Iterator<Item = Record> + '_ {
+        self.area.chunks_exact(RECORD_BYTES).take(self.written).map(Record::read)
+    }
+}

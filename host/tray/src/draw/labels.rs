@@ -1,0 +1,201 @@
+//! What stands above and below a mark: the request; the record's word, and one reason or effect.
+
+use super::lives::{EntryLife, Gone, Hold, Lives, Mark, Moment};
+use super::metrics::width;
+use crate::frame::{duration_text, end_text, plain_fields, template_slots, template_text, Class, Part, Request};
+use crate::history::History;
+use crate::oracle::{Matcher, Sought, Standing};
+use crate::record::{
+    kind_of, refusal_label, ABORTED, COMMITTED, CREATED, EXCEPTION, FOUND, NOTHING, REFUSED, WAITING, WRITTEN,
+};
+use crate::words::{End, Template};
+
+/// A template longer than this is shown by slots.
+const LONG: f64 = 104.0;
+
+/// The lines of a mark's labels; below, the first is bold.
+#[derive(Clone, Default, PartialEq, Debug)]
+pub struct Labels {
+    pub above: Vec<String>,
+    pub below: Vec<String>,
+    /// Matching entries that are not available: lines go up to them.
+    pub barred: Vec<u32>,
+}
+
+fn template_label(template: &Template) -> String {
+    let text = template_text(template);
+    match width(&text) > LONG {
+        true => template_slots(template),
+        false => text,
+    }
+}
+
+/// The request: operation, then its template, fields, lease or transaction.
+fn request_label(request: &Request, mark: &Mark, clock: u32) -> Vec<String> {
+    let name = request.operation.name;
+    let lease = || match End::of(request.duration) {
+        End::At(lease) => format!("lease {}", end_text(End::At(clock.saturating_add(lease)))),
+        End::Never => "lease forever".to_string(),
+    };
+    let second = |part: &Part| match part {
+        Part::Fields => Some(plain_fields(&request.fields)),
+        Part::Template => Some(template_label(&request.template())),
+        Part::Lease => Some(lease()),
+        Part::Transaction => Some(format!("T{}", request.transaction)),
+        Part::Timeout | Part::Inside => None,
+    };
+    // The timeout is shown only where it decides.
+    let first = match mark.record.kind {
+        NOTHING => format!("{name}, timeout {}", duration_text(request.duration)),
+        _ => name.to_string(),
+    };
+    std::iter::once(first).chain(request.operation.parts.iter().find_map(second)).collect()
+}
+
+fn hold_label(standing: &Standing) -> Option<String> {
+    let all = |numbers: &[u32]| numbers.iter().map(|number| format!("T{number}")).collect::<Vec<_>>().join(" ");
+    match standing {
+        Standing::Available => None,
+        Standing::Private(number) => Some(format!("private to T{number}")),
+        Standing::Taken(number) => Some(format!("take hold T{number}")),
+        Standing::OwnTake(_) => Some("own take hold".to_string()),
+        Standing::Read(numbers) => Some(format!("read hold {}", all(numbers))),
+    }
+}
+
+/// The match that ended last before this moment: what became of it.
+fn former(lives: &Lives, sought: &Sought, at: Moment, matcher: &mut Matcher) -> String {
+    let mut last: Option<(Moment, String)> = None;
+    for life in lives.entries.iter().filter(|life| life.begin <= at) {
+        if !matcher.matches(&sought.template, &life.fields) {
+            continue;
+        }
+        let told = match life.end {
+            Some((end, gone)) if end <= at => Some((end, gone_words(life.number, gone))),
+            None if !life.is_stored() => Some((life.begin, format!("E{} had lease 0", life.number))),
+            _ => None,
+        };
+        if told.is_some() && told.as_ref().map(|told| told.0) >= last.as_ref().map(|last| last.0) {
+            last = told;
+        }
+    }
+    last.map_or("no such entry".to_string(), |(_, words)| words)
+}
+
+fn gone_words(number: u32, gone: Gone) -> String {
+    match gone {
+        Gone::Taken => format!("E{number} was taken"),
+        Gone::Expired => format!("E{number} has expired"),
+        Gone::Removed => format!("E{number} was removed"),
+    }
+}
+
+/// Why nothing or waiting, and the entries that are barred.
+fn reason(history: &History, lives: &Lives, mark: &Mark, matcher: &mut Matcher) -> (String, Vec<u32>) {
+    let Some(sought) = history.sought(mark.at.frame, mark.place) else { return (String::new(), Vec::new()) };
+    let tables = &history.steps[mark.at.frame].after;
+    let standings = sought.standings(tables, matcher);
+    let barred: Vec<u32> = standings.iter().map(|(entry, _)| entry.number).collect();
+    let first = standings.iter().find_map(|(entry, standing)| Some((entry.number, hold_label(standing)?)));
+    let Some((number, label)) = first else { return (former(lives, &sought, mark.at, matcher), Vec::new()) };
+    let more = if barred.len() > 1 { format!(" +{}", barred.len() - 1) } else { String::new() };
+    (format!("E{number}: {label}{more}"), barred)
+}
+
+/// The entry's hold just before a moment.
+fn held_before(life: &EntryLife, at: Moment) -> Option<&Hold> {
+    if life.end.is_some_and(|(end, _)| end < at) {
+        return None;
+    }
+    life.segments.iter().rev().find(|(from, _)| *from < at).map(|(_, hold)| hold)
+}
+
+/// What the end of a transaction does to one entry.
+fn effect(life: &EntryLife, transaction: u32, commits: bool, at: Moment) -> Option<String> {
+    let number = life.number;
+    if let Some(hold) = held_before(life, at) {
+        return match hold {
+            Hold::Private(by) if *by == transaction && commits => Some(format!("E{number} visible to all")),
+            Hold::Private(by) if *by == transaction => Some(format!("E{number} removed")),
+            Hold::Taken(by) if *by == transaction && commits => Some(format!("E{number} gone")),
+            Hold::Taken(by) if *by == transaction => match life.end {
+                // It goes in the very tick that ends the transaction.
+                Some((end, Gone::Expired)) if end == at => Some(format!("E{number} expires too")),
+                _ => Some(format!("E{number} put back")),
+            },
+            _ => None,
+        };
+    }
+    let (_, last) = life.segments.last()?;
+    let (end, gone) = life.end?;
+    let was_its = matches!(last, Hold::Private(by) | Hold::Taken(by) if *by == transaction);
+    (was_its && gone == Gone::Expired && end < at).then(|| format!("E{number} had expired"))
+}
+
+fn effects(lives: &Lives, mark: &Mark) -> String {
+    let (transaction, commits) = (mark.record.transaction, mark.record.kind == COMMITTED);
+    let all: Vec<String> =
+        lives.entries.iter().filter_map(|life| effect(life, transaction, commits, mark.at)).collect();
+    match all.len() {
+        0..=2 => all.join(", "),
+        more => format!("{}, {} +{}", all[0], all[1], more - 2),
+    }
+}
+
+/// How many entries were available to a look-up that found one at once.
+fn choice(history: &History, mark: &Mark, matcher: &mut Matcher) -> String {
+    if !mark.own {
+        return String::new();
+    }
+    let sought = history.sought(mark.at.frame, mark.place);
+    let standings = sought.map(|sought| sought.standings(history.before(mark.at.frame), matcher));
+    let available = |(_, standing): &(_, Standing)| *standing == Standing::Available;
+    match standings.unwrap_or_default().into_iter().filter(available).count() {
+        0 | 1 => String::new(),
+        several => format!("oldest of {several}"),
+    }
+}
+
+fn word(mark: &Mark, history: &History) -> String {
+    let record = &mark.record;
+    let name = kind_of(record.kind).map_or("", |kind| kind.name);
+    match record.kind {
+        WRITTEN | FOUND => format!("{name} E{}", record.entry),
+        CREATED => format!("{name} T{}", record.transaction),
+        REFUSED => format!("{name} {}", record.refusal),
+        WAITING => {
+            let look_up = history.steps[mark.at.frame].after.look_up(record.party);
+            look_up.map_or(name.to_string(), |look_up| format!("{name} {}", end_text(look_up.deadline)))
+        }
+        _ => name.to_string(),
+    }
+}
+
+pub fn labels(history: &History, lives: &Lives, mark: &Mark, matcher: &mut Matcher) -> Labels {
+    let request = history.steps[mark.at.frame].request();
+    let above = match (&request, mark.own) {
+        (_, false) => Vec::new(),
+        (Some(request), _) => request_label(request, mark, history.before(mark.at.frame).clock),
+        (None, _) => vec![format!("frame of {} bytes", history.steps[mark.at.frame].asked.frame.len())],
+    };
+    let (second, barred) = match mark.record.kind {
+        NOTHING | WAITING => reason(history, lives, mark, matcher),
+        COMMITTED | ABORTED | EXCEPTION => (effects(lives, mark), Vec::new()),
+        REFUSED => {
+            let transaction = request.map_or(0, |request| request.transaction);
+            (refusal_label(mark.record.refusal, transaction), Vec::new())
+        }
+        FOUND => (choice(history, mark, matcher), Vec::new()),
+        _ => (String::new(), Vec::new()),
+    };
+    let below = [word(mark, history), second].into_iter().filter(|line| !line.is_empty()).collect();
+    Labels { above, below, barred }
+}
+
+/// Whether a class looks up, and takes, and only if exists.
+pub fn look_up(class: Option<Class>) -> Option<(bool, bool)> {
+    match class {
+        Some(Class::LookUp { takes, if_exists }) => Some((takes, if_exists)),
+        _ => None,
+    }
+}

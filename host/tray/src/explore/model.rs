@@ -1,0 +1,196 @@
+//! One step of the panes: what is sent, what each pane gets, and what the claims make of it.
+
+use super::monitor::Monitors;
+use super::situation::{place, Situation, NAMES, PLACE, ROUND};
+use super::store::TICK;
+use crate::boundary::{self, Space, Stepped};
+use crate::frame::tick_frame;
+use crate::panes::{Action, Pane, Script};
+use crate::record::{Record, CREATED, EXCEPTION, RECORD_BYTES, REFUSED, STEP_BYTES, WAITING};
+use crate::words::FOREVER;
+
+/// In place of a pane, for the records of a party that is none.
+const NOBODY: usize = usize::MAX;
+
+/// A record that a pane gets: the pane, the line that it answers, the record.
+#[derive(Clone, Copy, Debug)]
+pub struct Got {
+    pub pane: usize,
+    pub line: Option<usize>,
+    pub record: Record,
+}
+
+impl Got {
+    /// Neither refused nor waiting.
+    pub fn succeeds(&self) -> bool {
+        !matches!(self.record.kind, REFUSED | WAITING | EXCEPTION)
+    }
+}
+
+pub struct Model<'a> {
+    pub script: &'a Script,
+    /// By party.
+    pane_of: [Option<usize>; 17],
+    /// By pane and line; a named transaction is put in before it is sent.
+    frames: Vec<Vec<Vec<u8>>>,
+    tick: Vec<u8>,
+    area: Vec<u8>,
+    pub got: Vec<Got>,
+    pub monitors: Monitors,
+}
+
+/// Bytes 4 to 7 of a frame name the transaction.
+const AT_TRANSACTION: std::ops::Range<usize> = 4..8;
+/// Sent for a name that no transaction has got: no transaction ever has this number.
+const NO_TRANSACTION: u32 = FOREVER;
+
+impl<'a> Model<'a> {
+    pub fn new(script: &'a Script) -> Model<'a> {
+        let mut pane_of = [None; 17];
+        for (place, pane) in script.panes.iter().enumerate() {
+            pane_of[usize::from(pane.party)] = Some(place);
+        }
+        let frames = |pane: &Pane| pane.sent.iter().map(|sent| sent.request.frame()).collect();
+        Model {
+            script,
+            pane_of,
+            frames: script.panes.iter().map(frames).collect(),
+            tick: tick_frame(),
+            area: vec![0; STEP_BYTES],
+            got: Vec::new(),
+            monitors: Monitors::default(),
+        }
+    }
+
+    pub fn blank(&self) -> Situation {
+        let names = self.script.panes.iter().map(|pane| pane.names.len()).max().unwrap_or(0);
+        Situation::new(self.script.panes.len(), names, self.script.claims.len())
+    }
+
+    /// After the starting frames.
+    pub fn beginning(&self) -> Situation {
+        let mut space = Space::default();
+        for asked in &self.script.start {
+            space.step(&asked.frame);
+        }
+        let mut situation = self.blank();
+        situation.words = space.words;
+        for (at, pane) in self.script.panes.iter().enumerate() {
+            if !pane.sent.is_empty() {
+                situation.pane_mut(at)[PLACE] = place(0, false);
+            }
+        }
+        situation
+    }
+
+    /// The transaction that a line of a pane names, or 0.
+    fn transaction(&self, situation: &Situation, pane: usize, line: usize) -> u32 {
+        let sent = &self.script.panes[pane].sent[line];
+        match sent.inside.map(|name| situation.pane(pane)[NAMES + name]) {
+            None => sent.request.transaction,
+            Some(0) => NO_TRANSACTION,
+            Some(number) => number,
+        }
+    }
+
+    /// What the sender sends next.
+    pub fn frame(&mut self, situation: &Situation, sender: usize) -> &[u8] {
+        if sender == TICK {
+            return &self.tick;
+        }
+        let line = situation.line(sender).unwrap_or(0);
+        if self.script.panes[sender].sent[line].inside.is_some() {
+            let transaction = self.transaction(situation, sender, line);
+            self.frames[sender][line][AT_TRANSACTION].copy_from_slice(&transaction.to_le_bytes());
+        }
+        &self.frames[sender][line]
+    }
+
+    fn go_to(&self, situation: &mut Situation, pane: usize, line: usize) {
+        if line < self.script.panes[pane].sent.len() {
+            situation.pane_mut(pane)[PLACE] = place(line, false);
+        } else if self.script.panes[pane].rounds.is_some() {
+            self.start_over(situation, pane);
+        } else {
+            situation.stop(pane);
+        }
+    }
+
+    fn start_over(&self, situation: &mut Situation, pane: usize) {
+        let state = situation.pane_mut(pane);
+        match self.script.panes[pane].rounds {
+            Some(rounds) if state[ROUND] + 1 >= rounds => situation.stop(pane),
+            Some(_) => {
+                state[ROUND] += 1;
+                state[PLACE] = place(0, false);
+            }
+            None => state[PLACE] = place(0, false),
+        }
+    }
+
+    fn react(&self, situation: &mut Situation, pane: usize, line: usize, action: Action) {
+        match action {
+            Action::Stop => situation.stop(pane),
+            Action::StartOver => self.start_over(situation, pane),
+            Action::GoOnAt(line) => self.go_to(situation, pane, line),
+            Action::GoOn => self.go_to(situation, pane, line + 1),
+        }
+    }
+
+    /// A pane gets a record: its own frame's, or a later one.
+    fn deliver(&self, situation: &mut Situation, pane: usize, record: &Record, own: bool) {
+        let Some(line) = situation.line(pane) else { return };
+        let script = &self.script.panes[pane];
+        let sent = &script.sent[line];
+        if record.kind == EXCEPTION && !own {
+            let closes = situation.waits(pane) && self.transaction(situation, pane, line) == record.transaction;
+            if closes {
+                self.react(situation, pane, line, script.reaction(sent, EXCEPTION));
+            } else if !situation.waits(pane) {
+                // It comes between two frames: only what holds for the whole pane applies.
+                let between = script.reactions[crate::panes::EVENTS.iter().position(|e| e.1 == EXCEPTION).unwrap_or(0)];
+                if let Some(action) = between {
+                    // "Go on" leaves the pane where it is: nothing of its own was answered.
+                    if action != Action::GoOn {
+                        self.react(situation, pane, line, action);
+                    }
+                }
+            }
+            return;
+        }
+        if record.kind == WAITING {
+            situation.pane_mut(pane)[PLACE] = place(line, true);
+            return;
+        }
+        if let (CREATED, Some(name)) = (record.kind, sent.names) {
+            situation.pane_mut(pane)[NAMES + name] = record.transaction;
+        }
+        self.react(situation, pane, line, script.reaction(sent, record.kind));
+    }
+
+    /// Carries out a step on `situation`, which `before` is as it was. Gives the claims that it concerns, a bit for each.
+    pub fn step(&mut self, before: &Situation, sender: usize, situation: &mut Situation) -> u32 {
+        let mut area = std::mem::take(&mut self.area);
+        let returned = boundary::step(&mut situation.words, self.frame(before, sender), &mut area);
+        situation.ticks += u32::from(sender == TICK);
+        self.got.clear();
+        let records = area.chunks_exact(RECORD_BYTES).take(Stepped::of(returned).records);
+        for (at, record) in records.map(Record::read).enumerate() {
+            let own = at == 0 && sender != TICK;
+            let party = self.pane_of.get(usize::from(record.party)).copied().flatten();
+            let pane = if own { Some(sender) } else { party };
+            let Some(pane) = pane else {
+                self.got.push(Got { pane: NOBODY, line: None, record });
+                continue;
+            };
+            // An answer to a look-up of the starting frames is none to a line of the pane.
+            let answers = own || record.kind == EXCEPTION || situation.waits(pane);
+            self.got.push(Got { pane, line: situation.line(pane).filter(|_| answers), record });
+            if answers {
+                self.deliver(situation, pane, &record, own);
+            }
+        }
+        self.area = area;
+        self.monitors.observe(self.script, sender, &self.got, situation)
+    }
+}

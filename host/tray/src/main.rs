@@ -1,0 +1,336 @@
+//! The program `tray`: its verbs, its statuses, and what it says when asked for help.
+
+use std::io::{IsTerminal, Read, Write};
+use std::process::ExitCode;
+use tray::explore::analysis::analyse;
+use tray::explore::{report, Bounds};
+use tray::line::Fault;
+use tray::typed::{self, Typed};
+use tray::{bytes, draw, history, panes, run, text};
+
+/// What the program ends with.
+#[derive(Clone, Copy, PartialEq, Eq)]
+enum Status {
+    Done = 0,
+    CannotReadOrWrite = 1,
+    BadTextOrUsage = 2,
+    TrayRefused = 3,
+    NotAsExpected = 4,
+}
+
+/// Why nothing was done.
+struct Failed {
+    status: Status,
+    why: String,
+}
+
+impl Failed {
+    fn usage(why: impl Into<String>) -> Failed {
+        Failed { status: Status::BadTextOrUsage, why: why.into() }
+    }
+
+    fn text(file: &str, fault: &Fault) -> Failed {
+        Failed::usage(fault.in_file(file))
+    }
+
+    fn io(file: &str, error: std::io::Error) -> Failed {
+        Failed { status: Status::CannotReadOrWrite, why: format!("{file}: {error}") }
+    }
+}
+
+type Ended = Result<Status, Failed>;
+
+struct Verb {
+    name: &'static str,
+    usage: &'static str,
+    /// Options alone, and those with a value behind them.
+    flags: &'static [&'static str],
+    values: &'static [&'static str],
+    about: &'static str,
+    help: &'static str,
+    act: fn(&Arguments) -> Ended,
+}
+
+const VERBS: &[Verb] = &[
+    Verb {
+        name: "run",
+        usage: "tray run FILE [--state | --raw]",
+        flags: &["--state", "--raw"],
+        values: &[],
+        about: "a history in words, frame by frame",
+        help: include_str!("help/run.txt"),
+        act: run_verb,
+    },
+    Verb {
+        name: "draw",
+        usage: "tray draw FILE -o FILE.html|FILE.svg [--width N]",
+        flags: &[],
+        values: &["-o", "--width"],
+        about: "a history as a page or a picture",
+        help: include_str!("help/draw.txt"),
+        act: draw_verb,
+    },
+    Verb {
+        name: "explore",
+        usage: "tray explore PANES [-o FILE.html] [--claim N] [--ticks N] [--situations N] [--memory MB]",
+        flags: &[],
+        values: &["-o", "--claim", "--ticks", "--situations", "--memory"],
+        about: "panes in every interleaving, and what becomes of claims",
+        help: include_str!("help/explore.txt"),
+        act: explore_verb,
+    },
+    Verb {
+        name: "try",
+        usage: "tray try [FILE]",
+        flags: &[],
+        values: &[],
+        about: "type frames, see answers and tables at once",
+        help: include_str!("help/try.txt"),
+        act: try_verb,
+    },
+    Verb {
+        name: "assemble",
+        usage: "tray assemble FILE",
+        flags: &[],
+        values: &[],
+        about: "the tray that a text stands for, as bytes",
+        help: include_str!("help/assemble.txt"),
+        act: assemble_verb,
+    },
+    Verb {
+        name: "show",
+        usage: "tray show TRAY",
+        flags: &[],
+        values: &[],
+        about: "a tray, given as bytes, as text",
+        help: include_str!("help/show.txt"),
+        act: show_verb,
+    },
+];
+
+/// What follows the verb: options with their values, and the rest.
+struct Arguments {
+    verb: &'static Verb,
+    flags: Vec<String>,
+    values: Vec<(String, String)>,
+    files: Vec<String>,
+}
+
+impl Arguments {
+    fn parse(verb: &'static Verb, words: &[String]) -> Result<Arguments, Failed> {
+        let mut arguments = Arguments { verb, flags: Vec::new(), values: Vec::new(), files: Vec::new() };
+        let mut words = words.iter();
+        while let Some(word) = words.next() {
+            if verb.values.contains(&word.as_str()) {
+                let value = words.next().ok_or_else(|| Failed::usage(format!("expected a value behind {word}")))?;
+                arguments.values.push((word.clone(), value.clone()));
+            } else if verb.flags.contains(&word.as_str()) {
+                arguments.flags.push(word.clone());
+            } else if word.starts_with('-') && word != "-" {
+                return Err(Failed::usage(format!("expected {}, found `{word}`", verb.usage)));
+            } else {
+                arguments.files.push(word.clone());
+            }
+        }
+        Ok(arguments)
+    }
+
+    fn flag(&self, name: &str) -> bool {
+        self.flags.iter().any(|flag| flag == name)
+    }
+
+    fn value(&self, name: &str) -> Option<&str> {
+        self.values.iter().find(|(option, _)| option == name).map(|(_, value)| value.as_str())
+    }
+
+    fn number<N: std::str::FromStr>(&self, name: &str) -> Result<Option<N>, Failed> {
+        let Some(value) = self.value(name) else { return Ok(None) };
+        let number =
+            value.parse().map_err(|_| Failed::usage(format!("expected a number behind {name}, found `{value}`")))?;
+        Ok(Some(number))
+    }
+
+    /// The one file that the verb works on.
+    fn file(&self) -> Result<&str, Failed> {
+        match &self.files[..] {
+            [file] => Ok(file),
+            _ => Err(Failed::usage(format!("expected {}", self.verb.usage))),
+        }
+    }
+
+    fn bytes(&self) -> Result<Vec<u8>, Failed> {
+        let file = self.file()?;
+        let mut bytes = Vec::new();
+        let read = match file {
+            "-" => std::io::stdin().read_to_end(&mut bytes).map(|_| bytes),
+            _ => std::fs::read(file),
+        };
+        read.map_err(|error| Failed::io(file, error))
+    }
+
+    fn text(&self) -> Result<String, Failed> {
+        let file = self.file()?;
+        String::from_utf8(self.bytes()?).map_err(|_| Failed::usage(format!("{file}: expected a text in UTF-8")))
+    }
+
+    /// The file's text, its tray, and the file's name.
+    fn tray(&self) -> Result<(text::Text, Vec<u8>), Failed> {
+        let file = self.file()?;
+        let parsed = text::parse(&self.text()?).map_err(|fault| Failed::text(file, &fault))?;
+        let tray = parsed.tray().map_err(|fault| Failed::text(file, &fault))?;
+        Ok((parsed, tray))
+    }
+}
+
+fn print(bytes: &[u8]) -> Result<(), Failed> {
+    let mut out = std::io::stdout().lock();
+    out.write_all(bytes).and_then(|()| out.flush()).map_err(|error| Failed::io("standard output", error))
+}
+
+fn run_verb(arguments: &Arguments) -> Ended {
+    let (text, tray) = arguments.tray()?;
+    let outcome = history::run(&text, &tray);
+    let printed = match arguments.flag("--raw") {
+        true => run::raw(&outcome.area, outcome.done),
+        false => run::words(&outcome, arguments.flag("--state")),
+    };
+    print(printed.as_bytes())?;
+    let failures = run::failures(&outcome.history);
+    for failure in &failures {
+        eprintln!("tray: {}", Fault::new(failure.line, &failure.why).in_file(arguments.file()?));
+    }
+    Ok(match outcome.done.number {
+        0 if failures.is_empty() => Status::Done,
+        0 => Status::NotAsExpected,
+        _ => Status::TrayRefused,
+    })
+}
+
+fn write(file: &str, bytes: &[u8]) -> Result<(), Failed> {
+    std::fs::write(file, bytes).map_err(|error| Failed::io(file, error))
+}
+
+fn draw_verb(arguments: &Arguments) -> Ended {
+    let file = arguments.file()?;
+    let (text, tray) = arguments.tray()?;
+    let to = arguments.value("-o").ok_or_else(|| Failed::usage(format!("expected {}", arguments.verb.usage)))?;
+    let width = arguments.number::<u32>("--width")?.map_or(draw::default_width(), |width| f64::from(width.max(300)));
+    let outcome = history::run(&text, &tray);
+    if outcome.done.number > 1 {
+        let why = format!("{file}: the tray is {}", tray::prose::refusal_words(outcome.done.number));
+        return Err(Failed { status: Status::TrayRefused, why });
+    }
+    let drawn = match to.rsplit('.').next() {
+        Some("html") => draw::page::page(&outcome.history, &file_name(file)),
+        Some("svg") => draw::svg_file(&outcome.history, width),
+        _ => return Err(Failed::usage(format!("expected a file that ends with .html or .svg, found `{to}`"))),
+    };
+    write(to, drawn.as_bytes())?;
+    Ok(if outcome.done.number == 0 { Status::Done } else { Status::TrayRefused })
+}
+
+/// The file's name without folders and ending.
+fn file_name(file: &str) -> String {
+    let stem = std::path::Path::new(file).file_stem();
+    stem.map_or(file.to_string(), |stem| stem.to_string_lossy().into_owned())
+}
+
+fn explore_verb(arguments: &Arguments) -> Ended {
+    let file = arguments.file()?;
+    let mut script = panes::parse(&arguments.text()?).map_err(|fault| Failed::text(file, &fault))?;
+    let mut bounds = Bounds::default();
+    if let Some(situations) = arguments.number("--situations")? {
+        bounds.situations = situations;
+    }
+    if let Some(memory) = arguments.number::<usize>("--memory")? {
+        bounds.memory = memory.saturating_mul(1 << 20);
+    }
+    if let Some(ticks) = arguments.number("--ticks")? {
+        script.ticks = ticks;
+    }
+    if let Some(claim) = arguments.number::<usize>("--claim")? {
+        let claims = script.claims.len();
+        let place = claim.checked_sub(1).filter(|&place| place < claims);
+        let place = place
+            .ok_or_else(|| Failed::usage(format!("{file}: expected a claim from 1 to {claims}, found {claim}")))?;
+        script.claims = vec![script.claims.swap_remove(place)];
+    }
+    let analysis = analyse(&script, bounds);
+    if let Some(to) = arguments.value("-o") {
+        write(to, draw::report::report(&script, &analysis, bounds).as_bytes())?;
+    }
+    print(report::words(&script, &analysis).as_bytes())?;
+    let steps = analysis.explored.store.edges.len();
+    let speed = steps as f64 / analysis.explored.elapsed.as_secs_f64();
+    let memory = report::peak_memory().map_or(String::new(), |memory| format!(", {memory} MB at most"));
+    eprintln!("{steps} steps in {:.2} s, {speed:.0} a second{memory}", analysis.explored.elapsed.as_secs_f64());
+    let failures = report::failures(&script, &analysis);
+    for (line, why) in &failures {
+        eprintln!("tray: {}", Fault::new(*line, why).in_file(file));
+    }
+    Ok(if failures.is_empty() { Status::Done } else { Status::NotAsExpected })
+}
+
+fn try_verb(arguments: &Arguments) -> Ended {
+    let frames = match arguments.files.is_empty() {
+        true => Vec::new(),
+        false => arguments.tray()?.0.frames().cloned().collect(),
+    };
+    let mut typed = Typed::new(frames);
+    let stdin = std::io::stdin();
+    let sign = if stdin.is_terminal() { "> " } else { "" };
+    if !arguments.files.is_empty() {
+        print(typed.last().as_bytes())?;
+    }
+    let talked = typed::talk(&mut typed, stdin.lock(), &mut std::io::stdout().lock(), sign);
+    talked.map_err(|error| Failed::io("standard input or output", error))?;
+    Ok(Status::Done)
+}
+
+fn assemble_verb(arguments: &Arguments) -> Ended {
+    let (_, tray) = arguments.tray()?;
+    print(&tray)?;
+    Ok(Status::Done)
+}
+
+fn show_verb(arguments: &Arguments) -> Ended {
+    print(bytes::show_tray(&arguments.bytes()?).as_bytes())?;
+    Ok(Status::Done)
+}
+
+fn overview() -> String {
+    let verbs = VERBS.iter().map(|verb| format!("  {:<10}{}\n", verb.name, verb.about));
+    format!(
+        "tray: histories of the shared space in words and drawings, and every interleaving of panes\n\n{}\n{}",
+        verbs.collect::<String>(),
+        include_str!("help/statuses.txt")
+    )
+}
+
+fn dispatch(words: &[String]) -> Ended {
+    let Some((first, rest)) = words.split_first() else {
+        return Err(Failed::usage(format!("expected a verb\n\n{}", overview())));
+    };
+    if matches!(first.as_str(), "--help" | "-h" | "help") {
+        print(overview().as_bytes())?;
+        return Ok(Status::Done);
+    }
+    let verb = VERBS.iter().find(|verb| verb.name == first);
+    let verb = verb.ok_or_else(|| Failed::usage(format!("expected a verb, found `{first}`\n\n{}", overview())))?;
+    if rest.iter().any(|word| word == "--help" || word == "-h") {
+        print(format!("{}\n\n{}", verb.usage, verb.help).as_bytes())?;
+        return Ok(Status::Done);
+    }
+    (verb.act)(&Arguments::parse(verb, rest)?)
+}
+
+fn main() -> ExitCode {
+    let words: Vec<String> = std::env::args().skip(1).collect();
+    match dispatch(&words) {
+        Ok(status) => ExitCode::from(status as u8),
+        Err(Failed { status, why }) => {
+            eprintln!("tray: {why}");
+            ExitCode::from(status as u8)
+        }
+    }
+}

@@ -1,0 +1,158 @@
+//! Records, refusals and tables in words.
+
+use crate::frame::{duration_text, end_text, named_fields, operation_of, plain_fields, template_text};
+use crate::history::History;
+use crate::oracle::{Matcher, Sought, Standing};
+use crate::record::{kind_of, refusal_meaning, Record, Tells, NOTHING, WAITING};
+use crate::words::{End, Entry, LookUp, Tables, Transaction};
+
+fn inside(record: &Record) -> String {
+    match record.transaction {
+        0 => String::new(),
+        transaction => format!(", in transaction {transaction}"),
+    }
+}
+
+/// "refused 7: the transaction is not live"
+pub fn refusal_words(number: u8) -> String {
+    match refusal_meaning(number) {
+        Some(meaning) => format!("refused {number}: {meaning}"),
+        None => format!("refused {number}"),
+    }
+}
+
+/// A record in words, without the party.
+pub fn record_deed(record: &Record, clock: u32) -> String {
+    let Some(kind) = kind_of(record.kind) else { return format!("record {}", record.line()) };
+    let Record { transaction, entry, fields, .. } = record;
+    let name = kind.name;
+    match kind.tells {
+        Tells::Entry => format!("{name} entry {entry}{}", inside(record)),
+        Tells::EntryAndFields => format!("{name} entry {entry}, {}{}", named_fields(fields), inside(record)),
+        Tells::Inside => format!("{name}{}", inside(record)),
+        Tells::Transaction => format!("{name} transaction {transaction}"),
+        Tells::Expired => format!("{name}: transaction {transaction} has expired"),
+        Tells::Clock => format!("{name}: the clock is {clock}"),
+        Tells::Refusal => refusal_words(record.refusal),
+    }
+}
+
+/// "party 3: found entry 1, kind 7, side 1, image 40, place 9, in transaction 2"
+pub fn record_words(record: &Record, clock: u32) -> String {
+    match record.party {
+        0 => record_deed(record, clock),
+        party => format!("party {party}: {}", record_deed(record, clock)),
+    }
+}
+
+fn ends(end: End) -> String {
+    match end {
+        End::At(clock) => format!("ends at clock {clock}"),
+        End::Never => "never ends".to_string(),
+    }
+}
+
+/// "transaction 2 of party 1"
+fn transaction_name(number: u32, tables: &Tables) -> String {
+    match tables.transaction(number) {
+        Some(transaction) => format!("transaction {number} of party {}", transaction.owner),
+        None => format!("transaction {number}"),
+    }
+}
+
+fn all_names(numbers: &[u32], tables: &Tables) -> String {
+    let names: Vec<String> = numbers.iter().map(|&number| transaction_name(number, tables)).collect();
+    names.join(" and ")
+}
+
+/// Who can see the entry: "committed", "private to ..", "taken by ..", "read by ..".
+pub fn holds_words(entry: &Entry, tables: &Tables) -> String {
+    let mut words = match entry.private_to {
+        0 => "committed".to_string(),
+        number => format!("private to {}", transaction_name(number, tables)),
+    };
+    if entry.taken_by != 0 {
+        words += &format!(", taken by {}", transaction_name(entry.taken_by, tables));
+    }
+    if !entry.read_by.is_empty() {
+        words += &format!(", read by {}", all_names(&entry.read_by, tables));
+    }
+    words
+}
+
+pub fn entry_words(entry: &Entry, tables: &Tables) -> String {
+    let Entry { number, fields, end, .. } = entry;
+    format!("entry {number}: {}, {}, {}", plain_fields(fields), holds_words(entry, tables), ends(*end))
+}
+
+pub fn transaction_words(transaction: &Transaction) -> String {
+    format!("transaction {} of party {}: {}", transaction.number, transaction.owner, ends(transaction.end))
+}
+
+pub fn look_up_words(look_up: &LookUp) -> String {
+    let operation = operation_of(look_up.operation).map_or("look-up", |operation| operation.name);
+    let template = template_text(&look_up.template);
+    let inside = match look_up.transaction {
+        0 => String::new(),
+        transaction => format!(" in transaction {transaction}"),
+    };
+    let until = match look_up.deadline {
+        End::At(clock) => format!("until clock {clock}"),
+        End::Never => duration_text(crate::words::FOREVER),
+    };
+    format!("party {} waits {until}: {operation} {template}{inside}", look_up.party)
+}
+
+pub fn standing_words(standing: &Standing, tables: &Tables) -> String {
+    match standing {
+        Standing::Available => "available".to_string(),
+        Standing::Private(number) => format!("private to {}", transaction_name(*number, tables)),
+        Standing::Taken(number) => format!("taken by {}", transaction_name(*number, tables)),
+        Standing::OwnTake(number) => format!("taken by its own transaction {number}"),
+        Standing::Read(numbers) => format!("read by {}", all_names(numbers, tables)),
+    }
+}
+
+/// Why a look-up has no answer: each matching entry and how it stands, or that none matches.
+pub fn why(sought: &Sought, tables: &Tables, matcher: &mut Matcher) -> Vec<String> {
+    let standings = sought.standings(tables, matcher);
+    if standings.is_empty() {
+        return vec!["no stored entry matches".to_string()];
+    }
+    let line = |(entry, standing): &(&Entry, Standing)| {
+        format!("entry {} ({}): {}", entry.number, plain_fields(&entry.fields), standing_words(standing, tables))
+    };
+    standings.iter().map(line).collect()
+}
+
+/// Why the record of a frame is nothing or waiting; no lines for any other.
+pub fn why_record(history: &History, place: usize, record: usize, matcher: &mut Matcher) -> Vec<String> {
+    let step = &history.steps[place];
+    match step.records[record].kind {
+        NOTHING | WAITING => {
+            let sought = history.sought(place, record);
+            sought.map(|sought| why(&sought, &step.after, matcher)).unwrap_or_default()
+        }
+        _ => Vec::new(),
+    }
+}
+
+/// The tables, a line for each row; under a waiting look-up, why it waits.
+pub fn state_lines(tables: &Tables, matcher: &mut Matcher) -> Vec<String> {
+    let mut lines: Vec<String> = tables.entries.iter().map(|entry| entry_words(entry, tables)).collect();
+    lines.extend(tables.transactions.iter().map(transaction_words));
+    for look_up in &tables.look_ups {
+        lines.push(look_up_words(look_up));
+        let reasons = Sought::of_look_up(look_up).map(|sought| why(&sought, tables, matcher));
+        lines.extend(reasons.unwrap_or_default().into_iter().map(|reason| format!("  {reason}")));
+    }
+    if lines.is_empty() {
+        lines.push("nothing stored, live or waiting".to_string());
+    }
+    lines
+}
+
+/// "lease to clock 5"
+pub fn lease_words(end: End) -> String {
+    format!("lease {}", end_text(end))
+}

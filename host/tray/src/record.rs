@@ -1,0 +1,153 @@
+//! Answer records, their kinds and the refusals, as tables: a new kind or number is a row.
+
+use crate::bytes::word;
+use crate::words::Fields;
+
+pub const RECORD_BYTES: usize = 28;
+/// A step writes at most 25 records.
+pub const STEP_BYTES: usize = 25 * RECORD_BYTES;
+
+pub const WRITTEN: u8 = 1;
+pub const FOUND: u8 = 2;
+pub const NOTHING: u8 = 3;
+pub const WAITING: u8 = 4;
+pub const CREATED: u8 = 5;
+pub const COMMITTED: u8 = 6;
+pub const ABORTED: u8 = 7;
+pub const EXCEPTION: u8 = 8;
+pub const TICKED: u8 = 9;
+pub const REFUSED: u8 = 15;
+
+/// What a record's words tell besides its name.
+#[derive(Clone, Copy, PartialEq, Eq, Debug)]
+pub enum Tells {
+    Entry,
+    EntryAndFields,
+    Inside,
+    Transaction,
+    Expired,
+    Clock,
+    Refusal,
+}
+
+/// A kind of record: its number, its name, what it tells.
+pub struct Kind {
+    pub number: u8,
+    pub name: &'static str,
+    pub tells: Tells,
+}
+
+const fn kind(number: u8, name: &'static str, tells: Tells) -> Kind {
+    Kind { number, name, tells }
+}
+
+pub const KINDS: [Kind; 10] = [
+    kind(WRITTEN, "written", Tells::Entry),
+    kind(FOUND, "found", Tells::EntryAndFields),
+    kind(NOTHING, "nothing", Tells::Inside),
+    kind(WAITING, "waiting", Tells::Inside),
+    kind(CREATED, "created", Tells::Transaction),
+    kind(COMMITTED, "committed", Tells::Transaction),
+    kind(ABORTED, "aborted", Tells::Transaction),
+    kind(EXCEPTION, "exception", Tells::Expired),
+    kind(TICKED, "ticked", Tells::Clock),
+    kind(REFUSED, "refused", Tells::Refusal),
+];
+
+pub fn kind_of(number: u8) -> Option<&'static Kind> {
+    KINDS.iter().find(|kind| kind.number == number)
+}
+
+pub fn kind_named(name: &str) -> Option<&'static Kind> {
+    KINDS.iter().find(|kind| kind.name == name)
+}
+
+/// A refusal: its number, a label for it (`T` stands for the transaction named), and document 01's words in short.
+struct Refusal {
+    number: u8,
+    label: &'static str,
+    meaning: &'static str,
+}
+
+const fn refusal(number: u8, label: &'static str, meaning: &'static str) -> Refusal {
+    Refusal { number, label, meaning }
+}
+
+const REFUSALS: [Refusal; 16] = [
+    refusal(1, "area too small", "the answers area has under 700 bytes"),
+    refusal(2, "no such operation", "the frame is empty or its operation is not 1-9"),
+    refusal(3, "wrong length", "the frame's length is not the operation's"),
+    refusal(
+        4,
+        "wrong form",
+        "the frame's form is wrong: byte 3, mask, a field outside the mask, or a create that names a transaction",
+    ),
+    refusal(5, "no such party", "the party is not 1-16, or not 0 for tick"),
+    refusal(6, "look-up still waits", "the party has a waiting look-up"),
+    refusal(7, "T is not live", "the transaction is not live"),
+    refusal(8, "T is another's", "the transaction is another party's"),
+    refusal(9, "lease 0", "create with lease 0"),
+    refusal(10, "beyond the last clock", "the lease, the timeout or the tick goes beyond the last clock"),
+    refusal(11, "64 entries stored", "64 entries are stored"),
+    refusal(12, "8 transactions live", "8 transactions are live"),
+    refusal(13, "numbers used up", "the numbers are used up"),
+    refusal(14, "16 look-ups wait", "16 look-ups wait already"),
+    refusal(
+        15,
+        "bad tray",
+        "the tray is under 4 or over 65,536 bytes, has over 2,000 frames, or is too short for its pairs",
+    ),
+    refusal(
+        16,
+        "bad pair",
+        "a pair begins before the pairs' end or before the previous pair's end, or runs past the tray",
+    ),
+];
+
+fn refusal_of(number: u8) -> Option<&'static Refusal> {
+    REFUSALS.iter().find(|refusal| refusal.number == number)
+}
+
+pub fn refusal_meaning(number: u8) -> Option<&'static str> {
+    refusal_of(number).map(|refusal| refusal.meaning)
+}
+
+/// "T3 is not live"
+pub fn refusal_label(number: u8, transaction: u32) -> String {
+    let label = refusal_of(number).map_or("", |refusal| refusal.label);
+    match label.strip_prefix("T ") {
+        Some(rest) => format!("T{transaction} {rest}"),
+        None => label.to_string(),
+    }
+}
+
+#[derive(Clone, Copy, PartialEq, Eq, Debug)]
+pub struct Record {
+    pub kind: u8,
+    pub party: u8,
+    pub refusal: u8,
+    pub transaction: u32,
+    pub entry: u32,
+    pub fields: Fields,
+}
+
+impl Record {
+    /// Of 28 bytes.
+    pub fn read(bytes: &[u8]) -> Record {
+        let word = |at| word(bytes, at).unwrap_or_default();
+        Record {
+            kind: bytes[0],
+            party: bytes[1],
+            refusal: bytes[2],
+            transaction: word(4),
+            entry: word(8),
+            fields: std::array::from_fn(|i| word(12 + 4 * i)),
+        }
+    }
+
+    /// As the program prints it.
+    pub fn line(&self) -> String {
+        let Record { kind, party, refusal, transaction, entry, fields: [f0, f1, f2, f3] } = self;
+        format!("{kind} {party} {refusal} {transaction} {entry} {f0} {f1} {f2} {f3}")
+    }
+}

@@ -1,0 +1,95 @@
+//! What the tests share: the program itself, and random histories.
+
+use std::io::Write;
+use std::path::{Path, PathBuf};
+use std::process::{Command, Stdio};
+
+pub struct Answer {
+    pub status: i32,
+    pub out: String,
+    pub err: String,
+}
+
+/// The program, with these arguments and this standard input.
+pub fn tray(arguments: &[&str], input: &str) -> Answer {
+    let mut program = Command::new(env!("CARGO_BIN_EXE_tray"));
+    let program = program.args(arguments).stdin(Stdio::piped()).stdout(Stdio::piped()).stderr(Stdio::piped());
+    let mut child = program.spawn().unwrap();
+    let mut stdin = child.stdin.take().unwrap();
+    let input = input.to_string();
+    let writer = std::thread::spawn(move || stdin.write_all(input.as_bytes()));
+    let output = child.wait_with_output().unwrap();
+    let _ = writer.join().unwrap();
+    Answer {
+        status: output.status.code().unwrap_or(-1),
+        out: String::from_utf8(output.stdout).unwrap(),
+        err: String::from_utf8(output.stderr).unwrap(),
+    }
+}
+
+/// The files of a folder of the repository with this ending, by name.
+pub fn files(folder: &str, ending: &str) -> Vec<PathBuf> {
+    let folder = Path::new("../..").join(folder);
+    let entries = std::fs::read_dir(&folder).unwrap_or_else(|error| panic!("{}: {error}", folder.display()));
+    let mut files: Vec<PathBuf> = entries.map(|entry| entry.unwrap().path()).collect();
+    files.retain(|file| file.to_string_lossy().ends_with(ending));
+    files.sort();
+    assert!(!files.is_empty(), "no {ending} in {}", folder.display());
+    files
+}
+
+/// A folder of its own for a test's files.
+pub fn scratch(name: &str) -> PathBuf {
+    let folder = Path::new(env!("CARGO_TARGET_TMPDIR")).join(name);
+    std::fs::create_dir_all(&folder).unwrap();
+    folder
+}
+
+/// Numbers that look random, the same for the same seed.
+pub struct Random(pub u64);
+
+impl Random {
+    pub fn below(&mut self, bound: u64) -> u64 {
+        self.0 = self.0.wrapping_mul(6364136223846793005).wrapping_add(1442695040888963407);
+        (self.0 >> 33) % bound
+    }
+
+    pub fn pick<'a>(&mut self, of: &[&'a str]) -> &'a str {
+        of[self.below(of.len() as u64) as usize]
+    }
+}
+
+/// A line of a history in which much happens: few kinds, short leases, and mostly the transactions' own parties.
+fn random_line(random: &mut Random, created: &mut Vec<u64>) -> String {
+    let mut party = 1 + random.below(6);
+    let mut inside = String::new();
+    if random.below(2) == 0 && !created.is_empty() {
+        let back = random.below(3.min(created.len() as u64)) as usize;
+        party = created[created.len() - 1 - back];
+        inside = format!(" in {}", created.len() - back);
+    }
+    let (kind, side) = (1 + random.below(2), random.below(3));
+    match random.below(14) {
+        0..=3 => {
+            let lease = random.pick(&["0", "1", "2", "3", "5", "forever", "forever"]);
+            format!("party {party} write {kind} {side} 4 9 lease {lease}{inside}")
+        }
+        4..=8 => {
+            let look_up = random.pick(&["read", "take", "readIfExists", "takeIfExists"]);
+            let timeout = random.pick(&["0", "0", "1", "2", "4", "forever"]);
+            let template = random.pick(&["any", "kind 1", "kind 2", "kind 1 side 1", "side 2"]);
+            format!("party {party} {look_up} {template} timeout {timeout}{inside}")
+        }
+        9..=10 => {
+            created.push(party);
+            format!("party {party} create lease {}", random.pick(&["1", "2", "4", "forever"]))
+        }
+        11 if !inside.is_empty() => format!("party {party} {}{}", random.pick(&["commit", "abort"]), &inside[3..]),
+        _ => "tick".to_string(),
+    }
+}
+
+pub fn random_text(seed: u64, frames: usize) -> String {
+    let (mut random, mut created) = (Random(seed), Vec::new());
+    (0..frames).map(|_| random_line(&mut random, &mut created) + "\n").collect()
+}

@@ -1,0 +1,9 @@
+//! The tool's own tests, in one program.
+
+mod common;
+mod draw;
+mod explore;
+mod layout;
+mod run;
+mod typed;
+mod xml;
