@@ -1,8 +1,8 @@
-/* Document 01's sample tray through the C boundary, byte by byte, and its printed lines to standard output;
- * null pointers; and what each function leaves in its buffers. */
+/* Document 01's sample tray through the C boundary, byte by byte, and its printed lines to standard output; null
+ * pointers; what each function leaves in its buffers; the headers' builders, names and layout of the words. */
 #include <stdlib.h>
-#include <string.h>
 #include "lines.h"
+#include "space_frames.h"
 
 static const uint8_t sample[] = {
     3, 0, 0, 0, 28, 0, 0, 0, 28, 0, 0, 0, 56, 0, 0, 0, 28, 0, 0, 0, 84, 0, 0, 0, 4, 0, 0, 0,
@@ -17,6 +17,10 @@ static const uint8_t wanted[] = {
     1, 1, 0, 0, 0, 0, 0, 0, 1, 0, 0, 0, 0, 0, 0, 0, 0, 0, 0, 0, 0,  0, 0, 0, 0, 0, 0, 0,
     2, 2, 0, 0, 0, 0, 0, 0, 1, 0, 0, 0, 7, 0, 0, 0, 1, 0, 0, 0, 40, 0, 0, 0, 9, 0, 0, 0,
     9, 0, 0, 0, 0, 0, 0, 0, 0, 0, 0, 0, 0, 0, 0, 0, 0, 0, 0, 0, 0,  0, 0, 0, 0, 0, 0, 0};
+
+static const uint32_t mark[4] = {7, 1, 40, 9};
+static uint32_t space[SPACE_WORDS];
+static uint8_t answers[65536], frame[SPACE_MAX_FRAME_BYTES];
 
 static void check(int holds, const char *what)
 {
@@ -34,31 +38,36 @@ static int all(const uint8_t *bytes, size_t count, uint8_t value)
     return 1;
 }
 
-int main(void)
+static void run_sample(void)
 {
-    static uint8_t answers[65536];
     memset(answers, 0xa5, sizeof answers);
     uint64_t returned = space_run_tray(sample, sizeof sample, answers, sizeof answers);
     check(returned == 3 + 65536 * 3, "the sample tray's returned number");
     check(memcmp(answers, wanted, sizeof wanted) == 0, "the sample tray's records");
     check(all(answers + sizeof wanted, sizeof answers - sizeof wanted, 0xa5), "bytes after the last record");
     print_lines(answers, returned);
+}
 
-    /* The same frames, one at a time, on a space of the host's own. */
-    static uint32_t space[SPACE_WORDS], before[SPACE_WORDS];
+/* The same frames, one at a time, on a space of the host's own. */
+static void step_sample(void)
+{
     memset(space, 0xff, sizeof space);
     space_empty(space);
     for (int i = 0; i < 3; i++) {
-        const uint8_t *pair = sample + 4 + 8 * i;
+        const uint8_t *pair = sample + SPACE_TRAY_COUNT_BYTES + SPACE_TRAY_PAIR_BYTES * i;
         memset(answers, 0xa5, SPACE_STEP_BYTES);
-        returned = space_step(space, sample + space_get_word(pair), space_get_word(pair + 4), answers,
-                              SPACE_STEP_BYTES);
+        uint64_t returned = space_step(space, sample + space_get_word(pair), space_get_word(pair + 4), answers,
+                                       SPACE_STEP_BYTES);
         check(space_step_records(returned) == 1 && space_step_number(returned) == 0, "a step's returned number");
-        check(memcmp(answers, wanted + 28 * i, 28) == 0, "a step's record");
-        check(all(answers + 28, SPACE_STEP_BYTES - 28, 0xa5), "bytes after a step's record");
+        check(memcmp(answers, wanted + SPACE_RECORD_BYTES * i, SPACE_RECORD_BYTES) == 0, "a step's record");
+        check(all(answers + SPACE_RECORD_BYTES, SPACE_STEP_BYTES - SPACE_RECORD_BYTES, 0xa5), "bytes after it");
     }
+}
 
-    /* Nulls of length 0, and a refused frame. */
+/* Nulls of length 0, and refused frames. */
+static void pass_nulls(void)
+{
+    static uint32_t before[SPACE_WORDS];
     check(space_run_tray(NULL, 0, NULL, 0) == 15 * UINT64_C(4294967296), "no tray");
     check(space_run_tray(sample, sizeof sample, NULL, 0) == 1 * UINT64_C(4294967296), "no area");
     memcpy(before, space, sizeof space);
@@ -67,5 +76,142 @@ int main(void)
     check(answers[0] == SPACE_RECORD_REFUSED, "an empty frame's record");
     check(answers[1] == 0 && answers[2] == SPACE_REFUSAL_BAD_OPERATION, "an empty frame's party and number");
     check(memcmp(before, space, sizeof space) == 0, "refused frames leave the space as it was");
+}
+
+static void build_frames(void)
+{
+    check(space_frame_write(frame, 1, mark, 5, 0) == 28 && memcmp(frame, sample + 28, 28) == 0, "a write's frame");
+    check(space_frame_look_up(frame, SPACE_OP_TAKE, 2, SPACE_MASK_KIND, mark, 0, 0) == 28 &&
+          memcmp(frame, sample + 56, 28) == 0, "a take's frame, with fields that are not asked for");
+    check(space_frame_tick(frame) == 4 && memcmp(frame, sample + 84, 4) == 0, "a tick's frame");
+    check(space_frame_create(frame, 3, 258) == 12 &&
+          memcmp(frame, (uint8_t[]){6, 3, 0, 0, 0, 0, 0, 0, 2, 1, 0, 0}, 12) == 0, "a create's frame");
+    check(space_frame_commit(frame, 3, 258) == 8 &&
+          memcmp(frame, (uint8_t[]){7, 3, 0, 0, 2, 1, 0, 0}, 8) == 0, "a commit's frame");
+    check(space_frame_abort(frame, 3, 258) == 8 &&
+          memcmp(frame, (uint8_t[]){8, 3, 0, 0, 2, 1, 0, 0}, 8) == 0, "an abort's frame");
+    space_empty(space);
+    for (int operation = 0; operation < 256; operation++) { /* a length that the space does not refuse with 2 or 3 */
+        size_t length = space_frame(frame, (uint8_t)operation, operation == SPACE_OP_TICK ? 0 : 1);
+        uint64_t returned = space_step(space, frame, length, answers, SPACE_STEP_BYTES);
+        int there_is = operation >= 1 && operation <= 9;
+        check(there_is ? length > 0 && space_step_number(returned) != 2 && space_step_number(returned) != 3
+                       : length == 0, "the lengths");
+        check((strcmp(space_operation_name((uint8_t)operation), "?") != 0) == there_is, "the operations' names");
+        check((strcmp(space_record_name((uint8_t)operation), "?") != 0) == (there_is || operation == 15), "the kinds'");
+        check((strcmp(space_refusal_meaning((uint32_t)operation), "?") != 0) == (operation >= 1 && operation <= 16),
+              "the refusals' meanings");
+    }
+}
+
+static struct space_record step(size_t length)
+{
+    space_step(space, frame, length, answers, SPACE_STEP_BYTES);
+    return space_record_at(answers, 0);
+}
+
+static int row_is(uint32_t begin, uint32_t words, uint32_t row, const uint32_t *expected)
+{
+    return memcmp(space + begin + words * row, expected, words * sizeof space[0]) == 0;
+}
+
+/* The words, read by the header's layout after frames that leave a mark in each column. */
+static void read_words(void)
+{
+    space_empty(space);
+    step(space_frame_tick(frame));
+    for (uint32_t lease = 5; lease <= 7; lease++)
+        step(space_frame_write(frame, 1, mark, lease, 0));                  /* entries 1 to 3, ends 6 to 8 */
+    step(space_frame_create(frame, 2, 9));                                  /* transaction 1, ends at 10 */
+    step(space_frame_create(frame, 3, SPACE_FOREVER));                      /* transaction 2 */
+    step(space_frame_write(frame, 3, mark, SPACE_FOREVER, 2));              /* entry 4, private to 2 */
+    uint32_t taken = step(space_frame_look_up(frame, SPACE_OP_TAKE, 2, 0, mark, 0, 1)).entry;
+    uint32_t read = step(space_frame_look_up(frame, SPACE_OP_READ, 3, 0, mark, 0, 2)).entry;
+    step(space_frame_look_up(frame, SPACE_OP_TAKE_IF_EXISTS, 4, SPACE_MASK_SIDE | SPACE_MASK_PLACE, mark, 3, 0));
+    check(answers[0] == SPACE_RECORD_FOUND, "one is neither taken nor read");
+    uint32_t gone = space_record_at(answers, 0).entry;
+    step(space_frame_look_up(frame, SPACE_OP_TAKE, 5, SPACE_MASK_SIDE, (uint32_t[4]){0, 2, 0, 0}, 3, 0));
+
+    check(space[SPACE_WORD_CLOCK] == 1 && space[SPACE_WORD_NEXT_ENTRY] == 5 && space[SPACE_WORD_NEXT_TRANSACTION] == 3,
+          "the clock and the next numbers");
+    check(space[SPACE_WORD_ENTRY_COUNT] == 3 && space[SPACE_WORD_TRANSACTION_COUNT] == 2 &&
+          space[SPACE_WORD_WAITING_COUNT] == 1, "the counts of rows");
+    check(row_is(SPACE_TRANSACTIONS_AT, SPACE_TRANSACTION_WORDS, 0, (uint32_t[]){1, 2, 10, 0}) &&
+          row_is(SPACE_TRANSACTIONS_AT, SPACE_TRANSACTION_WORDS, 1, (uint32_t[]){2, 3, SPACE_FOREVER, 1}),
+          "the transactions' rows");
+    check(row_is(SPACE_WAITING_AT, SPACE_WAITING_WORDS, 0,
+                 (uint32_t[]){5, SPACE_OP_TAKE, SPACE_MASK_SIDE, 0, 2, 0, 0, 0, 4}), "the waiting look-up's row");
+    for (uint32_t row = 0, number = 1; row < 3; row++, number++) {
+        number += number == gone;
+        const uint32_t end = number == 4 ? SPACE_FOREVER : 5 + number;
+        const uint32_t expected[] = {number, 7, 1, 40, 9, end, number == 4 ? 2 : 0, number == taken ? 1 : 0,
+                                     number == read && number != 4 ? 2 : 0};
+        check(row_is(SPACE_ENTRIES_AT, SPACE_ENTRY_WORDS, row, expected), "an entry's row");
+    }
+    check(SPACE_WORDS == 758, "the words of a space");
+}
+
+/* Words that frames did not make are read modulo 256 and 8, and up to the limits, as host/space.h tells. */
+static void step_on_odd_words(void)
+{
+    static uint32_t odd[SPACE_WORDS];
+    static uint8_t odd_answers[SPACE_STEP_BYTES];
+    space_empty(space);
+    for (int i = 0; i < SPACE_MAX_ENTRIES; i++)
+        step(space_frame_write(frame, 1, mark, SPACE_FOREVER, 0));
+    step(space_frame_create(frame, 2, SPACE_FOREVER));
+    step(space_frame_look_up(frame, SPACE_OP_READ, 2, 0, mark, 0, 1));
+    step(space_frame_look_up(frame, SPACE_OP_TAKE, 3, SPACE_MASK_SIDE, (uint32_t[4]){0, 2, 0, 0}, SPACE_FOREVER, 0));
+    memcpy(odd, space, sizeof odd);
+    odd[SPACE_WORD_ENTRY_COUNT] += 1000;
+    odd[SPACE_TRANSACTIONS_AT + SPACE_TRANSACTION_OWNER] += 256;
+    odd[SPACE_TRANSACTIONS_AT + SPACE_TRANSACTION_SLOT] += 8;
+    odd[SPACE_WAITING_AT + SPACE_WAITING_PARTY] += 256;
+    odd[SPACE_WAITING_AT + SPACE_WAITING_MASK] += 256;
+    for (uint32_t row = 0; row < SPACE_MAX_ENTRIES; row++)
+        odd[SPACE_ENTRIES_AT + SPACE_ENTRY_WORDS * row + SPACE_ENTRY_READERS] += 256;
+    for (int i = 0; i < 6; i++) {
+        size_t length = i == 0   ? space_frame_write(frame, 1, mark, 1, 0)         /* 11 */
+                        : i == 1 ? space_frame_write(frame, 3, mark, 1, 0)         /* 6 */
+                        : i == 2 ? space_frame_commit(frame, 1, 1)                 /* 8 */
+                        : i == 3 ? space_frame_look_up(frame, SPACE_OP_TAKE, 2, 0, mark, 0, 1)
+                        : i == 4 ? space_frame_commit(frame, 2, 1)
+                                 : space_frame_write(frame, 1, (uint32_t[4]){7, 2, 0, 0}, 1, 0); /* serves party 3 */
+        memset(answers, 0xa5, SPACE_STEP_BYTES);
+        memset(odd_answers, 0xa5, SPACE_STEP_BYTES);
+        uint64_t returned = space_step(space, frame, length, answers, SPACE_STEP_BYTES);
+        check(space_step(odd, frame, length, odd_answers, SPACE_STEP_BYTES) == returned, "odd words: returned");
+        check(memcmp(answers, odd_answers, sizeof odd_answers) == 0, "odd words: the answers");
+        check(returned == (i == 0 ? 1 + 65536 * 11 : i == 1 ? 1 + 65536 * 6 : i == 2 ? 1 + 65536 * 8 : i == 5 ? 2 : 1),
+              "odd words: what each frame gives");
+    }
+}
+
+/* Words of 0 are no empty space, as docs/MANUAL.md tells. */
+static void use_zeroed_words(void)
+{
+    memset(space, 0, sizeof space);
+    check(step(space_frame_write(frame, 1, mark, SPACE_FOREVER, 0)).entry == 0, "entry 0");
+    struct space_record created = step(space_frame_create(frame, 2, 1));
+    check(created.kind == SPACE_RECORD_CREATED && created.transaction == 0, "transaction 0");
+    check(step(space_frame_commit(frame, 2, 0)).refusal == SPACE_REFUSAL_NOT_LIVE, "it cannot be committed");
+    check(step(space_frame_abort(frame, 2, 0)).refusal == SPACE_REFUSAL_NOT_LIVE, "it cannot be aborted");
+    step(space_frame_write(frame, 2, mark, SPACE_FOREVER, 0));
+    check(step(space_frame_look_up(frame, SPACE_OP_READ, 3, 0, mark, 0, 0)).kind == SPACE_RECORD_FOUND, "not private");
+    check(space_step(space, frame, space_frame_tick(frame), answers, SPACE_STEP_BYTES) == 2, "its end");
+    check(answers[SPACE_RECORD_BYTES] == SPACE_RECORD_EXCEPTION, "its exception");
+    check(space[SPACE_WORD_ENTRY_COUNT] == 0, "every committed entry is removed");
+}
+
+int main(void)
+{
+    check(space_version() == SPACE_VERSION, "the archive's version");
+    run_sample();
+    step_sample();
+    pass_nulls();
+    build_frames();
+    read_words();
+    step_on_odd_words();
+    use_zeroed_words();
     return 0;
 }

@@ -1,10 +1,14 @@
+# shellcheck shell=bash
 # Sourced by the scripts beside it, at the repository's root: finds or builds what they use.
-#   archive  the proved library: SPACE_ARCHIVE, or what `rt staticlib tray` writes
+#   archive  the proved library: SPACE_ARCHIVE, or what `rt staticlib space` writes
 #   program  the proved program: SPACE_PROGRAM, or what `rt check viewer` writes
 #   out      where everything of the host is built
+#   built    where the Rust programs are then
 out=$PWD/target/host
 mkdir -p "$out"
 export CARGO_TARGET_DIR=$out/cargo
+# shellcheck disable=SC2034
+built=$CARGO_TARGET_DIR/release
 
 missing_or_old() { # FILE: it is not there, or older than something in crates/
     [ ! -f "$1" ] || [ -n "$(find crates crates.txt -newer "$1" -print -quit)" ]
@@ -19,8 +23,8 @@ rt_makes() { # FILE WORDS: has `rt WORDS` make the file, if need be
 }
 
 find_archive() {
-    archive=${SPACE_ARCHIVE:-target/staticlib/libtray.a}
-    [ -n "${SPACE_ARCHIVE:-}" ] || rt_makes "$archive" staticlib tray || return 1
+    archive=${SPACE_ARCHIVE:-target/staticlib/libspace.a}
+    [ -n "${SPACE_ARCHIVE:-}" ] || rt_makes "$archive" staticlib space || return 1
     [ -f "$archive" ] || { echo "there is no $archive"; return 1; }
     archive=$(realpath "$archive")
     export SPACE_ARCHIVE=$archive
@@ -32,12 +36,16 @@ find_program() {
     [ -x "$program" ] || { echo "there is no $program"; return 1; }
 }
 
-build_rust() {
-    cargo build --quiet --release --offline --manifest-path host/reference/Cargo.toml "$@"
+build_rust() { # FOLDER [FLAGS]: the programs of host/FOLDER, into $built
+    local folder=$1
+    shift
+    cargo build --quiet --release --offline --manifest-path "host/$folder/Cargo.toml" "$@"
 }
+
+strict=(-Wall -Wextra -Wpedantic -Wconversion -Werror)
 
 build_c() { # NAME [FLAGS]: target/host/NAME from host/NAME.c
     local name=$1
     shift
-    ${CC:-cc} -std=c99 -pedantic -O2 -g -Wall -Wextra -Werror "$@" -o "$out/$name" "host/$name.c" "$archive"
+    ${CC:-cc} -std=c99 "${strict[@]}" -O2 -g "$@" -o "$out/$name" "host/$name.c" "$archive"
 }

@@ -4,10 +4,11 @@ set -euo pipefail
 cd "$(dirname "$0")/.."
 . host/build.sh
 
-FRAMES=2000000        # compared with the reference
-FENCED_TRAYS=20000    # damaged trays with guard pages
-CHECKED_TRAYS=400     # damaged trays under valgrind or the address sanitizer
-RANDOM_TRAYS=60       # given to the program and to host/run_tray.c
+FRAMES=2000000         # of the space, compared with the reference
+TUNED_FRAMES=300000    # of the tuned peer
+FENCED_TRAYS=20000     # damaged trays with guard pages
+CHECKED_TRAYS=400      # damaged trays under valgrind or the address sanitizer
+RANDOM_TRAYS=60        # given to the program and to host/run_tray.c
 
 fail() {
     echo "FAILED: $*"
@@ -15,87 +16,179 @@ fail() {
 }
 
 same() { # WHAT WANTED GOT
-    cmp -s "$2" "$3" || { diff "$2" "$3" | head -n 10; fail "$1"; }
+    cmp -s "$2" "$3" && return
+    diff "$2" "$3" | head -n 10 || true
+    fail "$1"
+}
+
+has() {
+    command -v "$1" > /dev/null
 }
 
 run() { # BY: a tray from standard input, by the library, the program or the reference
     case $1 in
         library) "$out/run_tray" ;;
         program) "$program" ;;
-        reference) "$tray" run ;;
+        reference) "$built/test_trays" reference ;;
     esac
 }
 
-find_archive || fail "no archive"
-find_program || fail "no program"
-build_rust
-cargo test --quiet --offline --lib --manifest-path host/reference/Cargo.toml > "$out/test.log" 2>&1 ||
-    { tail -n 30 "$out/test.log"; fail "the reference's own tests"; }
-for name in example run_tray boundary_test damaged; do
-    build_c "$name"
-done
-tray=$out/cargo/release/tray
-echo "ok: built"
+check_builds() {
+    find_archive || fail "no archive"
+    find_program || fail "no program"
+    build_rust tray || fail "host/tray"
+    build_rust harness || fail "host/harness"
+    cargo test --quiet --offline --manifest-path host/harness/Cargo.toml > "$out/test.log" 2>&1 ||
+        { tail -n 30 "$out/test.log"; fail "the harness's own tests"; }
+    for name in example panes run_tray boundary_test damaged; do
+        build_c "$name" || fail "host/$name.c"
+    done
+    ! has clang || clang -std=c99 -fsyntax-only "${strict[@]}" host/*.c || fail "clang on host/*.c"
+    ! has g++ || g++ -x c++ -fsyntax-only "${strict[@]}" host/space_frames.h || fail "g++ on the headers"
+    echo "ok: built, and the harness finds wrong spaces"
+}
 
-"$out/example" > "$out/example.out" || fail "host/example.c"
-same "host/example.c's output" host/example.expected "$out/example.out"
-"$out/boundary_test" > "$out/boundary_test.out" || fail "host/boundary_test.c"
-same "the sample tray's records, read in C" examples/sample.expected "$out/boundary_test.out"
-echo "ok: example host, C boundary"
+check_hosts() {
+    local name
+    for name in example panes; do
+        "$out/$name" > "$out/$name.out" || fail "host/$name.c"
+        same "host/$name.c's output" "host/$name.expected" "$out/$name.out"
+    done
+    "$out/boundary_test" > "$out/boundary_test.out" || fail "host/boundary_test.c"
+    same "the sample tray's records, read in C" examples/sample.expected "$out/boundary_test.out"
+    echo "ok: example hosts, C boundary"
+}
+
+# The example hosts from an installed archive, with nothing of host/ but their own files.
+check_installed() {
+    local name to=$out/installed
+    local where=("-I$to/include" "-L$to/lib" -lspace)
+    rm -rf "$to"
+    PREFIX=$to host/install.sh > "$out/install.log" || fail "host/install.sh"
+    mkdir "$to/own"
+    cp host/example.c host/panes.c host/print_record.h "$to/own"
+    if has pkg-config; then
+        read -ra where < <(PKG_CONFIG_PATH=$to/lib/pkgconfig pkg-config --cflags --libs space) || fail "space.pc"
+    fi
+    for name in example panes; do
+        ${CC:-cc} -std=c99 -o "$to/own/$name" "$to/own/$name.c" "${where[@]}" || fail "$name.c, installed"
+        "$to/own/$name" > "$to/own/$name.out" || fail "$name.c, installed"
+        same "$name.c, installed" "host/$name.expected" "$to/own/$name.out"
+    done
+    echo "ok: installed, and the example hosts built from there"
+}
 
 # Every example by the library, by the program and by the reference.
-mkdir -p "$out/examples"
-examples=0
-for text in examples/*.txt; do
-    name=$(basename "$text" .txt)
-    "$tray" assemble < "$text" > "$out/examples/$name.tray" || fail "$text"
-    for by in library program reference; do
-        run $by < "$out/examples/$name.tray" > "$out/examples/$name.out" || fail "$text by the $by"
-        if [ -f "examples/$name.expected-end" ]; then # the last lines only
-            tail -n "$(wc -l < "examples/$name.expected-end")" "$out/examples/$name.out" > "$out/examples/$name.end"
-            same "$text by the $by" "examples/$name.expected-end" "$out/examples/$name.end"
-        else
-            same "$text by the $by" "examples/$name.expected" "$out/examples/$name.out"
-        fi
+check_examples() {
+    local text name by examples=0 to=$out/examples
+    mkdir -p "$to"
+    for text in examples/*.txt; do
+        name=$(basename "$text" .txt)
+        "$built/tray" assemble "$text" > "$to/$name.tray" || fail "$text"
+        for by in library program reference; do
+            run $by < "$to/$name.tray" > "$to/$name.out" || fail "$text by the $by"
+            if [ -f "examples/$name.expected-end" ]; then # the last lines only
+                tail -n "$(wc -l < "examples/$name.expected-end")" "$to/$name.out" > "$to/$name.end"
+                same "$text by the $by" "examples/$name.expected-end" "$to/$name.end"
+            else
+                same "$text by the $by" "examples/$name.expected" "$to/$name.out"
+            fi
+        done
+        examples=$((examples + 1))
     done
-    examples=$((examples + 1))
-done
-echo "ok: $examples example trays"
+    echo "ok: $examples example trays"
+}
+
+# The programs' own trays are what their texts stand for.
+check_texts() {
+    local text texts=0
+    for text in crates/viewer*/tray.txt; do
+        "$built/tray" assemble "$text" > "$out/text.tray" || fail "$text"
+        cmp "$(dirname "$text")/stdin" "$out/text.tray" || fail "$text and its stdin"
+        texts=$((texts + 1))
+    done
+    echo "ok: the trays of $texts programs"
+}
 
 # What the manual quotes from examples/ is what stands there: blocks whose first line names the file.
-rm -rf "$out/manual"
-mkdir -p "$out/manual/examples"
-awk -v to="$out/manual/" '/^```/ { file = file == "" && /^```examples\// ? to substr($0, 4) : ""; next }
-                          file != "" { print > file }' docs/MANUAL.md
-quotes=0
-for quote in "$out"/manual/examples/*; do
-    same "the manual's $(basename "$quote")" "examples/$(basename "$quote")" "$quote"
-    quotes=$((quotes + 1))
-done
-echo "ok: $quotes quotations in the manual"
-
-for seed in $(seq "$RANDOM_TRAYS"); do
-    "$tray" random "$seed" > "$out/random.tray"
-    for by in library program; do
-        run $by < "$out/random.tray" > "$out/random.$by" || fail "tray random $seed by the $by"
+check_manual() {
+    local quote quotes=0
+    rm -rf "$out/manual"
+    mkdir -p "$out/manual/examples"
+    awk -v to="$out/manual/" '/^```/ { file = file == "" && /^```examples\// ? to substr($0, 4) : ""; next }
+                              file != "" { print > file }' docs/MANUAL.md
+    for quote in "$out"/manual/examples/*; do
+        same "the manual's $(basename "$quote")" "examples/$(basename "$quote")" "$quote"
+        quotes=$((quotes + 1))
     done
-    same "tray random $seed by the program" "$out/random.library" "$out/random.program"
-done
-echo "ok: $RANDOM_TRAYS random trays, damaged ones too, by the program"
+    echo "ok: $quotes quotations in the manual"
+}
 
-"$out/damaged" "$FENCED_TRAYS" 1 fence > "$out/fenced.out" || fail "damaged trays with guard pages"
-if command -v valgrind > /dev/null; then
-    valgrind -q --error-exitcode=9 "$out/damaged" "$CHECKED_TRAYS" 2 > "$out/checked.out" || fail "valgrind"
-    checker=valgrind
-else
-    build_c damaged -fsanitize=address
-    "$out/damaged" "$CHECKED_TRAYS" 2 > "$out/checked.out" || fail "address sanitizer"
-    checker="address sanitizer"
-fi
-echo "ok: damaged trays, guard pages: $(cat "$out/fenced.out")"
-echo "ok: damaged trays, $checker: $(cat "$out/checked.out")"
+says() { # WHAT: on standard error, in one line
+    [ "$(cat "$out/program.error")" = "viewer: $1" ] || fail "the program does not say: $1"
+}
 
-"$out/cargo/release/differ" "$FRAMES" 2> "$out/differ.progress" > "$out/differ.out" ||
-    { cat "$out/differ.out"; fail "the space and the reference differ, or too little occurred"; }
-cat "$out/differ.out"
+# The program has no exit status: it says on standard error what it could not read or write.
+check_program() {
+    local tray=crates/viewer/stdin
+    "$program" < "$tray" > "$out/program.out" 2> "$out/program.error"
+    [ ! -s "$out/program.error" ] || fail "the program speaks on standard error"
+    "$program" < host > "$out/program.out" 2> "$out/program.error" # a folder
+    says "cannot read standard input"
+    [ ! -s "$out/program.out" ] || fail "the program answers what it could not read"
+    "$program" <&- > "$out/program.out" 2> "$out/program.error"
+    says "cannot read standard input"
+    [ ! -s "$out/program.out" ] || fail "the program answers what it could not read"
+    "$program" < "$tray" >&- 2> "$out/program.error"
+    says "cannot write all of standard output"
+    "$program" < "$tray" > /dev/full 2> "$out/program.error"
+    says "cannot write all of standard output"
+    echo "ok: the program says what it cannot read or write"
+}
+
+check_random_trays() {
+    local seed by
+    for seed in $(seq "$RANDOM_TRAYS"); do
+        "$built/test_trays" random "$seed" > "$out/random.tray"
+        for by in library program; do
+            run $by < "$out/random.tray" > "$out/random.$by" || fail "random tray $seed by the $by"
+        done
+        same "random tray $seed by the program" "$out/random.library" "$out/random.program"
+    done
+    echo "ok: $RANDOM_TRAYS random trays, damaged ones too, by the program"
+}
+
+check_damaged() {
+    local checker=valgrind
+    "$out/damaged" "$FENCED_TRAYS" 1 fence > "$out/fenced.out" || fail "damaged trays with guard pages"
+    if has valgrind; then
+        valgrind -q --error-exitcode=9 "$out/damaged" "$CHECKED_TRAYS" 2 > "$out/checked.out" || fail "valgrind"
+    else
+        checker="address sanitizer"
+        build_c damaged -fsanitize=address
+        "$out/damaged" "$CHECKED_TRAYS" 2 > "$out/checked.out" || fail "address sanitizer"
+    fi
+    echo "ok: damaged trays, guard pages: $(cat "$out/fenced.out")"
+    echo "ok: damaged trays, $checker: $(cat "$out/checked.out")"
+}
+
+# A discrepancy is a text that can be run: it is left in target/host/differ-NAME.txt.
+check_differ() { # NAME FRAMES
+    local report=$out/differ-$1.txt
+    "$built/differ" "$2" 1 "$1" 2> "$out/differ.progress" > "$report" ||
+        { head -n 60 "$report"; fail "the $1 and the reference differ, or too little occurred: $report"; }
+    echo "ok: the $1, $(tail -n 2 "$report" | head -n 1)"
+}
+
+check_builds
+check_hosts
+check_installed
+check_examples
+check_texts
+check_manual
+check_program
+check_random_trays
+check_damaged
+check_differ space "$FRAMES"
+check_differ tuned "$TUNED_FRAMES"
 echo "host/check.sh: all passed"

@@ -4,9 +4,8 @@
 #define _DEFAULT_SOURCE
 #include <stdio.h>
 #include <stdlib.h>
-#include <string.h>
 #include <sys/mman.h>
-#include "space.h"
+#include "space_frames.h"
 
 enum { PAGE = 4096, ROOM = 20 * PAGE, MOST_FRAMES = 120 };
 
@@ -51,28 +50,28 @@ static void release(uint8_t *memory)
 /* A frame of any operation, its fields but the kind 0. */
 static size_t put_frame(uint8_t *frame, int operation, int party, uint32_t transaction, uint32_t duration)
 {
-    static const size_t lengths[] = {0, 28, 28, 28, 28, 28, 12, 8, 8, 4};
     int is_look_up = operation >= SPACE_OP_READ && operation <= SPACE_OP_TAKE_IF_EXISTS;
-    uint8_t whole[28] = {(uint8_t)operation, (uint8_t)party, is_look_up ? SPACE_MASK_KIND : 0, 0};
+    uint8_t whole[SPACE_MAX_FRAME_BYTES] = {(uint8_t)operation, (uint8_t)party, is_look_up ? SPACE_MASK_KIND : 0, 0};
+    size_t length = space_frame_bytes((uint8_t)operation);
     space_put_word(whole + SPACE_FRAME_AT_TRANSACTION, transaction);
     space_put_word(whole + SPACE_FRAME_AT_DURATION, duration);
     space_put_word(whole + SPACE_FRAME_AT_FIELDS, 1);
-    memcpy(frame, whole, lengths[operation]);
-    return lengths[operation];
+    memcpy(frame, whole, length);
+    return length;
 }
 
 /* A random frame, garbled in some cases. */
-static size_t make_frame(uint8_t frame[28])
+static size_t make_frame(uint8_t frame[SPACE_MAX_FRAME_BYTES])
 {
     int operation = 1 + (int)below(9);
     int party = operation == SPACE_OP_TICK ? 0 : 1 + (int)below(5);
     uint32_t transaction = operation == SPACE_OP_CREATE || below(2) ? 0 : below(9);
-    memset(frame, 0, 28);
+    memset(frame, 0, SPACE_MAX_FRAME_BYTES);
     size_t length = put_frame(frame, operation, party, transaction, below(9) ? below(6) : odd_number());
     if (!below(12))
-        frame[below(28)] = (uint8_t)below(256);
+        frame[below(SPACE_MAX_FRAME_BYTES)] = (uint8_t)below(256);
     if (!below(12))
-        length = below(29);
+        length = below(SPACE_MAX_FRAME_BYTES + 1);
     return length;
 }
 
@@ -82,7 +81,7 @@ static size_t make_tray(uint8_t *tray)
     size_t end = 4 + 8 * (size_t)frames;
     space_put_word(tray, frames);
     for (uint32_t i = 0; i < frames; i++) {
-        uint8_t frame[28];
+        uint8_t frame[SPACE_MAX_FRAME_BYTES];
         size_t length = make_frame(frame);
         space_put_word(tray + 4 + 8 * i, (uint32_t)end);
         space_put_word(tray + 8 + 8 * i, (uint32_t)length);
@@ -159,7 +158,7 @@ static void run_one_tray(void)
 static void run_longest_step(void)
 {
     static uint32_t fresh[SPACE_WORDS];
-    uint8_t frame[28];
+    uint8_t frame[SPACE_MAX_FRAME_BYTES];
     uint64_t returned = 0;
     space_empty(fresh);
     for (int i = 0; i < 57; i++) {
@@ -173,7 +172,7 @@ static void run_longest_step(void)
         read_records(answers, space_step_records(returned));
         release(answers);
     }
-    if (returned != 25)
+    if (returned != SPACE_MAX_STEP_RECORDS)
         fail("the longest step", returned);
 }
 
@@ -185,13 +184,14 @@ static void run_steps(void)
         for (int i = 0; i < SPACE_WORDS; i++)
             space[i] = below(2) ? below(20) : odd_number();
     for (int i = 0; i < 100; i++) {
-        uint8_t made[28];
+        uint8_t made[SPACE_MAX_FRAME_BYTES];
         size_t frame_len = make_frame(made);
         size_t answers_len = below(5) ? SPACE_STEP_BYTES : below(SPACE_STEP_BYTES + 60);
         uint8_t *frame = buffer(1, frame_len), *answers = buffer(2, answers_len);
         memcpy(frame, made, frame_len);
         uint64_t returned = space_step(space, frame, frame_len, answers, answers_len);
-        if (space_step_records(returned) > 25 || space_step_number(returned) > SPACE_REFUSAL_WAITING_FULL)
+        if (space_step_records(returned) > SPACE_MAX_STEP_RECORDS ||
+            space_step_number(returned) > SPACE_REFUSAL_WAITING_FULL)
             fail("a step", returned);
         read_records(answers, space_step_records(returned));
         release(frame);

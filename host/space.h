@@ -1,4 +1,5 @@
-/* The shared space, for hosts in C. Link with target/staticlib/libtray.a (x86-64).
+/* The shared space, for hosts in C (x86-64). Link with libspace.a, which `rt staticlib space` writes to
+ * target/staticlib. space_frames.h, beside this file, builds frames, reads records and has names for people.
  *
  * All numbers in frames, records and trays are little-endian and unsigned. No function keeps a pointer, allocates,
  * or uses memory besides its buffers and the stack. The buffers of a call must not overlap. A pointer may be null
@@ -13,15 +14,18 @@
 extern "C" {
 #endif
 
-#define SPACE_WORDS 758              /* words of a space */
-#define SPACE_RECORD_BYTES 28        /* bytes of a record */
-#define SPACE_STEP_BYTES 700         /* room that a frame needs in the answers area: 25 records */
-#define SPACE_MAX_TRAY_BYTES 65536   /* bytes of a tray at most */
-#define SPACE_MAX_TRAY_FRAMES 2000   /* frames of a tray at most */
+/* Raised with each change of what a host sees: functions, frames, records, numbers, limits, the layout of the words. */
+#define SPACE_VERSION 1
+
 #define SPACE_MAX_ENTRIES 64         /* entries stored at most */
 #define SPACE_MAX_TRANSACTIONS 8     /* transactions live at most */
 #define SPACE_MAX_WAITING 16         /* look-ups waiting at most */
 #define SPACE_MAX_PARTY 16           /* parties are 1 to 16 */
+#define SPACE_MAX_STEP_RECORDS 25    /* records of a step at most */
+#define SPACE_MAX_TRAY_BYTES 65536   /* bytes of a tray at most */
+#define SPACE_MAX_TRAY_FRAMES 2000   /* frames of a tray at most */
+#define SPACE_RECORD_BYTES 28        /* bytes of a record */
+#define SPACE_STEP_BYTES (SPACE_MAX_STEP_RECORDS * SPACE_RECORD_BYTES) /* room that a frame needs for its answers */
 #define SPACE_FOREVER 4294967295u
 
 /* Frame: byte 0 operation, 1 party (0 for tick), 2 mask, 3 zero, then words at these offsets. */
@@ -29,17 +33,30 @@ extern "C" {
 #define SPACE_FRAME_AT_DURATION 8    /* lease or timeout */
 #define SPACE_FRAME_AT_FIELDS 12     /* kind, side, image, place */
 
-enum space_operation {               /* and the frame's length */
-    SPACE_OP_WRITE = 1,              /* 28 */
-    SPACE_OP_READ = 2,               /* 28 */
-    SPACE_OP_TAKE = 3,               /* 28 */
-    SPACE_OP_READ_IF_EXISTS = 4,     /* 28 */
-    SPACE_OP_TAKE_IF_EXISTS = 5,     /* 28 */
-    SPACE_OP_CREATE = 6,             /* 12 */
-    SPACE_OP_COMMIT = 7,             /* 8 */
-    SPACE_OP_ABORT = 8,              /* 8 */
-    SPACE_OP_TICK = 9                /* 4 */
+enum space_operation {
+    SPACE_OP_WRITE = 1,
+    SPACE_OP_READ = 2,
+    SPACE_OP_TAKE = 3,
+    SPACE_OP_READ_IF_EXISTS = 4,
+    SPACE_OP_TAKE_IF_EXISTS = 5,
+    SPACE_OP_CREATE = 6,
+    SPACE_OP_COMMIT = 7,
+    SPACE_OP_ABORT = 8,
+    SPACE_OP_TICK = 9
 };
+
+/* Lengths of frames. */
+#define SPACE_WRITE_BYTES 28
+#define SPACE_LOOK_UP_BYTES 28       /* read, take, readIfExists, takeIfExists */
+#define SPACE_CREATE_BYTES 12
+#define SPACE_COMMIT_BYTES 8
+#define SPACE_ABORT_BYTES 8
+#define SPACE_TICK_BYTES 4
+#define SPACE_MAX_FRAME_BYTES 28
+
+/* Tray: a count of frames, a pair of offset and length for each, the frames. */
+#define SPACE_TRAY_COUNT_BYTES 4
+#define SPACE_TRAY_PAIR_BYTES 8
 
 /* Mask bits of a template. */
 #define SPACE_MASK_KIND 1
@@ -85,16 +102,63 @@ enum space_refusal {
     SPACE_REFUSAL_BAD_PAIR = 16
 };
 
+/* The words of a space, to be read only: the clock, the next numbers, the rows in use of each table, then the tables.
+ * A table's rows in use come first; what stands in its other rows means nothing. An end or a deadline is a clock, or
+ * SPACE_FOREVER for none. */
+#define SPACE_WORD_CLOCK 0
+#define SPACE_WORD_NEXT_ENTRY 1
+#define SPACE_WORD_NEXT_TRANSACTION 2
+#define SPACE_WORD_ENTRY_COUNT 3
+#define SPACE_WORD_TRANSACTION_COUNT 4
+#define SPACE_WORD_WAITING_COUNT 5
+
+/* Stored entries, by number. */
+#define SPACE_ENTRIES_AT 6
+#define SPACE_ENTRY_NUMBER 0
+#define SPACE_ENTRY_FIELDS 1         /* kind, side, image, place */
+#define SPACE_ENTRY_END 5
+#define SPACE_ENTRY_PRIVATE_TO 6     /* transaction; 0: committed */
+#define SPACE_ENTRY_TAKEN_BY 7       /* transaction with a take hold; 0: none */
+#define SPACE_ENTRY_READERS 8        /* bit s: the transaction in slot s has a read hold */
+#define SPACE_ENTRY_WORDS 9
+
+/* Live transactions, by number. */
+#define SPACE_TRANSACTIONS_AT (SPACE_ENTRIES_AT + SPACE_ENTRY_WORDS * SPACE_MAX_ENTRIES)
+#define SPACE_TRANSACTION_NUMBER 0
+#define SPACE_TRANSACTION_OWNER 1    /* party */
+#define SPACE_TRANSACTION_END 2
+#define SPACE_TRANSACTION_SLOT 3     /* 0 to 7 */
+#define SPACE_TRANSACTION_WORDS 4
+
+/* Waiting look-ups, by arrival. */
+#define SPACE_WAITING_AT (SPACE_TRANSACTIONS_AT + SPACE_TRANSACTION_WORDS * SPACE_MAX_TRANSACTIONS)
+#define SPACE_WAITING_PARTY 0
+#define SPACE_WAITING_OPERATION 1
+#define SPACE_WAITING_MASK 2
+#define SPACE_WAITING_FIELDS 3       /* kind, side, image, place */
+#define SPACE_WAITING_TRANSACTION 7  /* 0: none */
+#define SPACE_WAITING_DEADLINE 8
+#define SPACE_WAITING_WORDS 9
+
+#define SPACE_WORDS (SPACE_WAITING_AT + SPACE_WAITING_WORDS * SPACE_MAX_WAITING)
+
+/* SPACE_VERSION as the archive has it. A host calls it once: if the two differ, header and archive do not belong
+ * together. */
+uint32_t space_version(void);
+
 /* Makes `space` the empty space: clock 0, nothing stored, live or waiting, 1 as both next numbers.
- * What the words held before does not matter. */
+ * What the words held before does not matter. Words of 0 are no empty space: their next numbers are 0. */
 void space_empty(uint32_t space[SPACE_WORDS]);
 
 /* Carries out one frame on a space that space_empty and space_step alone have written.
  * Returns records + 65536 * number: the records written to `answers`, one behind the other from its beginning, and
  * the refusal's number or 0. A refused frame leaves every word of `space` as it was; it writes one record, or none
  * for number 1 (answers_len under 700). Bytes of `answers` after the last record keep their contents. `frame` is only
- * read. On words made in any other way the frame does the same to the tables that they are read as; but what is
- * promised over histories of frames is not promised of those. */
+ * read.
+ * On words made in any other way all of this holds too, with the answers that the rules give for the tables which
+ * those words are read as: counts above the limits are read as the limits, a party, a mask and readers modulo 256, a
+ * slot modulo 8. What does not hold there is what follows from a history of frames: that no number is given out
+ * twice, that no look-up waits while an entry is available to it, and the like. */
 uint64_t space_step(uint32_t space[SPACE_WORDS], const uint8_t *frame, size_t frame_len,
                     uint8_t *answers, size_t answers_len);
 

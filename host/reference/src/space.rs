@@ -158,13 +158,7 @@ impl Space {
                 self.check_party(party)?;
                 self.check_transaction(party, transaction)?;
                 self.check_duration(lease)?;
-                if lease != 0 && self.entries.len() >= MOST_ENTRIES {
-                    return Err(Refusal::EntriesFull);
-                }
-                if self.next_entry == FOREVER {
-                    return Err(Refusal::NumbersUsedUp);
-                }
-                self.write(party, transaction, lease, fields, answers, choice);
+                self.write(party, transaction, lease, fields, answers, choice)?;
             }
             Request::LookUp { party, transaction, timeout, kind, template } => {
                 self.check_party(party)?;
@@ -176,17 +170,7 @@ impl Space {
             }
             Request::Create { party, lease } => {
                 self.check_party(party)?;
-                if lease == 0 {
-                    return Err(Refusal::CreateWithoutLease);
-                }
-                self.check_duration(lease)?;
-                if self.transactions.len() >= MOST_TRANSACTIONS {
-                    return Err(Refusal::TransactionsFull);
-                }
-                if self.next_transaction == FOREVER {
-                    return Err(Refusal::NumbersUsedUp);
-                }
-                self.create(party, lease, answers);
+                self.create(party, lease, answers)?;
             }
             Request::Commit { party, transaction } => {
                 self.check_party(party)?;
@@ -202,12 +186,7 @@ impl Space {
                 self.abort(transaction);
                 self.serve(answers, choice);
             }
-            Request::Tick => {
-                if self.clock >= LAST_CLOCK {
-                    return Err(Refusal::TooLate);
-                }
-                self.tick(answers, choice);
-            }
+            Request::Tick => self.tick(answers, choice)?,
         }
         Ok(())
     }
@@ -253,7 +232,13 @@ impl Space {
         fields: Fields,
         answers: &mut Answers,
         choice: impl Choice,
-    ) {
+    ) -> Result<(), Refusal> {
+        if lease != 0 && self.entries.len() >= MOST_ENTRIES {
+            return Err(Refusal::EntriesFull);
+        }
+        if self.next_entry == FOREVER {
+            return Err(Refusal::NumbersUsedUp);
+        }
         let number = self.next_entry;
         self.next_entry += 1;
         if lease != 0 {
@@ -265,6 +250,7 @@ impl Space {
         if transaction == NONE {
             self.serve(answers, choice);
         }
+        Ok(())
     }
 
     fn look_up(
@@ -319,11 +305,22 @@ impl Space {
         }
     }
 
-    fn create(&mut self, party: u8, lease: u32, answers: &mut Answers) {
+    fn create(&mut self, party: u8, lease: u32, answers: &mut Answers) -> Result<(), Refusal> {
+        if lease == 0 {
+            return Err(Refusal::CreateWithoutLease);
+        }
+        self.check_duration(lease)?;
+        if self.transactions.len() >= MOST_TRANSACTIONS {
+            return Err(Refusal::TransactionsFull);
+        }
+        if self.next_transaction == FOREVER {
+            return Err(Refusal::NumbersUsedUp);
+        }
         let number = self.next_transaction;
         self.next_transaction += 1;
         self.transactions.push(Transaction { number, owner: party, end: End::after(self.clock, lease) });
         answers.put(Record::new(Kind::Created, party, number));
+        Ok(())
     }
 
     fn commit(&mut self, transaction: u32) {
@@ -362,7 +359,10 @@ impl Space {
         }
     }
 
-    fn tick(&mut self, answers: &mut Answers, choice: impl Choice) {
+    fn tick(&mut self, answers: &mut Answers, choice: impl Choice) -> Result<(), Refusal> {
+        if self.clock >= LAST_CLOCK {
+            return Err(Refusal::TooLate);
+        }
         self.clock += 1;
         let clock = self.clock;
         answers.put(Record::new(Kind::Ticked, 0, NONE));
@@ -381,5 +381,6 @@ impl Space {
             }
             !over
         });
+        Ok(())
     }
 }

@@ -48,14 +48,6 @@ impl Done {
     pub fn packed(&self) -> u64 {
         self.frames as u64 + 65536 * self.records as u64 + 4294967296 * u64::from(self.number)
     }
-
-    pub fn unpacked(packed: u64) -> Done {
-        Done {
-            frames: (packed % 65536) as usize,
-            records: (packed / 65536 % 65536) as usize,
-            number: (packed / 4294967296) as u8,
-        }
-    }
 }
 
 /// Runs a tray from an empty space. `choice` is told the place of a record in the whole run, and `after` is
@@ -87,17 +79,4 @@ pub fn run_watched(
 
 pub fn run(tray: &[u8], area: &mut [u8], choice: impl Fn(usize) -> Option<u32>) -> Done {
     run_watched(tray, area, choice, |_, _, _| {})
-}
-
-/// A tray with these frames, one behind the other.
-pub fn build(frames: &[Vec<u8>]) -> Vec<u8> {
-    let mut tray = (frames.len() as u32).to_le_bytes().to_vec();
-    let mut offset = 4 + 8 * frames.len();
-    for frame in frames {
-        tray.extend((offset as u32).to_le_bytes());
-        tray.extend((frame.len() as u32).to_le_bytes());
-        offset += frame.len();
-    }
-    tray.extend(frames.concat());
-    tray
 }

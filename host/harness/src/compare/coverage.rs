@@ -4,19 +4,7 @@ use reference::answer::{Kind, Record};
 use reference::frame::{look_up_kind, LOOK_UPS, NONE};
 use reference::space::{Entry, Space, MOST_ENTRIES, MOST_TRANSACTIONS, MOST_WAITING};
 use std::collections::BTreeMap;
-
-const KINDS: [(Kind, &str); 10] = [
-    (Kind::Written, "written"),
-    (Kind::Found, "found"),
-    (Kind::Nothing, "nothing"),
-    (Kind::Waiting, "waiting"),
-    (Kind::Created, "created"),
-    (Kind::Committed, "committed"),
-    (Kind::Aborted, "aborted"),
-    (Kind::Exception, "exception"),
-    (Kind::Ticked, "ticked"),
-    (Kind::Refused, "refused"),
-];
+use tray::record::KINDS;
 
 /// On a space that frames made, a look-up that must wait finds a free place: there are 16 parties, and 6 stops a
 /// party that waits already.
@@ -121,10 +109,10 @@ impl Coverage {
 
     /// What can occur and did not.
     pub fn missing(&self) -> Vec<String> {
-        let kinds = KINDS.iter().filter(|(kind, _)| self.kinds[*kind as usize] == 0);
+        let kinds = KINDS.iter().filter(|kind| self.kinds[usize::from(kind.number)] == 0);
         let refusals = (1..=16).filter(|&number| number != CANNOT_OCCUR && self.refusals[number] == 0);
         let situations = SITUATIONS.iter().filter(|name| self.situations.get(**name).is_none_or(|&n| n == 0));
-        let mut missing: Vec<String> = kinds.map(|(_, name)| format!("record {name}")).collect();
+        let mut missing: Vec<String> = kinds.map(|kind| format!("record {}", kind.name)).collect();
         missing.extend(refusals.map(|number| format!("number {number}")));
         missing.extend(situations.map(|name| name.to_string()));
         missing
@@ -132,8 +120,8 @@ impl Coverage {
 
     pub fn print(&self) {
         println!("records:");
-        for (kind, name) in KINDS {
-            println!("  {:>2} {name:<10} {:>10}", kind as u8, self.kinds[kind as usize]);
+        for kind in KINDS {
+            println!("  {:>2} {:<10} {:>10}", kind.number, kind.name, self.kinds[usize::from(kind.number)]);
         }
         println!("numbers (1 also as the end of a tray's run; 15 and 16 of trays):");
         for number in 1..=16 {

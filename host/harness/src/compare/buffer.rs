@@ -1,9 +1,10 @@
 //! Answers areas, and the answers in them.
 
-use reference::answer::{records, Kind, Record, RECORD};
-use reference::random::Random;
-use reference::text::{record_line, show};
+use crate::random::Random;
+use crate::subject::Subject;
+use reference::answer::{Kind, Record, RECORD};
 use std::ops::Range;
+use tray::frame::show;
 
 /// An answers area filled with random bytes, between two others that must keep theirs.
 #[derive(Clone, PartialEq)]
@@ -26,10 +27,18 @@ impl Buffer {
         &mut self.bytes[self.area.clone()]
     }
 
+    /// The bytes of each record with one of these places.
+    fn places(&self, range: Range<usize>) -> impl Iterator<Item = &[u8]> {
+        self.bytes[self.area.clone()].chunks_exact(RECORD).skip(range.start).take(range.len())
+    }
+
     pub fn records(&self, range: Range<usize>) -> Vec<Record> {
-        let area = &self.bytes[self.area.clone()];
-        let most = area.len() / RECORD;
-        records(&area[RECORD * range.start.min(most)..], range.len()).collect()
+        self.places(range).map(Record::read).collect()
+    }
+
+    /// The records, a line each.
+    pub fn lines(&self, range: Range<usize>) -> String {
+        self.places(range).map(|bytes| format!("    {}\n", tray::record::Record::read(bytes).line())).collect()
     }
 
     /// The entry number of the found record at this place, if there is one.
@@ -39,17 +48,9 @@ impl Buffer {
     }
 }
 
-/// Both answers to a frame.
-pub fn both(frame: &[u8], ours: &[Record], theirs: &[Record]) -> String {
+/// Both answers to a frame, which are lines.
+pub fn both<S: Subject>(frame: &[u8], ours: &str, theirs: &str) -> String {
     let bytes: Vec<String> = frame.iter().map(|byte| format!("{byte:02x}")).collect();
-    let lines = |records: &[Record]| -> String {
-        records.iter().map(|record| format!("    {}\n", record_line(record))).collect()
-    };
-    format!(
-        "frame: {}\n  bytes: {}\n  the space:\n{}  the reference:\n{}",
-        show(frame),
-        bytes.join(" "),
-        lines(ours),
-        lines(theirs)
-    )
+    let (line, bytes) = (show(frame), bytes.join(" "));
+    format!("{line}\n  bytes: {bytes}\n  {}:\n{ours}  the reference:\n{theirs}", S::NAME)
 }

@@ -1,28 +1,37 @@
 //! The trays that are timed.
 
+use harness::frames::{create_frame, ending_frame, long_frame, tick_frame};
+use harness::random::Random;
 use reference::frame::{Fields, FOREVER, NONE};
-use reference::random::Random;
 use reference::space::{oldest, Space};
-use reference::text::{create_frame, ending_frame, long_frame, tick_frame};
 
 /// How full the tables are kept. With sixteen look-ups waiting every party waits, and only ticks are carried out.
-pub struct Fill {
-    pub name: &'static str,
+struct Fill {
+    name: &'static str,
     entries: u32,
     transactions: u8,
     waiting: u8,
 }
 
-pub const FILLS: [Fill; 2] = [
+const FILLS: [Fill; 2] = [
     Fill { name: "a quarter: 16 stored, 2 live, 4 waiting", entries: 16, transactions: 2, waiting: 4 },
     Fill { name: "full: 64 stored, 8 live, 12 waiting", entries: 64, transactions: 8, waiting: 12 },
 ];
 
 pub struct Load {
-    pub name: &'static str,
+    pub group: String,
+    pub name: String,
     /// Frames that fill the tables; their time is taken off.
     pub setup: Vec<Vec<u8>>,
     pub frames: Vec<Vec<u8>>,
+}
+
+/// Every row of the table.
+pub fn all_loads() -> Vec<Load> {
+    let mut loads: Vec<Load> = FILLS.iter().map(mix).collect();
+    loads.extend(FILLS.iter().flat_map(singles));
+    loads.extend([10, 20, 50, 100, 200, 500, 1000, 2000].map(rounds));
+    loads
 }
 
 /// The party that sends single frames; it never waits and owns transaction 1.
@@ -61,7 +70,7 @@ fn repeated(frames: &[Vec<u8>], count: usize) -> Vec<Vec<u8>> {
 }
 
 /// Each of the single kinds at this fill.
-pub fn singles(fill: &Fill) -> Vec<Load> {
+fn singles(fill: &Fill) -> Vec<Load> {
     let n = fill.entries;
     let full = filled(fill, n, fill.transactions);
     let one_less = filled(fill, n - 1, fill.transactions);
@@ -71,7 +80,13 @@ pub fn singles(fill: &Fill) -> Vec<Load> {
         (0..700).flat_map(|k| [create_frame(SENDER, 5), ending_frame(operation, SENDER, first + k)]).collect()
     };
     let many = |frames: &[Vec<u8>]| repeated(frames, 1500);
-    let load = |name, setup: &Vec<Vec<u8>>, frames| Load { name, setup: setup.clone(), frames };
+    let group = format!("single kinds, {}", fill.name);
+    let load = |name: &str, setup: &Vec<Vec<u8>>, frames| Load {
+        group: group.clone(),
+        name: name.to_string(),
+        setup: setup.clone(),
+        frames,
+    };
     vec![
         load("refused: length (3)", &full, many(&[vec![1, 1, 0]])),
         load("refused: transaction not live (7)", &full, many(&[ending_frame(7, SENDER, 5000)])),
@@ -102,7 +117,7 @@ pub fn singles(fill: &Fill) -> Vec<Load> {
 }
 
 /// Writes, look-ups in and out of transactions, waits, ticks, commits and aborts, with the tables kept at this fill.
-pub fn mix(fill: &Fill) -> Load {
+fn mix(fill: &Fill) -> Load {
     let mut random = Random::new(1);
     let mut space = Space::new();
     let mut scratch = vec![0; 700];
@@ -116,7 +131,7 @@ pub fn mix(fill: &Fill) -> Load {
             frames.push(frame);
         }
     }
-    Load { name: "mix", setup, frames }
+    Load { group: "mix".to_string(), name: fill.name.to_string(), setup, frames }
 }
 
 fn mixed_frame(random: &mut Random, space: &Space, fill: &Fill) -> Vec<u8> {
@@ -153,7 +168,7 @@ fn mixed_frame(random: &mut Random, space: &Space, fill: &Fill) -> Vec<u8> {
 }
 
 /// A round that leaves the space as empty as it was, repeated; so a frame costs the same wherever it stands.
-pub fn rounds(frames: usize) -> Vec<Vec<u8>> {
+fn rounds(frames: usize) -> Load {
     let round = |k: u32| {
         [
             write(1, NONE, FOREVER, [1, 0, 0, 0]),
@@ -168,5 +183,7 @@ pub fn rounds(frames: usize) -> Vec<Vec<u8>> {
             look_up(5, 5, NONE, 0, 2),
         ]
     };
-    (1..).flat_map(round).take(frames).collect()
+    let group = "one round of 10 frames, repeated: a whole tray".to_string();
+    let frames: Vec<Vec<u8>> = (1..).flat_map(round).take(frames).collect();
+    Load { group, name: format!("{} frames", frames.len()), setup: Vec::new(), frames }
 }

@@ -1,12 +1,13 @@
 //! Seeded random frames and trays that make deep histories: several panes, few distinct kinds, short leases,
 //! ticks anywhere, full tables, garbled frames, damaged trays, answers areas of odd lengths.
 
-use crate::answer::{RECORD, STEP};
-use crate::frame::{Fields, FOREVER, LAST_CLOCK, NONE};
+use crate::frames::{create_frame, ending_frame, long_frame, tick_frame};
 use crate::random::Random;
-use crate::space::{oldest, End, Space};
-use crate::text::{create_frame, ending_frame, long_frame, tick_frame};
-use crate::tray::{build, LONGEST_TRAY, MOST_FRAMES};
+use reference::answer::{RECORD, STEP};
+use reference::frame::{Fields, FOREVER, LAST_CLOCK, NONE};
+use reference::space::{oldest, End, Space};
+use reference::tray::{LONGEST_TRAY, MOST_FRAMES};
+use tray::bytes::tray_of;
 
 /// What a history leans to.
 #[derive(Clone, Copy)]
@@ -86,7 +87,7 @@ impl Generator {
     }
 
     fn sound_frame(&mut self, guide: &Space) -> Vec<u8> {
-        let Lean { shares, if_exists, takes, commits, .. } = self.lean;
+        let Lean { shares, commits, .. } = self.lean;
         let Some(party) = self.party(guide) else { return tick_frame() };
         let mut draw = self.random.below(shares.iter().sum());
         let mut operation = 0;
@@ -99,23 +100,7 @@ impl Generator {
                 let (transaction, lease) = (self.transaction(guide, party), self.duration(guide));
                 long_frame(1, party, 0, transaction, lease, self.fields())
             }
-            1 => {
-                let look_up = 2 + u8::from(self.random.percent(takes)) + 2 * u8::from(self.random.percent(if_exists));
-                let transaction = self.transaction(guide, party);
-                let timeout = self.timeout(guide);
-                let mask = if self.random.percent(60) { 1 } else { self.random.below(16) as u8 };
-                let mut fields = match guide.entries.len() {
-                    0 => self.fields(),
-                    _ if self.random.percent(40) => self.fields(),
-                    stored => guide.entries[self.random.below(stored)].fields,
-                };
-                for (i, field) in fields.iter_mut().enumerate() {
-                    if mask >> i & 1 == 0 {
-                        *field = 0;
-                    }
-                }
-                long_frame(look_up, party, mask, transaction, timeout, fields)
-            }
+            1 => self.look_up_frame(guide, party),
             2 => create_frame(party, self.duration(guide)),
             3 => {
                 let ending = if self.random.percent(commits) { 7 } else { 8 };
@@ -128,6 +113,25 @@ impl Generator {
             }
             _ => tick_frame(),
         }
+    }
+
+    fn look_up_frame(&mut self, guide: &Space, party: u8) -> Vec<u8> {
+        let Lean { takes, if_exists, .. } = self.lean;
+        let operation = 2 + u8::from(self.random.percent(takes)) + 2 * u8::from(self.random.percent(if_exists));
+        let transaction = self.transaction(guide, party);
+        let timeout = self.timeout(guide);
+        let mask = if self.random.percent(60) { 1 } else { self.random.below(16) as u8 };
+        let mut fields = match guide.entries.len() {
+            0 => self.fields(),
+            _ if self.random.percent(40) => self.fields(),
+            stored => guide.entries[self.random.below(stored)].fields,
+        };
+        for (i, field) in fields.iter_mut().enumerate() {
+            if mask >> i & 1 == 0 {
+                *field = 0;
+            }
+        }
+        long_frame(operation, party, mask, transaction, timeout, fields)
     }
 
     /// A party that does not wait, or a stray one; none if all wait.
@@ -240,14 +244,14 @@ impl Generator {
             frames.push(frame);
         }
         if self.random.percent(80) {
-            return build(&frames);
+            return tray_of(&frames);
         }
         self.with_gaps(&frames)
     }
 
     /// Bytes of no frame stand before some of the frames and behind the last.
     fn with_gaps(&mut self, frames: &[Vec<u8>]) -> Vec<u8> {
-        let mut tray = build(frames);
+        let mut tray = tray_of(frames);
         let mut room = LONGEST_TRAY - tray.len();
         let mut offset = 4 + 8 * frames.len();
         let pairs_end = offset;
@@ -292,7 +296,7 @@ impl Generator {
             }
             4 => {
                 let ticks = MOST_FRAMES as usize + random.below(2);
-                tray = build(&vec![tick_frame(); ticks]);
+                tray = tray_of(&vec![tick_frame(); ticks]);
             }
             5 | 6 if count > 0 => {
                 let at = 4 + 4 * random.below(2 * count);

@@ -1,0 +1,87 @@
+//! A discrepancy, as a text that can be run.
+
+use super::pair::replay;
+use crate::subject::{Beginning, Subject};
+use reference::tray::judge;
+use std::fmt;
+use tray::bytes::{show_all, show_tray};
+
+/// What differs, and the history that shows it.
+#[derive(Clone, PartialEq, Eq, Debug)]
+pub struct Discrepancy {
+    pub why: String,
+    /// What the text does not say; empty if the text alone shows the discrepancy.
+    pub besides: String,
+    pub text: String,
+}
+
+impl Discrepancy {
+    /// Of a history, whose last frame got an answers area of this length.
+    pub fn of_frames<S: Subject>(at: Beginning, frames: &[Vec<u8>], length: usize, why: String) -> Discrepancy {
+        let Some((why, fewer)) = shortened::<S>(at, frames) else {
+            let besides = format!("{}the last frame gets an answers area of {length} bytes", before(at));
+            return Discrepancy { why, besides, text: show_all(frames.iter().map(Vec::as_slice)) };
+        };
+        Discrepancy { why, besides: before(at), text: show_all(fewer.iter().map(Vec::as_slice)) }
+    }
+
+    /// Of a tray, run with an answers area of this length.
+    pub fn of_tray<S: Subject>(tray: &[u8], length: usize, why: String) -> Discrepancy {
+        let frames = judge(tray).unwrap_or_default();
+        let frames: Vec<Vec<u8>> = frames.into_iter().map(|frame| tray[frame].to_vec()).collect();
+        match shortened::<S>(Beginning::EMPTY, &frames) {
+            Some((why, fewer)) => {
+                Discrepancy { why, besides: String::new(), text: show_all(fewer.iter().map(Vec::as_slice)) }
+            }
+            None => {
+                let besides = format!("run as a whole tray, with an answers area of {length} bytes");
+                Discrepancy { why, besides, text: show_tray(tray) }
+            }
+        }
+    }
+}
+
+fn before(at: Beginning) -> String {
+    let Beginning { clock, next_entry, next_transaction } = at;
+    if at == Beginning::EMPTY {
+        return String::new();
+    }
+    format!("the history begins at clock {clock}, next entry {next_entry}, next transaction {next_transaction}; ")
+}
+
+/// Fewer frames, each of them needed, that show a discrepancy; none if these frames show none.
+fn shortened<S: Subject>(at: Beginning, frames: &[Vec<u8>]) -> Option<(String, Vec<Vec<u8>>)> {
+    let mut why = replay::<S>(at, frames).err()?;
+    let mut frames = frames.to_vec();
+    let mut chunk = frames.len();
+    while chunk > 0 {
+        let before = frames.len();
+        let mut begin = 0;
+        while begin < frames.len() {
+            let mut fewer = frames.clone();
+            fewer.drain(begin..frames.len().min(begin + chunk));
+            match replay::<S>(at, &fewer) {
+                Err(shorter) => (why, frames) = (shorter, fewer),
+                Ok(()) => begin += chunk,
+            }
+        }
+        if chunk > 1 || frames.len() == before {
+            chunk /= 2;
+        }
+    }
+    Some((why, frames))
+}
+
+/// The whole is a text: what is no frame stands behind `#`.
+impl fmt::Display for Discrepancy {
+    fn fmt(&self, f: &mut fmt::Formatter) -> fmt::Result {
+        let besides = match self.besides.as_str() {
+            "" => String::new(),
+            besides => format!("\nThis text does not say: {}", besides.trim_end_matches("; ")),
+        };
+        for line in format!("{}{besides}", self.why.trim_end()).lines() {
+            writeln!(f, "# {line}")?;
+        }
+        write!(f, "{}", self.text)
+    }
+}

@@ -1,0 +1,26 @@
+//! A space and the reference, led through the same histories and trays; everything that can be seen is compared.
+
+mod buffer;
+mod coverage;
+mod discrepancy;
+mod pair;
+mod steps;
+mod trays;
+
+pub use coverage::Coverage;
+pub use discrepancy::Discrepancy;
+pub use pair::replay;
+pub use steps::on_any_words;
+
+use crate::generate::Generator;
+use crate::subject::Subject;
+
+/// The history or the tray of this seed.
+pub fn compare<S: Subject>(seed: u64, coverage: &mut Coverage) -> Result<(), Discrepancy> {
+    let mut generator = Generator::new(seed);
+    if generator.random.percent(50) {
+        trays::by_tray::<S>(&mut generator, coverage)
+    } else {
+        steps::by_frames::<S>(&mut generator, coverage)
+    }
+}

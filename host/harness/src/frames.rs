@@ -1,0 +1,24 @@
+//! Frames made.
+
+use reference::frame::Fields;
+use tray::frame::{operation_of, Request};
+
+pub use tray::frame::tick_frame;
+
+fn request(operation: u8, party: u8) -> Request {
+    Request::new(operation_of(operation).expect("an operation's number"), party)
+}
+
+/// A frame of operations 1 to 5.
+pub fn long_frame(operation: u8, party: u8, mask: u8, transaction: u32, duration: u32, fields: Fields) -> Vec<u8> {
+    Request { mask, transaction, duration, fields, ..request(operation, party) }.frame()
+}
+
+pub fn create_frame(party: u8, lease: u32) -> Vec<u8> {
+    Request { duration: lease, ..request(6, party) }.frame()
+}
+
+/// Commit (7) or abort (8).
+pub fn ending_frame(operation: u8, party: u8, transaction: u32) -> Vec<u8> {
+    Request { transaction, ..request(operation, party) }.frame()
+}

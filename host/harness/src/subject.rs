@@ -1,0 +1,96 @@
+//! The spaces that are compared with the reference.
+
+use crate::view::view;
+use reference::space::Space;
+use tray::boundary;
+use tray::words::{Words, WORDS, WORD_CLOCK, WORD_NEXT_ENTRY, WORD_NEXT_TRANSACTION};
+
+/// Where a history begins: nothing is stored, live or waiting, and so many ticks, writes with lease 0 and ended
+/// transactions lie behind.
+#[derive(Clone, Copy, PartialEq, Eq, Debug)]
+pub struct Beginning {
+    pub clock: u32,
+    pub next_entry: u32,
+    pub next_transaction: u32,
+}
+
+impl Beginning {
+    /// The empty space.
+    pub const EMPTY: Beginning = Beginning { clock: 0, next_entry: 1, next_transaction: 1 };
+
+    pub fn of_reference(self) -> Space {
+        let Beginning { clock, next_entry, next_transaction } = self;
+        Space { clock, next_entry, next_transaction, ..Space::new() }
+    }
+}
+
+/// A space that is compared with the reference. Two are equal if nothing of their states differs.
+pub trait Subject: Clone + PartialEq {
+    const NAME: &'static str;
+
+    fn begin(at: Beginning) -> Self;
+
+    /// Records + 65,536 × number.
+    fn step(&mut self, frame: &[u8], area: &mut [u8]) -> u64;
+
+    /// Frames + 65,536 × records + 4,294,967,296 × number.
+    fn run_tray(tray: &[u8], area: &mut [u8]) -> u64;
+
+    /// Its tables, with read holds by number; none if it does not show them.
+    fn tables(&self) -> Option<Space>;
+}
+
+/// The proved space.
+#[derive(Clone, PartialEq)]
+pub struct Proved(Words);
+
+impl Subject for Proved {
+    const NAME: &'static str = "the space";
+
+    fn begin(at: Beginning) -> Proved {
+        let mut words = [0xa5a5_a5a5; WORDS];
+        boundary::empty(&mut words);
+        if at != Beginning::EMPTY {
+            words[WORD_CLOCK] = at.clock;
+            words[WORD_NEXT_ENTRY] = at.next_entry;
+            words[WORD_NEXT_TRANSACTION] = at.next_transaction;
+        }
+        Proved(words)
+    }
+
+    fn step(&mut self, frame: &[u8], area: &mut [u8]) -> u64 {
+        boundary::step(&mut self.0, frame, area)
+    }
+
+    fn run_tray(tray: &[u8], area: &mut [u8]) -> u64 {
+        boundary::run_tray(tray, area)
+    }
+
+    fn tables(&self) -> Option<Space> {
+        Some(view(&self.0))
+    }
+}
+
+/// The tuned peer.
+#[derive(Clone, PartialEq)]
+pub struct Tuned(tuned::Space);
+
+impl Subject for Tuned {
+    const NAME: &'static str = "the tuned peer";
+
+    fn begin(at: Beginning) -> Tuned {
+        Tuned(tuned::Space::beginning(at.clock, at.next_entry, at.next_transaction))
+    }
+
+    fn step(&mut self, frame: &[u8], area: &mut [u8]) -> u64 {
+        self.0.step(frame, area)
+    }
+
+    fn run_tray(tray: &[u8], area: &mut [u8]) -> u64 {
+        tuned::run_tray(tray, area)
+    }
+
+    fn tables(&self) -> Option<Space> {
+        None
+    }
+}

@@ -1,0 +1,159 @@
+/* Frames built, records read, and names for people, on top of space.h. No host needs it; each function says in C what
+ * docs/MANUAL.md says in tables. */
+#ifndef SPACE_FRAMES_H
+#define SPACE_FRAMES_H
+
+#include <string.h>
+#include "space.h"
+
+#ifdef __cplusplus
+extern "C" {
+#endif
+
+/* The length of an operation's frame; 0 if the operation is not 1-9. */
+static inline size_t space_frame_bytes(uint8_t operation)
+{
+    switch (operation) {
+    case SPACE_OP_WRITE: return SPACE_WRITE_BYTES;
+    case SPACE_OP_READ: case SPACE_OP_TAKE:
+    case SPACE_OP_READ_IF_EXISTS: case SPACE_OP_TAKE_IF_EXISTS: return SPACE_LOOK_UP_BYTES;
+    case SPACE_OP_CREATE: return SPACE_CREATE_BYTES;
+    case SPACE_OP_COMMIT: return SPACE_COMMIT_BYTES;
+    case SPACE_OP_ABORT: return SPACE_ABORT_BYTES;
+    case SPACE_OP_TICK: return SPACE_TICK_BYTES;
+    default: return 0;
+    }
+}
+
+/* The builders put a frame at `frame`, which has room for SPACE_MAX_FRAME_BYTES, and return its length. They check
+ * nothing: the space does. A transaction of 0 is none; a lease or timeout may be SPACE_FOREVER. */
+
+static inline size_t space_frame(uint8_t *frame, uint8_t operation, uint8_t party)
+{
+    memset(frame, 0, SPACE_MAX_FRAME_BYTES);
+    frame[0] = operation;
+    frame[1] = party;
+    return space_frame_bytes(operation);
+}
+
+static inline size_t space_frame_write(uint8_t *frame, uint8_t party, const uint32_t fields[4], uint32_t lease,
+                                       uint32_t transaction)
+{
+    size_t length = space_frame(frame, SPACE_OP_WRITE, party);
+    space_put_word(frame + SPACE_FRAME_AT_TRANSACTION, transaction);
+    space_put_word(frame + SPACE_FRAME_AT_DURATION, lease);
+    for (int i = 0; i < 4; i++)
+        space_put_word(frame + SPACE_FRAME_AT_FIELDS + 4 * i, fields[i]);
+    return length;
+}
+
+/* Read, take, readIfExists or takeIfExists. Fields whose bit in the mask is 0 are not looked at. */
+static inline size_t space_frame_look_up(uint8_t *frame, uint8_t operation, uint8_t party, uint8_t mask,
+                                         const uint32_t fields[4], uint32_t timeout, uint32_t transaction)
+{
+    size_t length = space_frame(frame, operation, party);
+    frame[2] = mask;
+    space_put_word(frame + SPACE_FRAME_AT_TRANSACTION, transaction);
+    space_put_word(frame + SPACE_FRAME_AT_DURATION, timeout);
+    for (int i = 0; i < 4; i++)
+        if (mask >> i & 1)
+            space_put_word(frame + SPACE_FRAME_AT_FIELDS + 4 * i, fields[i]);
+    return length;
+}
+
+static inline size_t space_frame_create(uint8_t *frame, uint8_t party, uint32_t lease)
+{
+    size_t length = space_frame(frame, SPACE_OP_CREATE, party);
+    space_put_word(frame + SPACE_FRAME_AT_DURATION, lease);
+    return length;
+}
+
+static inline size_t space_frame_commit(uint8_t *frame, uint8_t party, uint32_t transaction)
+{
+    size_t length = space_frame(frame, SPACE_OP_COMMIT, party);
+    space_put_word(frame + SPACE_FRAME_AT_TRANSACTION, transaction);
+    return length;
+}
+
+static inline size_t space_frame_abort(uint8_t *frame, uint8_t party, uint32_t transaction)
+{
+    size_t length = space_frame(frame, SPACE_OP_ABORT, party);
+    space_put_word(frame + SPACE_FRAME_AT_TRANSACTION, transaction);
+    return length;
+}
+
+static inline size_t space_frame_tick(uint8_t *frame)
+{
+    return space_frame(frame, SPACE_OP_TICK, 0);
+}
+
+struct space_record {
+    uint8_t kind, party, refusal;
+    uint32_t transaction, entry, fields[4];
+};
+
+/* The record with this place, from 0, in an answers area. */
+static inline struct space_record space_record_at(const uint8_t *answers, uint32_t place)
+{
+    const uint8_t *at = answers + SPACE_RECORD_BYTES * (size_t)place;
+    struct space_record record;
+    record.kind = at[0];
+    record.party = at[1];
+    record.refusal = at[2];
+    record.transaction = space_get_word(at + SPACE_RECORD_AT_TRANSACTION);
+    record.entry = space_get_word(at + SPACE_RECORD_AT_ENTRY);
+    for (int i = 0; i < 4; i++)
+        record.fields[i] = space_get_word(at + SPACE_RECORD_AT_FIELDS + 4 * i);
+    return record;
+}
+
+/* The names of operations, record kinds and fields, and what a refusal means; "?" for numbers that there are not. */
+
+static inline const char *space_operation_name(uint8_t operation)
+{
+    static const char *const names[] = {"?", "write", "read", "take", "readIfExists", "takeIfExists", "create",
+                                        "commit", "abort", "tick"};
+    return operation < sizeof names / sizeof names[0] ? names[operation] : "?";
+}
+
+static inline const char *space_record_name(uint8_t kind)
+{
+    static const char *const names[] = {"?", "written", "found", "nothing", "waiting", "created", "committed",
+                                        "aborted", "exception", "ticked", "?", "?", "?", "?", "?", "refused"};
+    return kind < sizeof names / sizeof names[0] ? names[kind] : "?";
+}
+
+static inline const char *space_field_name(int place)
+{
+    static const char *const names[] = {"kind", "side", "image", "place"};
+    return place >= 0 && place < 4 ? names[place] : "?";
+}
+
+static inline const char *space_refusal_meaning(uint32_t number)
+{
+    static const char *const meanings[] = {
+        "?",
+        "the answers area has under 700 bytes",
+        "the frame is empty, or its operation is not 1-9",
+        "the frame's length is not its operation's",
+        "byte 3, the mask, the template or create's transaction is not as it must be",
+        "the party is not 1-16, or not 0 for tick",
+        "the party has a waiting look-up",
+        "the transaction is not live",
+        "the transaction is another party's",
+        "create with lease 0",
+        "the lease, the timeout or the tick ends after 4294967294",
+        "64 entries are stored",
+        "8 transactions are live",
+        "the numbers are used up",
+        "16 look-ups wait already",
+        "the tray is too short, too long or has too many frames",
+        "a pair of the tray is out of order or runs past its end"};
+    return number < sizeof meanings / sizeof meanings[0] ? meanings[number] : "?";
+}
+
+#ifdef __cplusplus
+}
+#endif
+
+#endif

@@ -1,0 +1,489 @@
+//! The space. What makes it fast:
+//!
+//! - Between steps no waiting look-up has an available entry, so service looks only at the rows that the step has set
+//!   free (`fresh`, a mask of 64 rows).
+//! - The least end is kept, so that a tick at which nothing ends is one comparison.
+//! - A bit tells whether a party waits, and whether a transaction has written, read or taken anything.
+//! - The four fields are compared as two words of 64 bits.
+
+use crate::answer::{Answers, ABORTED, COMMITTED, CREATED, EXCEPTION, NOTHING, TICKED, WAITING};
+use crate::frame::{asked, decode, Fields, Long, Request, FOREVER, LAST_CLOCK};
+
+const ENTRIES: usize = 64;
+const SLOTS: usize = 8;
+const WAITS: usize = 16;
+
+/// The slot of no transaction; it has no bit.
+const NO_SLOT: u8 = 8;
+
+#[derive(Clone, Copy, PartialEq)]
+struct Entry {
+    /// kind and side; image and place
+    pairs: [u64; 2],
+    number: u32,
+    end: u32,
+    /// Slots, or NO_SLOT.
+    private: u8,
+    taken: u8,
+    /// Bit p: the transaction in slot p has a read hold.
+    readers: u8,
+}
+
+#[derive(Clone, Copy, PartialEq)]
+struct LookUp {
+    asks: [u64; 2],
+    pairs: [u64; 2],
+    transaction: u32,
+    deadline: u32,
+    party: u8,
+    takes: bool,
+    slot: u8,
+    /// The bit of its slot.
+    bit: u8,
+}
+
+#[inline(always)]
+fn paired(fields: Fields) -> [u64; 2] {
+    let [kind, side, image, place] = fields.map(u64::from);
+    [kind | side << 32, image | place << 32]
+}
+
+#[inline(always)]
+fn bit_of(slot: u8) -> u8 {
+    (1u32 << slot) as u8
+}
+
+/// clock + duration, or FOREVER; refusal 10.
+#[inline(always)]
+fn end_of(clock: u32, duration: u32) -> Result<u32, u8> {
+    if duration == FOREVER {
+        return Ok(FOREVER);
+    }
+    match clock.checked_add(duration) {
+        Some(end) if end <= LAST_CLOCK => Ok(end),
+        _ => Err(10),
+    }
+}
+
+/// The words that equal x, as bits.
+#[inline(always)]
+fn equal(words: &[u32; SLOTS], x: u32) -> u8 {
+    let mut bits = 0;
+    for (i, &word) in words.iter().enumerate() {
+        bits |= u8::from(word == x) << i;
+    }
+    bits
+}
+
+impl Entry {
+    #[inline(always)]
+    fn fields(&self) -> Fields {
+        let [a, b] = self.pairs;
+        [a as u32, (a >> 32) as u32, b as u32, (b >> 32) as u32]
+    }
+
+    /// Most entries differ in the first pair, so a branch is cheaper than both comparisons.
+    #[inline(always)]
+    fn matches(&self, look_up: &LookUp) -> bool {
+        let differs = |i: usize| (self.pairs[i] ^ look_up.pairs[i]) & look_up.asks[i] != 0;
+        !differs(0) && !differs(1)
+    }
+
+    #[inline(always)]
+    fn read_by_other(&self, look_up: &LookUp) -> bool {
+        look_up.takes && self.readers & !look_up.bit != 0
+    }
+
+    #[inline(always)]
+    fn available(&self, look_up: &LookUp) -> bool {
+        self.matches(look_up)
+            && self.taken == NO_SLOT
+            && (self.private == NO_SLOT || self.private == look_up.slot)
+            && !self.read_by_other(look_up)
+    }
+
+    /// Of an entry that is not available.
+    #[inline(always)]
+    fn conflicts(&self, look_up: &LookUp) -> bool {
+        let others = |slot: u8| slot != NO_SLOT && slot != look_up.slot;
+        self.matches(look_up) && (others(self.private) || others(self.taken) || self.read_by_other(look_up))
+    }
+}
+
+#[derive(Clone, PartialEq)]
+pub struct Space {
+    clock: u32,
+    next_entry: u32,
+    next_transaction: u32,
+    /// No entry, transaction or waiting look-up ends before this.
+    next_end: u32,
+    /// The transactions by slot; number 0: the slot is free.
+    numbers: [u32; SLOTS],
+    ends: [u32; SLOTS],
+    owners: [u8; SLOTS],
+    /// Bit p: the transaction in slot p has written, read or taken something.
+    active: u8,
+    /// Bit p: party p waits.
+    waiting: u32,
+    wait_count: usize,
+    entry_count: usize,
+    /// By arrival.
+    waits: [LookUp; WAITS],
+    /// By number.
+    entries: [Entry; ENTRIES],
+}
+
+impl Space {
+    /// With 0, 1, 1 the empty space; else one like it, at this clock and with these next numbers.
+    pub fn beginning(clock: u32, next_entry: u32, next_transaction: u32) -> Space {
+        let (asks, pairs) = ([0; 2], [0; 2]);
+        let wait = LookUp { asks, pairs, transaction: 0, deadline: 0, party: 0, takes: false, slot: NO_SLOT, bit: 0 };
+        let entry = Entry { pairs, number: 0, end: 0, private: NO_SLOT, taken: NO_SLOT, readers: 0 };
+        Space {
+            clock,
+            next_entry,
+            next_transaction,
+            next_end: FOREVER,
+            numbers: [0; SLOTS],
+            ends: [0; SLOTS],
+            owners: [0; SLOTS],
+            active: 0,
+            waiting: 0,
+            wait_count: 0,
+            entry_count: 0,
+            waits: [wait; WAITS],
+            entries: [entry; ENTRIES],
+        }
+    }
+
+    /// Carries out a frame: records + 65,536 × number.
+    #[inline]
+    pub fn step(&mut self, frame: &[u8], answers: &mut [u8]) -> u64 {
+        let Some(mut answers) = Answers::new(answers) else { return 65536 };
+        match decode(frame).and_then(|request| self.perform(request, &mut answers)) {
+            Ok(()) => answers.count as u64,
+            Err(number) => {
+                answers.refused(frame, number);
+                1 + 65536 * u64::from(number)
+            }
+        }
+    }
+
+    /// Carries out the request, or gives the first of refusals 6 to 14 that applies and changes nothing.
+    #[inline(always)]
+    fn perform(&mut self, request: Request, answers: &mut Answers) -> Result<(), u8> {
+        match request {
+            Request::Write(long) => self.write(&long, answers),
+            Request::LookUp { operation, long } => self.look_up(operation, &long, answers),
+            Request::Create { party, lease } => self.create(party, lease, answers),
+            Request::End { commits, party, transaction } => {
+                self.check_party(party)?;
+                let slot = self.slot(party, transaction)?;
+                answers.plain(if commits { COMMITTED } else { ABORTED }, party, transaction);
+                let fresh = self.end_transaction(commits, slot, 0);
+                self.serve(fresh, answers);
+                Ok(())
+            }
+            Request::Tick => self.tick(answers),
+        }
+    }
+
+    /// 6
+    #[inline(always)]
+    fn check_party(&self, party: u8) -> Result<(), u8> {
+        if self.waiting >> party & 1 == 1 {
+            return Err(6);
+        }
+        Ok(())
+    }
+
+    /// The slot of a commit's or abort's transaction; 7 and 8.
+    #[inline(always)]
+    fn slot(&self, party: u8, transaction: u32) -> Result<u8, u8> {
+        let found = equal(&self.numbers, transaction);
+        if transaction == 0 || found == 0 {
+            return Err(7);
+        }
+        let slot = found.trailing_zeros() as u8 & 7;
+        if self.owners[usize::from(slot)] == party {
+            Ok(slot)
+        } else {
+            Err(8)
+        }
+    }
+
+    #[inline(always)]
+    fn slot_or_none(&self, party: u8, transaction: u32) -> Result<u8, u8> {
+        if transaction == 0 {
+            Ok(NO_SLOT)
+        } else {
+            self.slot(party, transaction)
+        }
+    }
+
+    #[inline(always)]
+    fn write(&mut self, long: &Long, answers: &mut Answers) -> Result<(), u8> {
+        self.check_party(long.party)?;
+        let private = self.slot_or_none(long.party, long.transaction)?;
+        let end = end_of(self.clock, long.duration)?;
+        let row = self.entry_count;
+        if long.duration != 0 && row >= ENTRIES {
+            return Err(11);
+        }
+        let number = self.next_entry;
+        if number == FOREVER {
+            return Err(13);
+        }
+        self.next_entry = number + 1;
+        answers.written(long.party, long.transaction, number);
+        if long.duration == 0 {
+            return Ok(());
+        }
+        let pairs = paired(long.fields);
+        self.entries[row & 63] = Entry { pairs, number, end, private, taken: NO_SLOT, readers: 0 };
+        self.entry_count = row + 1;
+        self.next_end = self.next_end.min(end);
+        self.active |= bit_of(private);
+        if private == NO_SLOT && self.wait_count != 0 {
+            self.serve(1 << row, answers);
+        }
+        Ok(())
+    }
+
+    #[inline(always)]
+    fn look_up(&mut self, operation: u8, long: &Long, answers: &mut Answers) -> Result<(), u8> {
+        let &Long { party, transaction, .. } = long;
+        self.check_party(party)?;
+        let slot = self.slot_or_none(party, transaction)?;
+        let deadline = end_of(self.clock, long.duration)?;
+        let (asks, pairs) = (paired(asked(long.mask)), paired(long.fields));
+        let takes = operation == 3 || operation == 5;
+        let look_up = LookUp { asks, pairs, transaction, deadline, party, takes, slot, bit: bit_of(slot) };
+        if let Some(row) = self.rows().iter().position(|entry| entry.available(&look_up)) {
+            self.hand_out(row, &look_up, answers);
+            return Ok(());
+        }
+        let if_exists = operation >= 4;
+        if long.duration == 0 || if_exists && !self.any_conflict(&look_up) {
+            answers.plain(NOTHING, party, transaction);
+            return Ok(());
+        }
+        if self.wait_count >= WAITS {
+            return Err(14);
+        }
+        answers.plain(WAITING, party, transaction);
+        self.waits[self.wait_count] = look_up;
+        self.wait_count += 1;
+        self.waiting |= 1 << party;
+        self.next_end = self.next_end.min(deadline);
+        Ok(())
+    }
+
+    #[inline(always)]
+    fn rows(&self) -> &[Entry] {
+        &self.entries[..self.entry_count.min(ENTRIES)]
+    }
+
+    #[inline(always)]
+    fn any_conflict(&self, look_up: &LookUp) -> bool {
+        self.active != 0 && self.rows().iter().any(|entry| entry.conflicts(look_up))
+    }
+
+    /// Answers found, and does to the entry what the look-up does; whether its row is removed.
+    #[inline(always)]
+    fn hand_out(&mut self, row: usize, look_up: &LookUp, answers: &mut Answers) -> bool {
+        let entry = &mut self.entries[row & 63];
+        answers.found(look_up.party, look_up.transaction, entry.number, entry.fields());
+        // committed, outside transactions; or private to the look-up's own
+        let unmarked = entry.private == look_up.slot;
+        if look_up.takes {
+            if unmarked {
+                self.remove(row);
+                return true;
+            }
+            entry.taken = look_up.slot;
+            entry.readers &= !look_up.bit;
+            self.active |= look_up.bit;
+        } else if !unmarked {
+            entry.readers |= look_up.bit;
+            self.active |= look_up.bit;
+        }
+        false
+    }
+
+    fn remove(&mut self, row: usize) {
+        let count = self.entry_count.min(ENTRIES);
+        if row < count {
+            self.entries.copy_within(row + 1..count, row);
+            self.entry_count = count - 1;
+        }
+    }
+
+    #[inline(always)]
+    fn create(&mut self, party: u8, lease: u32, answers: &mut Answers) -> Result<(), u8> {
+        self.check_party(party)?;
+        if lease == 0 {
+            return Err(9);
+        }
+        let end = end_of(self.clock, lease)?;
+        let free = equal(&self.numbers, 0);
+        if free == 0 {
+            return Err(12);
+        }
+        let number = self.next_transaction;
+        if number == FOREVER {
+            return Err(13);
+        }
+        self.next_transaction = number + 1;
+        let slot = free.trailing_zeros() as usize & 7;
+        self.numbers[slot] = number;
+        self.ends[slot] = end;
+        self.owners[slot] = party;
+        self.next_end = self.next_end.min(end);
+        answers.plain(CREATED, party, number);
+        Ok(())
+    }
+
+    /// Commits or aborts. Gives the rows set free, with those that are fresh already (`before`) at their new places.
+    fn end_transaction(&mut self, commits: bool, slot: u8, before: u64) -> u64 {
+        self.numbers[usize::from(slot) & 7] = 0;
+        let bit = bit_of(slot);
+        if self.active & bit == 0 {
+            return before;
+        }
+        self.active &= !bit;
+        let (mut fresh, mut kept) = (0, 0);
+        for row in 0..self.entry_count.min(ENTRIES) {
+            let entry = self.entries[row];
+            let goes = if commits { entry.taken == slot } else { entry.private == slot };
+            if goes {
+                continue;
+            }
+            let touched = entry.private == slot || entry.taken == slot || entry.readers & bit != 0;
+            if touched || kept != row {
+                let freed = |held: u8| if held == slot { NO_SLOT } else { held };
+                let (private, taken) = (freed(entry.private), freed(entry.taken));
+                self.entries[kept & 63] = Entry { private, taken, readers: entry.readers & !bit, ..entry };
+            }
+            fresh |= (u64::from(touched) | before >> row & 1) << kept;
+            kept += 1;
+        }
+        self.entry_count = kept;
+        fresh
+    }
+
+    /// The waiting look-ups once, in order of arrival; each with an available entry among the fresh is answered found.
+    fn serve(&mut self, mut fresh: u64, answers: &mut Answers) {
+        if fresh == 0 {
+            return;
+        }
+        let mut kept = 0;
+        'waiting: for i in 0..self.wait_count.min(WAITS) {
+            let look_up = self.waits[i];
+            let mut left = fresh;
+            while left != 0 {
+                let row = left.trailing_zeros() as usize & 63;
+                if self.entries[row].available(&look_up) {
+                    self.waiting &= !(1 << look_up.party);
+                    if self.hand_out(row, &look_up, answers) {
+                        let below = (1u64 << row) - 1;
+                        fresh = fresh & below | fresh >> 1 & !below;
+                    }
+                    continue 'waiting;
+                }
+                left &= left - 1;
+            }
+            if kept != i {
+                self.waits[kept & 15] = look_up;
+            }
+            kept += 1;
+        }
+        self.wait_count = kept;
+    }
+
+    #[inline(always)]
+    fn tick(&mut self, answers: &mut Answers) -> Result<(), u8> {
+        if self.clock >= LAST_CLOCK {
+            return Err(10);
+        }
+        self.clock += 1;
+        answers.plain(TICKED, 0, 0);
+        if self.next_end <= self.clock {
+            self.next_end = FOREVER;
+            let fresh = self.end_transactions(answers);
+            let fresh = self.end_entries(fresh);
+            self.serve(fresh, answers);
+            self.end_waits(answers);
+        }
+        Ok(())
+    }
+
+    /// Aborts the transactions that end now, by number. Gives the rows set free.
+    fn end_transactions(&mut self, answers: &mut Answers) -> u64 {
+        let mut ended = 0u8;
+        for slot in (0..SLOTS).filter(|&slot| self.numbers[slot] != 0) {
+            if self.ends[slot] == self.clock {
+                ended |= 1 << slot;
+            } else {
+                self.next_end = self.next_end.min(self.ends[slot]);
+            }
+        }
+        let mut fresh = 0;
+        while ended != 0 {
+            let all = (0..SLOTS).filter(|slot| ended >> slot & 1 == 1);
+            let slot = all.min_by_key(|&slot| self.numbers[slot]).expect("one is left");
+            ended &= !(1 << slot);
+            answers.plain(EXCEPTION, self.owners[slot], self.numbers[slot]);
+            fresh = self.end_transaction(false, slot as u8, fresh);
+            self.keep_waits(|look_up, _| usize::from(look_up.slot) != slot);
+        }
+        fresh
+    }
+
+    /// Removes the entries that end now. Gives the fresh rows at their new places.
+    fn end_entries(&mut self, before: u64) -> u64 {
+        let (mut fresh, mut kept) = (0, 0);
+        for row in 0..self.entry_count.min(ENTRIES) {
+            let entry = self.entries[row];
+            if entry.end != self.clock {
+                if kept != row {
+                    self.entries[kept & 63] = entry;
+                }
+                fresh |= (before >> row & 1) << kept;
+                kept += 1;
+                self.next_end = self.next_end.min(entry.end);
+            }
+        }
+        self.entry_count = kept;
+        fresh
+    }
+
+    /// Gives nothing to the look-ups whose deadline is reached.
+    fn end_waits(&mut self, answers: &mut Answers) {
+        let clock = self.clock;
+        self.keep_waits(|look_up, next_end| {
+            if look_up.deadline == clock {
+                answers.plain(NOTHING, look_up.party, look_up.transaction);
+            } else {
+                *next_end = look_up.deadline.min(*next_end);
+            }
+            look_up.deadline != clock
+        });
+    }
+
+    fn keep_waits(&mut self, mut keep: impl FnMut(&LookUp, &mut u32) -> bool) {
+        let mut kept = 0;
+        for i in 0..self.wait_count.min(WAITS) {
+            let look_up = self.waits[i];
+            if keep(&look_up, &mut self.next_end) {
+                if kept != i {
+                    self.waits[kept & 15] = look_up;
+                }
+                kept += 1;
+            } else {
+                self.waiting &= !(1 << look_up.party);
+            }
+        }
+        self.wait_count = kept;
+    }
+}
