@@ -3,7 +3,6 @@ use Prim.Native.Nat.{ℕ, zero, suc}
 use mathlib.Core.Bool.{Bool, true, false, not, cond, _&&_}
 use mathlib.Core.Path.{_≡_, refl, ap}
 use mathlib.Core.List.{List, [], _∷_, _++_}
-use native.Mathlib.Omega.{arith}
 use borrow.Author.Tests.{not-true, not-false, eqb-false}
 use lib.Dec.{eqb, ltb}
 use lib.ListN.{length}
@@ -120,7 +119,3 @@ space-not-area m f = first-without areaRefused (admissionRows m f ++ roomRows m 
 pub is-one : (bs : List ℕ) → noOperation bs (decode bs) ≡ false → isOperation (decode bs .op) ≡ true
 unfolding noOperation
 is-one bs e = not-false _ (or-right (eqb (length bs) 0) _ e)
-
-pub row : (b : Bool) (n rest : ℕ) → cond b (suc n) rest ≡ 0 → (b ≡ false) × (rest ≡ 0)
-row true n rest e = absurd (omega arith)
-row false n rest e = (refl, e)
