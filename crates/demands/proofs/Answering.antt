@@ -23,16 +23,16 @@ use Rattle.rules.specs.Refusals.{badTemplate, malformed, wrongParty, refusal}
 use Rattle.rules.specs.Step.{Outcome, step}
 use Rattle.rules.specs.Words.{view}
 use Rattle.rules.specs.Allowed.{Answered, Allowed}
-use Rattle.demands.specs.Machine.{Handed, theSpace, theRules, answeredBy}
-use Rattle.demands.specs.History.{EveryState}
+use Rattle.demands.specs.Machine.{Handed, Input, inputOf, theSpace, answeredBy, theRules}
+use Rattle.demands.specs.History.{inputsOf, EveryState}
 use Rattle.rules.proofs.ListLaws.{find-some, none-mem}
 use Rattle.rules.proofs.BoolLaws.{cond-cases, bool-cases, or-left, or-right}
 use Rattle.rules.proofs.RefusalLaws.{clear}
 use Rattle.rules.proofs.ReaderLaws.{bit-suc, no-bits}
 use Rattle.demands.proofs.AllLaws.{All}
 use Rattle.demands.proofs.HoldLaws.{not-so}
-use Rattle.demands.proofs.Runs.{Input, runs, made, made-keep}
-use Rattle.demands.proofs.ByRule.{space-follows, inputOf, run-of}
+use Rattle.demands.proofs.Runs.{runs, made, made-keep}
+use Rattle.demands.proofs.ByRule.{space-follows, run-of}
 use Rattle.demands.proofs.JudgedProof.{number-is, refused-model}
 use Rattle.demands.proofs.Events.{Heard, Events, over, then}
 use Rattle.demands.proofs.EventsProof.{step-events}
@@ -100,23 +100,23 @@ narrow-events p k (then {m} e rest) h =
     narrow-events p k rest
     (txns-all NarrowTxn e (λ _ _. (p, slot-fits (m .txns))) (h .0), waits-all NarrowWait e (λ _ _. (p, k)) (h .1))
 
-narrow-step : (i : Input) (m : Model) → Sound m × Narrow m → Narrow (step (i .choice) m (i .frame) (i .area) .model)
+narrow-step : (i : Input) (m : Model) → Sound m × Narrow m → Narrow (step m (i .frame) (i .area) .model)
 narrow-step i m (s, h) = go (bool-cases (eqb (refusal m (i .frame) (i .area)) 0))
   where
     go : (eqb (refusal m (i .frame) (i .area)) 0 ≡ true) ⊎ (eqb (refusal m (i .frame) (i .area)) 0 ≡ false)
-        → Narrow (step (i .choice) m (i .frame) (i .area) .model)
+        → Narrow (step m (i .frame) (i .area) .model)
     go (inl z) =
         let c = clear m (i .frame) (i .area) (eqb-true _ 0 z) in
         let f = decode (i .frame) in
-        let e = step-events (i .choice) m (i .frame) (i .area) (s .ordered .txns) in
+        let e = step-events m (i .frame) (i .area) (s .ordered .txns) in
         narrow-events (party-fits f (c .party)) (mask-fits f (c .form)) e h
-    go (inr z) = subst⁻¹ Narrow (refused-model (i .choice) m (i .frame) (i .area) (eqb-false _ 0 z)) h
+    go (inr z) = subst⁻¹ Narrow (refused-model m (i .frame) (i .area) (eqb-false _ 0 z)) h
 
 narrow : (is : List Input) → Narrow (made is)
 narrow is =
     made-keep (λ m. Sound m × Narrow m)
     (λ i m h. (
-      sound-events (step-events (i .choice) m (i .frame) (i .area) (h .0 .ordered .txns)) (h .0),
+      sound-events (step-events m (i .frame) (i .area) (h .0 .ordered .txns)) (h .0),
       narrow-step i
           m h,
     ))
@@ -145,47 +145,45 @@ unfolding runs
 space-begins = words-of empty (fits [])
 
 runs-snoc : (m : Model) (is : List Input) (i : Input)
-    → runs m (is ++ (i ∷ [])) .model ≡ step (i .choice) (runs m is .model) (i .frame) (i .area) .model
+    → runs m (is ++ (i ∷ [])) .model ≡ step (runs m is .model) (i .frame) (i .area) .model
 unfolding runs
 runs-snoc m [] i = refl
-runs-snoc m (j ∷ is) i = runs-snoc (step (j .choice) m (j .frame) (j .area) .model) is i
+runs-snoc m (j ∷ is) i = runs-snoc (step m (j .frame) (j .area) .model) is i
 
--- by the first choice, with words of the new model; a refused frame gives the same words back
+-- with words of the new model; a refused frame gives the same words back
 pub space-answers : EveryState theSpace
     (λ log t. (h : Handed) → (u : List ℕ) × (a : Answered) × theSpace .Steps t h u a)
 unfolding answeredBy
 space-answers log t r h = go (bool-cases (eqb (o .number) 0))
   where
-    first : ℕ → ℕ
-    first p = 0
-
     o : Outcome
-    o = step first (view t) (h .frame) (length (h .area))
+    o = step (view t) (h .frame) (length (h .area))
 
     new-fits : Fits (o .model)
     new-fits =
         let q = run-of theSpace space-follows r in
-        let i = inputOf h first in
-        subst⁻¹ (λ (m : Model). Fits (step first m (h .frame) (length (h .area)) .model)) (q .model)
-        (subst Fits (runs-snoc empty (q .inputs) i) (fits (q .inputs ++ (i ∷ []))))
+        let is = inputsOf r in
+        let i = inputOf h in
+        subst⁻¹ (λ (m : Model). Fits (step m (h .frame) (length (h .area)) .model)) (q .model)
+        (subst Fits (runs-snoc empty is i) (fits (is ++ (i ∷ []))))
 
     allowed : (u : List ℕ) → view u ≡ o .model → ((o .number ≡ 0 → ⊥) → u ≡ t)
         → Allowed t (h .frame) (h .area) u (answeredBy o (h .area))
     allowed u s k =
-        record { choice = first; space = s; records = refl; count = refl; number = refl; bytes = refl; unchanged = k }
+        record { space = s; records = refl; count = refl; number = refl; bytes = refl; unchanged = k }
 
     go : (eqb (o .number) 0 ≡ true) ⊎ (eqb (o .number) 0 ≡ false)
         → (u : List ℕ) × (a : Answered) × theSpace .Steps t h u a
     go (inl z) =
         let u = words-of (o .model) new-fits in (u .0, _, allowed (u .0) (u .1) (λ n. absurd (n (eqb-true _ 0 z))))
     go (inr z) =
-        let n = number-is first (view t) (h .frame) (length (h .area)) in
+        let n = number-is (view t) (h .frame) (length (h .area)) in
         let same =
-        refused-model first (view t) (h .frame) (length (h .area)) (λ e. eqb-false (o .number) 0 z (n ∙ e)) in
+        refused-model (view t) (h .frame) (length (h .area)) (λ e. eqb-false (o .number) 0 z (n ∙ e)) in
         (t, _, allowed t (sym same) (λ _. refl))
 
 pub rules-begin : (m : Model) × theRules .Empty m
 rules-begin = (empty, refl)
 
 pub rules-answer : EveryState theRules (λ log m. (h : Handed) → (n : Model) × (a : Answered) × theRules .Steps m h n a)
-rules-answer log m r h = (_, _, record { choice = λ p. 0; space = refl; answered = refl })
+rules-answer log m r h = (_, _, record { space = refl; answered = refl })

@@ -33,9 +33,10 @@ use Rattle.rules.specs.SerialRun.{Logged, wasRefused}
 use Rattle.rules.proofs.BoolLaws.{cond-cases, bool-cases}
 use Rattle.rules.proofs.ListLaws.{filter-mem, any-append, count, count-append, count-cons}
 use Rattle.rules.proofs.LayoutLaws.{abort-ends}
+use Rattle.demands.specs.Machine.{Input}
 use Rattle.demands.specs.Answers.{AnsweredNow, asked, NothingLeft, isTicked, closes}
 use Rattle.demands.specs.History.{recordsOf}
-use Rattle.demands.proofs.Runs.{Input, runs, made, answersTo, runs-keep as keep-runs}
+use Rattle.demands.proofs.Runs.{runs, made, answersTo, runs-keep as keep-runs}
 use Rattle.demands.proofs.AllLaws.{out-or}
 use Rattle.demands.proofs.HoldLaws.{equal-or, eqb-cases}
 use Rattle.demands.proofs.EachLaws.{Each, same-party}
@@ -45,6 +46,7 @@ use Rattle.demands.proofs.Becomes.{clock-moves}
 use Rattle.demands.proofs.EventsProof.{step-carries}
 use Rattle.demands.proofs.Sound.{Sound, not-inside}
 use Rattle.demands.proofs.SoundProof.{sound-event, Reader, Keeps, hearsAll, readsLog, reads-log, runs-keep}
+use Rattle.demands.proofs.SoundProof.{orderly}
 use Rattle.demands.proofs.SettledProof.{Stable, stable, stable-step}
 use Rattle.demands.proofs.OwnPartLaws.{answered-now}
 
@@ -55,13 +57,13 @@ each-asked m f s a =
     (λ _. s .each)
 
 -- a look-up that a step gives nothing has no available entry when the step is over
-pub nothing-left : (m : Model) → Stable m → (choice : ℕ → ℕ) (bs : List ℕ) (area : ℕ) → refusal m bs area ≡ 0
-    → NothingLeft (asked m (decode bs)) (step choice m bs area .records) (step choice m bs area .model)
+pub nothing-left : (m : Model) → Stable m → (bs : List ℕ) (area : ℕ) → refusal m bs area ≡ 0
+    → NothingLeft (asked m (decode bs)) (step m bs area .records) (step m bs area .model)
 unfolding nothing
-nothing-left m k choice bs area n w i j =
+nothing-left m k bs area n w i j =
     let s = k .sound-model in
-    let o = step choice m bs area in
-    let c = step-carries choice m bs area (s .ordered .txns) n in
+    let o = step m bs area in
+    let c = step-carries m bs area (s .ordered .txns) n in
     let r = c .1 .rested .closed (nothing w) j refl in
     subst (λ u. someAvailable (o .model .txns) u (o .model .entries) ≡ false)
     (same-party (each-asked m (decode bs) s (c .0)) (r .1) i (ap (λ (a : Record). a .party) (r .2))) (r .3)
@@ -191,7 +193,7 @@ closed m js w d k i q l =
     over = le-leb d (n .clock) (omega (arith, l, clock-counts m js (k .sound-model)))
 
 pub answersTo-cons : (m : Model) (i : Input) (is : List Input) → answersTo m (i ∷ is)
-    ≡ step (i .choice) m (i .frame) (i .area) .records ++ answersTo (step (i .choice) m (i .frame) (i .area) .model) is
+    ≡ step m (i .frame) (i .area) .records ++ answersTo (step m (i .frame) (i .area) .model) is
 unfolding answersTo recordsOf runs
 answersTo-cons m i is = refl
 
@@ -215,10 +217,10 @@ in-time is i js n l f h =
     timeout = decode (i .frame) .leaseOrTimeout
 
     o : Outcome
-    o = step (i .choice) m (i .frame) (i .area)
+    o = step m (i .frame) (i .area)
 
     a : AnsweredNow m w timeout (o .records) (o .model)
-    a = answered-now (i .choice) m (i .frame) (i .area) n l
+    a = answered-now m (i .frame) (i .area) (orderly is) n l
 
     p : Record → Bool
     p = closes (w .party) (w .txn .0)

@@ -1,14 +1,17 @@
 -- Lists that ascend by number: of what is left, renewed or added; each number stands once.
-use Prim.Native.Nat.{ℕ, _<_}
-use mathlib.Core.Bool.{Bool, true}
+use Prim.Native.Nat.{ℕ, _≤_, _<_}
+use mathlib.Core.Bool.{Bool, true, false, cond, true≢false}
+use mathlib.Core.Logic.{_⊎_, inl, inr}
+use mathlib.Core.Option.{some}
 use mathlib.Core.Path.{_≡_, refl, sym, ap, _∙_, subst⁻¹}
 use mathlib.Core.List.{List, [], _∷_, _++_, map, List·Memᴰ, List·Memᴰ·head, List·Memᴰ·tail, Memᴰ·map}
+use mathlib.Core.List.{List·Memᴰ·not-nil, List·Memᴰ·cases-cons}
 use native.Mathlib.Omega.{arith}
 use borrow.Author.Tests.{ne-eqb}
 use lib.Dec.{eqb}
-use Rattle.rules.specs.Lists.{filterb, distinct}
+use Rattle.rules.specs.Lists.{filterb, findb, distinct}
 use Rattle.rules.proofs.BoolLaws.{cond-cases}
-use Rattle.rules.proofs.ListLaws.{all-false}
+use Rattle.rules.proofs.ListLaws.{all-false, any-find, mem-any, find-some}
 use Rattle.demands.specs.Bounds.{Ascending}
 use Rattle.demands.proofs.AllLaws.{All, all-none, all-snoc, all-filter, all-map}
 
@@ -53,6 +56,32 @@ module _ {A : Type 0} (number : A → ℕ) where
   ascend-unique {x} {y} a (List·Memᴰ·tail i) (List·Memᴰ·head d) q =
       absurd (let l = a .0 (number x) (Memᴰ·map number i) in let same = ap number d in omega arith)
   ascend-unique a (List·Memᴰ·tail i) (List·Memᴰ·tail j) q = ascend-unique (a .1) i j q
+
+  -- the first that passes a test has the lowest number of those that do; and the one that has is the first
+  pub find-lowest : (p : A → Bool) {x y : A} (xs : List A) → Ascending (map number xs) → findb p xs ≡ some x
+      → List·Memᴰ y xs → p y ≡ true → number x ≤ number y
+  unfolding Ascending
+  find-lowest p [] a q i t = absurd (List·Memᴰ·not-nil i)
+  find-lowest p {x} {y} (z ∷ zs) a q i t = go (p z) refl q (List·Memᴰ·cases-cons i) (find-lowest p zs (a .1))
+    where
+      go : (b : Bool) → p z ≡ b → cond b (some z) (findb p zs) ≡ some x → (y ≡ z) ⊎ List·Memᴰ y zs
+          → (findb p zs ≡ some x → List·Memᴰ y zs → p y ≡ true → number x ≤ number y) → number x ≤ number y
+      go true e r (inl same) below = let s : x ≡ y = cc in rw s (omega arith)
+      go true e r (inr j) below =
+          let s : z ≡ x = cc in
+          let l = a .0 (number y) (Memᴰ·map number j) in
+          rw (sym s) (omega arith)
+      go false e r (inl same) below = absurd (true≢false (sym t ∙ ap p same ∙ e))
+      go false e r (inr j) below = below r j t
+
+  pub lowest-found : (p : A → Bool) {x : A} (xs : List A) → Ascending (map number xs) → List·Memᴰ x xs → p x ≡ true
+      → ((y : A) → List·Memᴰ y xs → p y ≡ true → number x ≤ number y) → findb p xs ≡ some x
+  lowest-found p {x} xs a i t low =
+      let r = any-find p xs (mem-any p i t) in
+      let f = find-some p xs (r .1) in
+      let one = low (r .0) (f .0) (f .1) in
+      let other = find-lowest p xs a (r .1) i t in
+      r .1 ∙ ap some (ascend-unique a (f .0) i (omega arith))
 
 pub ascending-distinct : (ns : List ℕ) → Ascending ns → distinct ns ≡ true
 unfolding Ascending distinct

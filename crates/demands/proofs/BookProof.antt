@@ -24,10 +24,11 @@ use Rattle.rules.specs.Transactions.{create, withoutTxn, commit, abort}
 use Rattle.rules.specs.Tick.{dropEnded}
 use Rattle.rules.proofs.LayoutLaws.{abort-ends}
 use Rattle.rules.proofs.ListLaws.{filter-filter, filter-pass, length-filter, count, count-cons, count-mem}
+use Rattle.demands.specs.Machine.{Input}
 use Rattle.demands.specs.Answers.{ofParty}
 use Rattle.demands.specs.Book.{LiveTold, Book, newBook, names, enters, entersAll, withAsked, arrives, keepBook}
 use Rattle.demands.specs.Book.{bookOf, Booked}
-use Rattle.demands.proofs.Runs.{Input, runs, made}
+use Rattle.demands.proofs.Runs.{runs, made}
 use Rattle.demands.proofs.AllLaws.{filter-map, Out, here, there}
 use Rattle.demands.proofs.HoldLaws.{not-so}
 use Rattle.demands.proofs.EachLaws.{Each}

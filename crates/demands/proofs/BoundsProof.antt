@@ -21,8 +21,9 @@ use Rattle.rules.proofs.BoolLaws.{bool-cases, and-left, and-right}
 use Rattle.rules.proofs.ListLaws.{any-mem, none-mem}
 use Rattle.rules.proofs.LayoutLaws.{write-leases, lookUp-leases, create-leases}
 use Rattle.rules.proofs.ReaderLaws.{bit-of-zero, no-bits}
+use Rattle.demands.specs.Machine.{Input}
 use Rattle.demands.specs.Bounds.{ByNumber, ReadByLive, OwnTakeHold, EndFits, Timely}
-use Rattle.demands.proofs.Runs.{Input, made}
+use Rattle.demands.proofs.Runs.{made}
 use Rattle.demands.proofs.AllLaws.{all-none}
 use Rattle.demands.proofs.HoldLaws.{equal-or, not-so, available-free}
 use Rattle.demands.proofs.Events.{Heard, Event}

@@ -22,9 +22,10 @@ use Rattle.rules.specs.Refusals.{refusal}
 use Rattle.rules.specs.Step.{step}
 use Rattle.rules.specs.SerialRun.{Kept, keptOf, wasRefused}
 use Rattle.rules.proofs.BoolLaws.{cond-cases}
+use Rattle.demands.specs.Machine.{Input}
 use Rattle.demands.specs.Bounds.{InRange, AllInRange, AreBytes}
 use Rattle.demands.specs.History.{recordsOf}
-use Rattle.demands.proofs.Runs.{Input, runs, answersTo}
+use Rattle.demands.proofs.Runs.{runs, answersTo}
 use Rattle.demands.proofs.AllLaws.{All, all-none, all-cons, all-append, out-mem}
 use Rattle.demands.proofs.Events.{Heard, asking, saying, heard, Event, refuses, asks, writes, is-found}
 use Rattle.demands.proofs.Events.{is-nothing, is-waiting, creates, commits, aborts, ticks, excepts, expires}
@@ -184,8 +185,8 @@ unfolding answersTo recordsOf runs
 runs-in m [] h s r = all-none InRange
 runs-in m (i ∷ is) h s r =
     let f = decode (i .frame) in
-    let o = step (i .choice) m (i .frame) (i .area) in
-    let e = step-events (i .choice) m (i .frame) (i .area) (s .ordered .txns) in
+    let o = step m (i .frame) (i .area) in
+    let e = step-events m (i .frame) (i .area) (s .ordered .txns) in
     let k = events-in (frame-in (i .frame) (h i (List·Memᴰ·head refl))) e s r in
     all-append (o .records) (λ a j. k .0 (saying a) (said f (o .records) a j))
     (runs-in (o .model) is (λ l j. h l (List·Memᴰ·tail j)) (sound-events e s) (k .1))

@@ -1,7 +1,6 @@
--- A space whose every step is one that the rules give with some choice: its histories are runs of the rules.
-use Prim.Native.Nat.{ℕ}
+-- A space whose every step is one that the rules give: its histories are runs of the rules.
 use mathlib.Core.Path.{_≡_, refl, sym, ap, ap₂, _∙_}
-use mathlib.Core.List.{List, [], _∷_}
+use mathlib.Core.List.{List, _∷_, map}
 use lib.ListN.{length}
 use Rattle.rules.specs.declared.Record.{Record}
 use Rattle.rules.specs.State.{Model, empty}
@@ -10,18 +9,17 @@ use Rattle.rules.specs.Records.{areaAfter}
 use Rattle.rules.specs.Step.{step}
 use Rattle.rules.specs.Allowed.{Answered}
 use Rattle.rules.specs.SerialRun.{Logged}
-use Rattle.demands.specs.Machine.{Handed, Machine, theSpace, answeredBy, theRules}
-use Rattle.demands.specs.History.{History, begun, handed, Made}
-use Rattle.demands.proofs.Runs.{Input, runs}
+use Rattle.demands.specs.Machine.{Handed, Input, inputOf, Machine, theSpace, answeredBy, theRules}
+use Rattle.demands.specs.History.{History, begun, handed, handedOf, Made, inputsOf}
+use Rattle.demands.proofs.Runs.{runs}
 use Rattle.demands.proofs.JudgedProof.{number-is, refused-model}
 
--- a step that the rules give, with the choice made
+-- a step that the rules give
 pub record ByRule (S : Machine) (s : S .State) (h : Handed) (t : S .State) (a : Answered) : Type 0 where
-  pub choice : ℕ → ℕ
-  pub space : S .view t ≡ step choice (S .view s) (h .frame) (length (h .area)) .model
-  pub records : a .records ≡ step choice (S .view s) (h .frame) (length (h .area)) .records
+  pub space : S .view t ≡ step (S .view s) (h .frame) (length (h .area)) .model
+  pub records : a .records ≡ step (S .view s) (h .frame) (length (h .area)) .records
   pub count : a .count ≡ length (a .records)
-  pub number : a .number ≡ step choice (S .view s) (h .frame) (length (h .area)) .number
+  pub number : a .number ≡ step (S .view s) (h .frame) (length (h .area)) .number
   pub bytes : a .area ≡ areaAfter (a .records) (h .area)
   pub unchanged : (a .number ≡ 0 → ⊥) → t ≡ s
 
@@ -36,7 +34,6 @@ space-follows =
       starts = λ s e. e;
       steps = λ s h t a p.
           record {
-            choice = p .choice;
             space = p .space;
             records = p .records;
             count = p .count;
@@ -52,11 +49,10 @@ rules-follow =
     record {
       starts = λ s e. e;
       steps = λ s h t a p.
-          let o = step (p .choice) s (h .frame) (length (h .area)) in
+          let o = step s (h .frame) (length (h .area)) in
           let number : a .number ≡ o .number = ap (λ (x : Answered). x .number) (p .answered) in
           let records : a .records ≡ o .records = ap (λ (x : Answered). x .records) (p .answered) in
           record {
-            choice = p .choice;
             space = p .space;
             records = records;
             count = ap (λ (x : Answered). x .count) (p .answered) ∙ ap length (sym records);
@@ -65,38 +61,32 @@ rules-follow =
                 ap (λ (x : Answered). x .area) (p .answered)
                 ∙ ap (λ (rs : List Record). areaAfter rs (h .area)) (sym records);
             unchanged = λ n.
-                p .space ∙ refused-model (p .choice) s (h .frame) (length (h .area))
-                (λ e. n (number ∙ number-is (p .choice) s (h .frame) (length (h .area)) ∙ e));
+                p .space ∙ refused-model s (h .frame) (length (h .area))
+                (λ e. n (number ∙ number-is s (h .frame) (length (h .area)) ∙ e));
           };
     }
 
--- the input of a step
-abbrev pub inputOf : Handed → (ℕ → ℕ) → Input
-inputOf h choice = record { frame = h .frame; area = length (h .area); choice = choice }
-
 -- a run from the model m with this log, to the model n
-pub record RunTo (m : Model) (log : List Logged) (n : Model) : Type 0 where
-  pub inputs : List Input
-  pub model : n ≡ runs m inputs .model
-  pub log-is : log ≡ runs m inputs .log
+pub record RunTo (m : Model) (is : List Input) (log : List Logged) (n : Model) : Type 0 where
+  pub model : n ≡ runs m is .model
+  pub log-is : log ≡ runs m is .log
 
 module _ (S : Machine) (f : Follows S) where
-  pub run-to : {s t : S .State} {log : List Logged} (m : Model) → S .view s ≡ m → History S s log t
-      → RunTo m log (S .view t)
-  unfolding runs
-  run-to m e (begun s) = record { inputs = []; model = e; log-is = refl }
+  pub run-to : {s t : S .State} {log : List Logged} (m : Model) → S .view s ≡ m → (r : History S s log t)
+      → RunTo m (map inputOf (handedOf r)) log (S .view t)
+  unfolding runs handedOf
+  run-to m e (begun s) = record { model = e; log-is = refl }
   run-to m e (handed {s} {t} {u} {log} h a p rest) =
       let q = f .steps s h t a p in
-      let o = step (q .choice) m (h .frame) (length (h .area)) in
-      let r = run-to (o .model) (q .space ∙ ap (λ n. step (q .choice) n (h .frame) (length (h .area)) .model) e) rest in
+      let o = step m (h .frame) (length (h .area)) in
+      let r = run-to (o .model) (q .space ∙ ap (λ n. step n (h .frame) (length (h .area)) .model) e) rest in
       record {
-        inputs = inputOf h (q .choice) ∷ r .inputs;
         model = r .model;
         log-is =
             ap₂ {C = List Logged} (λ (rs : List Record) l. record { frame = h .frame; records = rs } ∷ l)
-            (q .records ∙ ap (λ n. step (q .choice) n (h .frame) (length (h .area)) .records) e) (r .log-is);
+            (q .records ∙ ap (λ n. step n (h .frame) (length (h .area)) .records) e) (r .log-is);
       }
 
   -- a state that frames made is a run from the empty model
-  pub run-of : {t : S .State} {log : List Logged} → Made S log t → RunTo empty log (S .view t)
+  pub run-of : {t : S .State} {log : List Logged} (r : Made S log t) → RunTo empty (inputsOf r) log (S .view t)
   run-of r = run-to empty (f .starts (r .0) (r .1)) (r .2)

@@ -6,15 +6,14 @@ use Rattle.rules.specs.declared.Record.{Record}
 use Rattle.rules.specs.declared.LookUp.{LookUp}
 use Rattle.rules.specs.State.{Model, withWaits}
 use Rattle.rules.specs.Time.{reached}
-use Rattle.rules.specs.Holds.{available}
 use Rattle.rules.specs.Frame.{Frame, decode, isLookUp}
 use Rattle.rules.specs.Records.{found, nothing, waiting}
 use Rattle.rules.specs.LookUp.{lookUpOf}
 use Rattle.demands.specs.Machine.{theRules}
+use Rattle.demands.specs.Said.{Oldest}
 use Rattle.demands.specs.Answers.{AnsweredNow, asked, OneEach}
 use Rattle.demands.specs.Consequences.{ConsequencesFollow}
-use Rattle.rules.proofs.ListLaws.{mem-filter, filter-mem}
-use Rattle.demands.proofs.Twins.{Twins, some-same, asks-same, gives-same, available-same, available-in}
+use Rattle.demands.proofs.Twins.{Twins, some-same, asks-same, gives-same, oldest-back, available-in}
 use Rattle.demands.proofs.Twins.{found-same}
 use Rattle.demands.proofs.DeterminedProof.{rules-follow-on, made-snoc, twins, goes-on, determined-run, beside}
 
@@ -22,17 +21,14 @@ answered-twins : (f : Frame) {m n u o : Model} {rs : List Record} → Twins m n 
     → AnsweredNow n (lookUpOf n f) (f .leaseOrTimeout) rs o → AnsweredNow m (lookUpOf m f) (f .leaseOrTimeout) rs u
 answered-twins f {m} {n} {u} {o} {rs} t t′ a =
     let w = lookUpOf m f in
-    let w′ = lookUpOf n f in
     record {
       found-case = λ q.
           let x = a .found-case (sym (some-same f t) ∙ q) in
-          let i = mem-filter (available (n .txns) w′) (n .entries) (x .1) in
-          let e = t .entries .back (x .0) (i .0) in
-          let av : available (m .txns) w (e .0) ≡ true =
-          available-same (t .peers) w (e .0) (x .0) (e .2) ∙ ap (λ v. available (n .txns) v (x .0)) (asks-same f t)
-          ∙ i .1 in (
+          let e = t .entries .back (x .0) (x .1 .stored) in
+          let o : Oldest (n .txns) w (n .entries) (x .0) =
+          subst⁻¹ (λ v. Oldest (n .txns) v (n .entries) (x .0)) (asks-same f t) (x .1) in (
             e .0,
-            filter-mem (available (m .txns) w) (e .1) av,
+            oldest-back (t .peers) (t .entries) w (e .2) (e .1) o,
             x .2
                 ∙ ap (λ (r : Record). r ∷ []) (ap (λ v. found v (x .0)) (sym (asks-same f t))
                 ∙ sym (found-same w (e .2))),

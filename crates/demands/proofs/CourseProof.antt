@@ -1,5 +1,5 @@
--- The course's examples: the starred ones for every choice, the others, a frame for each refusal, and the students'
--- mistakes.
+-- The course's examples: the starred ones, the others, a frame for each refusal, the students' mistakes, and the oldest
+-- mark first.
 use Prim.Native.Nat.{ℕ, _+_, _*_}
 use mathlib.Core.Path.{_≡_, refl}
 use mathlib.Core.Bool.{true, false}
@@ -21,39 +21,36 @@ use Rattle.demands.specs.Frames.{Refused}
 use Rattle.demands.specs.Course.{answersFrom, answers, Starred}
 use Rattle.demands.proofs.Computed.{all-rules, all-trays}
 
-pub starred : (choices : ℕ → ℕ → ℕ) → Starred choices
+pub starred : Starred
 unfolding all-rules answers answersFrom
-starred choices =
+starred =
     record { c1 = refl; c2 = refl; c3 = refl; c4 = refl; c5 = refl; c6 = refl; c7 = refl; c8 = refl }
 
 -- the answers to the frames behind the first n
-abbrev later : ℕ → (ℕ → ℕ → ℕ) → List (List ℕ) → List (List Record)
-later n choices fs = drop n (answers choices fs)
-
-abbrev first : ℕ → ℕ → ℕ
-first i p = 0
+abbrev later : ℕ → List (List ℕ) → List (List Record)
+later n fs = drop n (answers fs)
 
 -- 64 stored: write gives 11, with lease 0 it is written; after one take outside transactions, written
-c9 : later 64 first (times 64 (write-by 1 0 9 E)
+c9 : later 64 (times 64 (write-by 1 0 9 E)
     ++ (write-by 1 0 9 E ∷ write-by 1 0 0 E ∷ take-by 1 0 0 7 ∷ write-by 1 0 9 E ∷ []))
     ≡ (Refused 1 11 ∷ []) ∷ (Written 1 0 65 ∷ []) ∷ (Found 1 0 1 E ∷ []) ∷ (Written 1 0 66 ∷ []) ∷ []
 unfolding all-rules answers answersFrom
 c9 = refl
 
 -- 27-byte write: 3; 28: taken up
-c10 : answers first (take 27 (write-by 1 0 9 E) ∷ write-by 1 0 9 E ∷ []) ≡ (Refused 1 3 ∷ []) ∷ (Written 1 0 1 ∷ [])
+c10 : answers (take 27 (write-by 1 0 9 E) ∷ write-by 1 0 9 E ∷ []) ≡ (Refused 1 3 ∷ []) ∷ (Written 1 0 1 ∷ [])
     ∷ []
 unfolding all-rules answers answersFrom
 c10 = refl
 
 -- second commit: 7. Another's commit: 8
-c11-12 : answers first (create-by 1 9 ∷ commit-by 2 1 ∷ commit-by 1 1 ∷ commit-by 1 1 ∷ [])
+c11-12 : answers (create-by 1 9 ∷ commit-by 2 1 ∷ commit-by 1 1 ∷ commit-by 1 1 ∷ [])
     ≡ (Created 1 1 ∷ []) ∷ (Refused 2 8 ∷ []) ∷ (Committed 1 1 ∷ []) ∷ (Refused 1 7 ∷ []) ∷ []
 unfolding all-rules answers answersFrom
 c11-12 = refl
 
 -- lease 4294967294 at clock 0 is taken up, at clock 1 gives 10
-c13 : answers first (write-by 1 0 4294967294 E ∷ a-tick ∷ write-by 1 0 4294967294 E ∷ write-by 1 0 forever E ∷ [])
+c13 : answers (write-by 1 0 4294967294 E ∷ a-tick ∷ write-by 1 0 4294967294 E ∷ write-by 1 0 forever E ∷ [])
     ≡ (Written 1 0 1 ∷ []) ∷ (Ticked ∷ []) ∷ (Refused 1 10 ∷ []) ∷ (Written 1 0 2 ∷ []) ∷ []
 unfolding all-rules answers answersFrom
 c13 = refl
@@ -66,21 +63,21 @@ sample =
     ++ write-by 1 0 5 E ++ take-by 2 0 0 7 ++ a-tick
 
 -- the host's number and the records of a tray, with an answers area of a length
-unfoldable pub trayAnswers : (ℕ → ℕ → ℕ) → List ℕ → ℕ → ℕ × List Record
-trayAnswers choices tray area = let o = runTray choices tray area in (hostNumber o, o .records)
+unfoldable pub trayAnswers : List ℕ → ℕ → ℕ × List Record
+trayAnswers tray area = let o = runTray tray area in (hostNumber o, o .records)
 
-sample-run : trayAnswers first sample 65536 ≡ (3 + 65536 * 3, Written 1 0 1 ∷ Found 2 0 1 E ∷ Ticked ∷ [])
+sample-run : trayAnswers sample 65536 ≡ (3 + 65536 * 3, Written 1 0 1 ∷ Found 2 0 1 E ∷ Ticked ∷ [])
 unfolding all-trays sample trayAnswers
 sample-run = refl
 
 -- it stops with 1 before a frame for which under 700 bytes are left
-sample-short : trayAnswers first sample 755 ≡ (2 + 65536 * 2 + 4294967296, Written 1 0 1 ∷ Found 2 0 1 E ∷ [])
+sample-short : trayAnswers sample 755 ≡ (2 + 65536 * 2 + 4294967296, Written 1 0 1 ∷ Found 2 0 1 E ∷ [])
 unfolding all-trays sample trayAnswers
 sample-short = refl
 
 -- and what the program prints of it, as ASCII: "1 1 0 0 1 0 0 0 0", "2 2 0 0 1 7 1 40 9", "9 0 0 0 0 0 0 0 0", "done 3
 -- 3 0"
-sample-printed : printed (runTray first sample 65536)
+sample-printed : printed (runTray sample 65536)
     ≡ (49 ∷ 32 ∷ 49 ∷ 32 ∷ 48 ∷ 32 ∷ 48 ∷ 32 ∷ 49 ∷ 32 ∷ 48 ∷ 32 ∷ 48 ∷ 32 ∷ 48 ∷ 32 ∷ 48 ∷ 10 ∷ [])
     ++ (50 ∷ 32 ∷ 50 ∷ 32 ∷ 48 ∷ 32 ∷ 48 ∷ 32 ∷ 49 ∷ 32 ∷ 55 ∷ 32 ∷ 49 ∷ 32 ∷ 52 ∷ 48 ∷ 32 ∷ 57 ∷ 10 ∷ [])
     ++ (57 ∷ 32 ∷ 48 ∷ 32 ∷ 48 ∷ 32 ∷ 48 ∷ 32 ∷ 48 ∷ 32 ∷ 48 ∷ 32 ∷ 48 ∷ 32 ∷ 48 ∷ 32 ∷ 48 ∷ 10 ∷ [])
@@ -90,7 +87,7 @@ sample-printed = refl
 
 -- the records and the number that one frame gets, in any model, with an answers area of a length
 unfoldable pub oneAnswer : Model → List ℕ → ℕ → List Record × ℕ
-oneAnswer m f area = let o = step (λ p. 0) m f area in (o .records, o .number)
+oneAnswer m f area = let o = step m f area in (o .records, o .number)
 
 -- a model, a frame and the number that it is refused with
 abbrev Case : Type 0
@@ -105,12 +102,12 @@ abbrev Story : Type 0
 Story = ℕ × List (List ℕ) × ℕ × ℕ
 
 abbrev Ends-with : List Story → Type 0
-Ends-with stories = map (λ (s : Story). later (s .0) first (s .1)) stories
+Ends-with stories = map (λ (s : Story). later (s .0) (s .1)) stories
     ≡ map (λ (s : Story). (Refused (s .2) (s .3) ∷ []) ∷ []) stories
 
 -- a tray, the length of its area, and the number that it is refused with
 abbrev Trays-refused : List (List ℕ × ℕ × ℕ) → Type 0
-Trays-refused cases = map (λ (c : List ℕ × ℕ × ℕ). trayAnswers first (c .0) (c .1)) cases
+Trays-refused cases = map (λ (c : List ℕ × ℕ × ℕ). trayAnswers (c .0) (c .1)) cases
     ≡ map (λ (c : List ℕ × ℕ × ℕ). (4294967296 * c .2, [])) cases
 
 -- a waiting look-up of party 1
@@ -198,22 +195,39 @@ refused-trays = refl
 -- the mistakes that students make, as histories that the rules answer rightly
 pub record Mistakes : Type 0 where
   -- an entry is not put back on abort after its lease ended
-  pub put-back : later 4 first (write-by 1 0 1 E ∷ create-by 1 9 ∷ take-by 1 1 0 7 ∷ a-tick ∷ abort-by 1 1
+  pub put-back : later 4 (write-by 1 0 1 E ∷ create-by 1 9 ∷ take-by 1 1 0 7 ∷ a-tick ∷ abort-by 1 1
       ∷ read-by 2 0 0 7 ∷ [])
       ≡ (Aborted 1 1 ∷ []) ∷ (Nothing 2 0 ∷ []) ∷ []
   -- a transaction's own read does not bar its own take
-  pub own-read : later 3 first (write-by 1 0 9 E ∷ create-by 1 9 ∷ read-by 1 1 0 7 ∷ take-by 1 1 0 7 ∷ [])
+  pub own-read : later 3 (write-by 1 0 9 E ∷ create-by 1 9 ∷ read-by 1 1 0 7 ∷ take-by 1 1 0 7 ∷ [])
       ≡ (Found 1 1 1 E ∷ []) ∷ []
   -- service comes before nothing in the tick of the deadline: T1's abort by that tick serves the take
-  pub nothing-last : later 4 first (write-by 1 0 9 E ∷ create-by 1 1 ∷ take-by 1 1 0 7 ∷ take-by 2 0 1 7 ∷ a-tick ∷ [])
+  pub nothing-last : later 4 (write-by 1 0 9 E ∷ create-by 1 1 ∷ take-by 1 1 0 7 ∷ take-by 2 0 1 7 ∷ a-tick ∷ [])
       ≡ (Ticked ∷ Exception 1 1 ∷ Found 2 0 1 E ∷ []) ∷ []
   -- another's private entry is not shown to a waiting look-up
-  pub private : later 1 first (take-by 2 0 9 7 ∷ create-by 1 9 ∷ write-by 1 1 9 E ∷ write-by 3 0 9 (F 8 0 0 0) ∷ [])
+  pub private : later 1 (take-by 2 0 9 7 ∷ create-by 1 9 ∷ write-by 1 1 9 E ∷ write-by 3 0 9 (F 8 0 0 0) ∷ [])
       ≡ (Created 1 1 ∷ []) ∷ (Written 1 1 1 ∷ []) ∷ (Written 3 0 2 ∷ []) ∷ []
 
 mistakes : Mistakes
 unfolding all-rules answers answersFrom
 mistakes = record { put-back = refl; own-read = refl; nothing-last = refl; private = refl }
+
+-- "Oldest mark first": E is written three times, as the entries 1, 2 and 3
+pub record Oldest-first : Type 0 where
+  -- at once: a read and a take find 1, then 2 is the oldest; T1 takes it, so another finds 3, and 2 when T1 has aborted
+  pub at-once : later 3 (times 3 (write-by 1 0 9 E)
+      ++ (read-by 2 0 0 7 ∷ take-by 2 0 0 7 ∷ create-by 1 9 ∷ take-by 1 1 0 7 ∷ read-by 2 0 0 7 ∷ abort-by 1 1
+      ∷ read-by 2 0 0 7 ∷ []))
+      ≡ (Found 2 0 1 E ∷ []) ∷ (Found 2 0 1 E ∷ []) ∷ (Created 1 1 ∷ []) ∷ (Found 1 1 2 E ∷ [])
+      ∷ (Found 2 0 3 E ∷ []) ∷ (Aborted 1 1 ∷ []) ∷ (Found 2 0 2 E ∷ []) ∷ []
+  -- in service: T1's three entries are committed; the takes of 3 and then of 2, by arrival, get 1 and 2
+  pub served : later 6 (take-by 3 0 9 7 ∷ take-by 2 0 9 7 ∷ create-by 1 9 ∷ times 3 (write-by 1 1 9 E)
+      ++ (commit-by 1 1 ∷ read-by 4 0 0 7 ∷ []))
+      ≡ (Committed 1 1 ∷ Found 3 0 1 E ∷ Found 2 0 2 E ∷ []) ∷ (Found 4 0 3 E ∷ []) ∷ []
+
+oldest-first : Oldest-first
+unfolding all-rules answers answersFrom
+oldest-first = record { at-once = refl; served = refl }
 
 -- the bytes of a record
 found-bytes : recordBytes (Found 2 0 1 (F 7 1 40 258))

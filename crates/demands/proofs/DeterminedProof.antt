@@ -1,4 +1,4 @@
--- Every history of a space that meets demands 1 and 2 is one of the rules; so demand 3 follows.
+-- A space that meets demands 1 and 2 answers as the rules do; so demand 3 follows.
 use Prim.Native.Nat.{ℕ, suc, _*_, _≤_, _<_}
 use mathlib.Core.Bool.{true, false, _||_}
 use mathlib.Core.Logic.{_⊎_, inl, inr, ⊎-elim}
@@ -26,25 +26,26 @@ use Rattle.rules.specs.Step.{Outcome, step, accepted}
 use Rattle.rules.specs.Allowed.{Answered}
 use Rattle.rules.specs.SerialRun.{Logged, Kept, keptOf, Run, committedIn, numbersOf}
 use Rattle.demands.specs.Machine.{Handed, Machine, answeredBy, theRules}
-use Rattle.demands.specs.History.{logged, History, begun, handed, Made}
+use Rattle.demands.specs.History.{logged, History, begun, handed, handedOf, answersOf, Made, inputsOf}
 use Rattle.demands.specs.Judged.{Judged}
 use Rattle.demands.specs.Book.{LiveTold, Book, Booked}
 use Rattle.demands.specs.Told.{Told, AsTold, Explained}
 use Rattle.demands.specs.Bounds.{Ascending}
 use Rattle.demands.specs.Demands.{Demand1, Demand2, Demand3}
 use Rattle.demands.specs.Consequences.{Consequences}
-use Rattle.demands.specs.Determined.{Determined, ThirdFollows}
+use Rattle.demands.specs.Determined.{ruled, Determined, ThirdFollows}
 use Rattle.rules.proofs.ListLaws.{mem-any}
 use Rattle.rules.proofs.BoolLaws.{bool-cases}
 use Rattle.rules.proofs.DistinctLaws.{distinct-filter}
 use Rattle.demands.proofs.AscendingLaws.{ascend-unique}
 use Rattle.demands.proofs.Sound.{TxnsOk, Sound, cover}
-use Rattle.demands.proofs.SoundProof.{sound}
+use Rattle.demands.proofs.OrderLaws.{InOrder}
+use Rattle.demands.proofs.SoundProof.{sound, orderly}
 use Rattle.demands.proofs.ByRule.{rules-follow, run-of}
 use Rattle.demands.proofs.Follows.{follows-2, follows-3, follow-on}
 use Rattle.demands.proofs.JudgedProof.{number-is, refused-record, no-record}
 use Rattle.demands.proofs.OwnPartLaws.{step-accepted}
-use Rattle.demands.proofs.SaidProof.{each-once, said-given}
+use Rattle.demands.proofs.SaidProof.{said-given}
 use Rattle.demands.proofs.Twins.{same-test, cond-both, Matched, matched-filter, matched-map, SameLive, live-ind}
 use Rattle.demands.proofs.Twins.{other-live, Like, Twins, some-same, gives-same, said-twins}
 
@@ -203,7 +204,7 @@ module _ (S : Machine) (d1 : Demand1 S) (d2 : Demand2 S) where
         let r = run-of theRules rules-follow run in
         twins-told (S .view t) n (d2 .booked log t made) (rules-2 .booked log n run) (d2 .told log t made)
         (rules-2 .told log n run)
-        (subst⁻¹ Sound (r .model) (sound (r .inputs)))
+        (subst⁻¹ Sound (r .model) (sound (inputsOf run)))
 
     same-length : length (S .view t .entries) ≡ length (n .entries)
     same-length =
@@ -215,6 +216,9 @@ module _ (S : Machine) (d1 : Demand1 S) (d2 : Demand2 S) where
         no-more (n .entries) (S .view t .entries) (λ x e l. sym (ap (λ (k : Kept). k .number) (l .kept)))
         (rules-2 .told log n run .once) (h .back) in
         omega arith
+
+    stands : InOrder n
+    stands = subst⁻¹ InOrder (run-of theRules rules-follow run .model) (orderly (inputsOf run))
 
     same-refusal : (h : Handed)
         → refusal (S .view t) (h .frame) (length (h .area)) ≡ refusal n (h .frame) (length (h .area))
@@ -230,59 +234,46 @@ module _ (S : Machine) (d1 : Demand1 S) (d2 : Demand2 S) where
       number : a .number ≡ code
       number = judged .first-row ∙ same-refusal h
 
-      -- a choice with which the rules write the same records
-      same-records : (choice : ℕ → ℕ) × (a .records ≡ step choice n (h .frame) (length (h .area)) .records)
+      -- the rules write the same records
+      same-records : a .records ≡ step n (h .frame) (length (h .area)) .records
       unfolding accepted
       same-records = go (bool-cases (eqb code 0)) (bool-cases (eqb code 1))
         where
           go : (eqb code 0 ≡ true) ⊎ (eqb code 0 ≡ false) → (eqb code 1 ≡ true) ⊎ (eqb code 1 ≡ false)
-              → (choice : ℕ → ℕ) × (a .records ≡ step choice n (h .frame) (length (h .area)) .records)
+              → a .records ≡ step n (h .frame) (length (h .area)) .records
           go (inl z) k =
               let none = eqb-true _ 0 z in
-              let c =
-              said-given (said-twins twins (d2 .said log t u h a made p (same-refusal h ∙ none)))
-              (each-once (n .waits) (rules-follow-on .one-each log n run)) in (
-                c .0,
-                sym (c .1) ∙ ap (λ (o : Outcome). o .records)
-                    (sym (step-accepted (c .0) n (h .frame) (length (h .area)) none)),
-              )
+              sym (said-given (said-twins twins (d2 .said log t u h a made p (same-refusal h ∙ none))) stands)
+              ∙ ap (λ (o : Outcome). o .records) (sym (step-accepted n (h .frame) (length (h .area)) none))
           go (inr z) (inl k) =
-              let one = eqb-true _ 1 k in (
-                (λ x. 0),
-                judged .no-record (number ∙ one)
-                    ∙ sym (no-record (λ x. 0) n (h .frame) (length (h .area)) one),
-              )
+              let one = eqb-true _ 1 k in
+              judged .no-record (number ∙ one) ∙ sym (no-record n (h .frame) (length (h .area)) one)
           go (inr z) (inr k) =
               let some-number = eqb-false _ 0 z in
-              let not-one = eqb-false _ 1 k in (
-                (λ x. 0),
-                judged .one-record (λ e. some-number (sym number ∙ e)) (λ e. not-one (sym number ∙ e))
-                    ∙ ap (λ i. refused (h .frame) i ∷ []) number
-                    ∙ sym (refused-record (λ x. 0) n (h .frame) (length (h .area)) some-number not-one),
-              )
+              let not-one = eqb-false _ 1 k in
+              judged .one-record (λ e. some-number (sym number ∙ e)) (λ e. not-one (sym number ∙ e))
+              ∙ ap (λ i. refused (h .frame) i ∷ []) number
+              ∙ sym (refused-record n (h .frame) (length (h .area)) some-number not-one)
 
-      next : (o : Model) × theRules .Steps n h o a
+      next : theRules .Steps n h (step n (h .frame) (length (h .area)) .model) a
       next =
-          let c = same-records in (
-            step (c .0) n (h .frame) (length (h .area)) .model,
-            record {
-              choice = c .0;
-              space = refl;
-              answered =
-                  answer-is a (step (c .0) n (h .frame) (length (h .area))) (h .area) (c .1)
-                  (d2 .counted log t u h a made p) (number ∙ sym (number-is (c .0) n (h .frame) (length (h .area))))
-                  (area-is (a .records) (h .area) (a .area) (judged .written) (judged .kept));
-            },
-          )
+          record {
+            space = refl;
+            answered =
+                answer-is a (step n (h .frame) (length (h .area))) (h .area) same-records
+                (d2 .counted log t u h a made p) (number ∙ sym (number-is n (h .frame) (length (h .area))))
+                (area-is (a .records) (h .area) (a .area) (judged .written) (judged .kept));
+          }
 
-  -- a history goes on in the rules as it does in the space
+  -- a history goes on in the rules as it does in the space, and every answer is theirs
   pub goes-on : {s t : S .State} {before log : List Logged} {n : Model} → Made S before s → Made theRules before n
-      → History S s log t → (m : Model) × History theRules n log m
-  goes-on {n = n} made run (begun s) = (n, begun n)
+      → (r : History S s log t) → (m : Model) × History theRules n log m × (answersOf r ≡ ruled n (handedOf r))
+  unfolding answersOf handedOf ruled
+  goes-on {n = n} made run (begun s) = (n, begun n, refl)
   goes-on made run (handed h a p rest) =
       let o = next made run p in
-      let r = goes-on (made-snoc S made p) (made-snoc theRules run (o .1)) rest in
-      (r .0, handed h a (o .1) (r .1))
+      let r = goes-on (made-snoc S made p) (made-snoc theRules run o) rest in
+      (r .0, handed h a o (r .1), ap₂ {C = List Answered} (λ x l. x ∷ l) (o .answered) (r .2))
 
   pub determined-run : {log : List Logged} {t : S .State} → Made S log t → (m : Model) × Made theRules log m
   determined-run (s, e, r) = let q = goes-on (s, e, begun s) (empty, refl, begun empty) r in (q .0, (empty, refl, q .1))
@@ -304,18 +295,17 @@ module _ (S : Machine) (d1 : Demand1 S) (d2 : Demand2 S) where
       let o = next made (r .1) p in
       record {
         before = r .0;
-        after = o .0;
+        after = _;
         run = r .1;
-        steps = o .1;
+        steps = o;
         here = twins made (r .1);
-        there = twins (made-snoc S made p) (made-snoc theRules (r .1) (o .1));
+        there = twins (made-snoc S made p) (made-snoc theRules (r .1) o);
         carried = same-refusal made (r .1) h;
       }
 
 pub every-history : Determined
 unfolding Determined
-every-history S d1 d2 log t made =
-    let r = determined-run S d1 d2 made in (r .0, r .1, λ h u a p. next S d1 d2 made (r .1) p)
+every-history S d1 d2 log t (s, e, r) = goes-on S d1 d2 (s, e, begun s) (empty, refl, begun empty) r .2
 
 -- ---- what is committed in twins is the same
 

@@ -16,10 +16,10 @@ use Rattle.rules.specs.declared.Txn.{Txn}
 use Rattle.rules.specs.declared.LookUp.{LookUp}
 use Rattle.rules.specs.declared.Until.{Until}
 use Rattle.rules.specs.Numbers.{forever, lastClock, maxTxns, areaRefused, kindRefused, kindFound, kindNothing}
-use Rattle.rules.specs.Lists.{filterb, pick}
+use Rattle.rules.specs.Lists.{filterb}
 use Rattle.rules.specs.Time.{until, reached}
 use Rattle.rules.specs.State.{Model, withEntries, withWaits}
-use Rattle.rules.specs.Holds.{liveTxn, availableTo, someAvailable, someConflicts}
+use Rattle.rules.specs.Holds.{liveTxn, available, oldest, someAvailable, someConflicts}
 use Rattle.rules.specs.Frame.{Frame, decode, isWrite, isLookUp, isCreate, isTick, hasLeaseOrTimeout, isOperation}
 use Rattle.rules.specs.Frame.{serves}
 use Rattle.rules.specs.Records.{written, found, nothing, waiting, created, committed, aborted, exception, ticked}
@@ -36,7 +36,7 @@ use Rattle.rules.specs.Step.{Outcome, commitFrame, abortFrame, finish, carriedO
 use Rattle.rules.specs.SerialRun.{wasRefused}
 use Rattle.rules.proofs.BoolLaws.{cond-cases, bool-cases, and-left, and-right, or-left, or-right, or-cases}
 use Rattle.rules.proofs.BoolLaws.{and-false-right}
-use Rattle.rules.proofs.ListLaws.{filter-mem, none-mem, find-some}
+use Rattle.rules.proofs.ListLaws.{filter-mem, none-mem, none-any, find-some}
 use Rattle.rules.proofs.LayoutLaws.{write-not-tick, lookUp-not-tick, create-not-tick, commit-not-tick, abort-not-tick}
 use Rattle.rules.proofs.LayoutLaws.{tick-serves, lookUp-serves, finish-quiet}
 use Rattle.rules.proofs.StepCases.{own-cases, serve-ind}
@@ -50,7 +50,7 @@ use Rattle.demands.proofs.Events.{LiveOf, Ordered, Admitted, Heard, say
 use Rattle.demands.proofs.Events.{writes, is-found, is-nothing, is-waiting, creates, commits, aborts, ticks}
 use Rattle.demands.proofs.Events.{excepts, expires, Events, over, then, join}
 use Rattle.demands.proofs.Becomes.{waits-all}
-use Rattle.demands.proofs.Unavailable.{picked, pick-nothing, serve-settled}
+use Rattle.demands.proofs.Unavailable.{serve-settled}
 use Rattle.demands.proofs.AscendingLaws.{ascend-filter}
 
 -- a lease or timeout other than 0 is not over as it starts, and one of 0 is
@@ -122,15 +122,15 @@ abbrev Lifts : (List LookUp → List LookUp) → Type 0
 Lifts pre = (x : LookUp) (ys zs : List LookUp) → Out x ys zs → Out x (pre ys) (pre zs)
 
 module _ (f : Frame) where
-  pub service-events : (choice : ℕ → ℕ) (m : Model) → Part f m (service choice m)
+  pub service-events : (m : Model) → Part f m (service m)
   unfolding service
-  service-events choice m =
-      serve-ind choice (m .txns)
+  service-events m =
+      serve-ind (m .txns)
       (λ es ws r. (pre : List LookUp → List LookUp) → Lifts pre → Events f (withEntries es (withWaits (pre ws) m))
       (map saying (r .records)) (withEntries (r .entries) (withWaits (pre (r .waits)) m))) (λ es pre l. over)
       (λ es w ws q below pre l. below (λ vs. pre (w ∷ vs)) (λ x ys zs o. l x (w ∷ ys) (w ∷ zs) (there o)))
       (λ es w ws x q below pre l.
-      let s = picked (choice (w .party)) (m .txns) w es x q in
+      let s = find-some (available (m .txns) w) es q in
       let o = l w (w ∷ ws) ws (here ws) in
       then (is-found (withEntries es (withWaits (pre (w ∷ ws)) m)) w x (pre ws) o (s .0) (s .1)) (below pre l))
       (m .entries) (m .waits) (λ ws. ws) (λ x ys zs o. o)
@@ -203,12 +203,12 @@ abbrev pub Closed : List LookUp → Record → Model → Type 0
 Closed ws a n = (w : LookUp) × List·Memᴰ w ws × (nothing w ≡ a) × (someAvailable (n .txns) w (n .entries) ≡ false)
 
 -- service hands out what lasts, and says nothing but found
-serve-lasting : (choice : ℕ → ℕ) (clock : ℕ) (ts : List Txn) (es : List Entry) (ws : List LookUp)
+serve-lasting : (clock : ℕ) (ts : List Txn) (es : List Entry) (ws : List LookUp)
     → All (λ e. reached clock (e .end) ≡ false) es
-    → All (λ e. reached clock (e .end) ≡ false) (serve choice ts es ws .entries)
+    → All (λ e. reached clock (e .end) ≡ false) (serve ts es ws .entries)
 unfolding handOut
-serve-lasting choice clock ts =
-    serve-ind choice ts (λ es ws r. All lasts es → All lasts (r .entries)) (λ es h. h) (λ es w ws q below. below)
+serve-lasting clock ts =
+    serve-ind ts (λ es ws r. All lasts es → All lasts (r .entries)) (λ es h. h) (λ es w ws q below. below)
     (λ es w ws e q below h. below
     (cond-cases (All lasts) (removes w e) (λ _. all-filter (λ x. not (isEntry e x)) es (λ x i _. h x i))
     (λ _. all-map lasts (λ x. cond (isEntry e x) (marked ts w x) x) es
@@ -217,11 +217,11 @@ serve-lasting choice clock ts =
     lasts : Entry → Type 0
     lasts e = reached clock (e .end) ≡ false
 
-serve-founds : (choice : ℕ → ℕ) (ts : List Txn) (es : List Entry) (ws : List LookUp)
-    → All (λ a. a .kind ≡ kindFound) (serve choice ts es ws .records)
+serve-founds : (ts : List Txn) (es : List Entry) (ws : List LookUp)
+    → All (λ a. a .kind ≡ kindFound) (serve ts es ws .records)
 unfolding found
-serve-founds choice ts =
-    serve-ind choice ts (λ es ws r. All (λ a. a .kind ≡ kindFound) (r .records))
+serve-founds ts =
+    serve-ind ts (λ es ws r. All (λ a. a .kind ≡ kindFound) (r .records))
     (λ es. all-none (λ a. a .kind ≡ kindFound)) (λ es w ws q below. below) (λ es w ws x q below. all-cons refl below)
 
 -- no look-up waits that did not wait before
@@ -233,27 +233,27 @@ events-waits {f} {m} z (then e t) w i =
     (events-waits z t w i)
 
 -- what a frame finishes with
-module _ (choice : ℕ → ℕ) (f : Frame) (m : Model) where
+module _ (f : Frame) (m : Model) where
   abbrev ended : Done
   ended = cond (isTick (f .op)) (lapsed m) (quiet m)
 
   abbrev served : Done
-  served = cond (serves f) (service choice (ended .model)) (quiet (ended .model))
+  served = cond (serves f) (service (ended .model)) (quiet (ended .model))
 
   abbrev closed : Done
   closed = cond (isTick (f .op)) (closeWaits (served .model)) (quiet (served .model))
 
   service-settles : serves f ≡ true → NoneFor (served .model)
   unfolding service
-  service-settles t = rw t (serve-settled choice (ended .model .txns) (ended .model .entries) (ended .model .waits))
+  service-settles t = rw t (serve-settled (ended .model .txns) (ended .model .entries) (ended .model .waits))
 
   module _ (ordered : isTick (f .op) ≡ true → Ordered (m .txns)) where
     until-served : Events f m (map saying (ended .records) ++ map saying (served .records)) (served .model)
     until-served =
         join (cond-cases (Part f m) (isTick (f .op)) (λ t. lapsed-events f t m (ordered t)) (λ _. over))
-        (cond-cases (Part f (ended .model)) (serves f) (λ _. service-events f choice (ended .model)) (λ _. over))
+        (cond-cases (Part f (ended .model)) (serves f) (λ _. service-events f (ended .model)) (λ _. over))
 
-    finish-events : Part f m (finish choice f m)
+    finish-events : Part f m (finish f m)
     unfolding finish
     finish-events =
         rw (map-append, map-append) (join until-served
@@ -262,14 +262,14 @@ module _ (choice : ℕ → ℕ) (f : Frame) (m : Model) where
 
     -- what is given nothing waited, and has no available entry now
     finish-closes : isLookUp (f .op) ≡ false
-        → All (λ a. a .kind ≡ kindNothing → Closed (m .waits) a (finish choice f m .model)) (finish choice f m .records)
+        → All (λ a. a .kind ≡ kindNothing → Closed (m .waits) a (finish f m .model)) (finish f m .records)
     unfolding finish closeWaits lapsed exception service
     finish-closes z =
         all-append (ended .records ++ served .records) (all-append (ended .records)
         (cond-cases (λ (d : Done). All Q (d .records)) (isTick (f .op))
         (λ _. all-map Q exception (endedTxns m) (λ t i (k : 8 ≡ 3). absurd (omega arith))) (λ _. all-none Q))
         (cond-cases (λ (d : Done). All Q (d .records)) (serves f)
-        (λ _ a i k. absurd (let l = serve-founds choice (ended .model .txns) (ended .model .entries)
+        (λ _ a i k. absurd (let l = serve-founds (ended .model .txns) (ended .model .entries)
         (ended .model .waits) a i in omega arith)) (λ _. all-none Q)))
         (cond-cases (λ (d : Done). All (λ a. a .kind ≡ kindNothing → Closed (m .waits) a (d .model)) (d .records))
         (isTick (f .op))
@@ -282,25 +282,25 @@ module _ (choice : ℕ → ℕ) (f : Frame) (m : Model) where
         Q a = a .kind ≡ kindNothing → Closed (m .waits) a (closed .model)
 
   -- after service nobody who waits has an available entry; after a tick nothing is past its end
-  finish-settles : serves f ≡ true → NoneFor (finish choice f m .model)
+  finish-settles : serves f ≡ true → NoneFor (finish f m .model)
   unfolding finish closeWaits
   finish-settles t =
       cond-cases (λ (d : Done). NoneFor (d .model)) (isTick (f .op))
       (λ _. all-filter (λ w. not (reached (served .model .clock) (w .deadline))) (served .model .waits)
       (λ w i _. service-settles t w i)) (λ _. service-settles t)
 
-  finish-opens : isTick (f .op) ≡ true → OpenIn (finish choice f m .model)
+  finish-opens : isTick (f .op) ≡ true → OpenIn (finish f m .model)
   unfolding finish closeWaits
   finish-opens t =
       cond-cases (λ (d : Done). OpenIn (d .model)) (isTick (f .op))
       (λ _. all-filter (λ w. not (reached (served .model .clock) (w .deadline))) (served .model .waits)
       (λ w i r. not-true _ r)) (λ z. absurd (true≢false (sym t ∙ z)))
 
-  finish-lasts : isTick (f .op) ≡ true → Lasting (finish choice f m .model)
+  finish-lasts : isTick (f .op) ≡ true → Lasting (finish f m .model)
   unfolding finish closeWaits service lapsed dropEnded
   finish-lasts t =
       let left = abortAll (endedTxns m) m in
-      rw (t, tick-serves f t) (serve-lasting choice (left .clock) (left .txns) _ (left .waits)
+      rw (t, tick-serves f t) (serve-lasting (left .clock) (left .txns) _ (left .waits)
       (all-filter (λ e. not (reached (left .clock) (e .end))) (left .entries) (λ e i r. not-true _ r)))
 
 -- what holds when a frame is carried out
@@ -320,24 +320,24 @@ pub record Carries (f : Frame) (m : Model) (rs : List Record) (n : Model) : Type
   pub rested : Rested f m rs n
 
 -- a frame's own part, and what it finishes with
-module _ (choice : ℕ → ℕ) (f : Frame) (m : Model) (a : Admitted f m)
+module _ (f : Frame) (m : Model) (a : Admitted f m)
     (ordered : Ordered (m .txns)) where
   abbrev Whole : Carried → Type 0
-  Whole c = Carries f m (c .own ∷ finish choice f (c .model) .records) (finish choice f (c .model) .model)
+  Whole c = Carries f m (c .own ∷ finish f (c .model) .records) (finish f (c .model) .model)
 
   plain : (c : Carried) → isLookUp (f .op) ≡ false → (c .own .kind ≡ kindNothing → ⊥)
       → (isTick (f .op) ≡ true → Ordered (c .model .txns)) → Event f m (saying (c .own) ∷ []) (c .model) → Whole c
   unfolding asked
   plain c z k o e =
       record {
-        events = rw z (then e (finish-events choice f (c .model) o));
+        events = rw z (then e (finish-events f (c .model) o));
         rested = record {
-          settled = finish-settles choice f (c .model);
-          ahead = finish-opens choice f (c .model);
-          lasting = finish-lasts choice f (c .model);
+          settled = finish-settles f (c .model);
+          ahead = finish-opens f (c .model);
+          lasting = finish-lasts f (c .model);
           waits-well = λ t. absurd (true≢false (sym t ∙ z));
           closed = rw z (all-cons (λ q. absurd (k q))
-              (λ b i q. let r = finish-closes choice f (c .model) o z b i q in
+              (λ b i q. let r = finish-closes f (c .model) o z b i q in
               (r .0, events-waits z (then e over) (r .0) (r .1), r .2, r .3)));
         };
       }
@@ -354,7 +354,7 @@ module _ (choice : ℕ → ℕ) (f : Frame) (m : Model) (a : Admitted f m)
   unfolding wasRefused asked
   answered c t z e well shut =
       let k = lookUp-not-tick (f .op) t in
-      let quiet-after = finish-quiet choice f (c .model) k (lookUp-serves f t) in
+      let quiet-after = finish-quiet f (c .model) k (lookUp-serves f t) in
       subst⁻¹ (λ (d : Done). Carries f m (c .own ∷ d .records) (d .model)) quiet-after
       (record {
         events = rw (t, z) (then (asks m t a) (then e over));
@@ -367,16 +367,16 @@ module _ (choice : ℕ → ℕ) (f : Frame) (m : Model) (a : Admitted f m)
         };
       })
 
-  look-up : isLookUp (f .op) ≡ true → (k : ℕ) (o : Option Entry)
-      → pick k (availableTo (m .txns) (lookUpOf m f) (m .entries)) ≡ o
+  look-up : isLookUp (f .op) ≡ true → (o : Option Entry)
+      → oldest (m .txns) (lookUpOf m f) (m .entries) ≡ o
       → Whole (answer m (lookUpOf m f) (f .leaseOrTimeout) o)
   unfolding answer answerFound answerNothing answerWaiting givesNothing lookUpOf found nothing waiting
-  look-up t k (some x) q =
-      let s = picked k (m .txns) (lookUpOf m f) (m .entries) x q in
+  look-up t (some x) q =
+      let s = find-some (available (m .txns) (lookUpOf m f)) (m .entries) q in
       answered (answerFound m (lookUpOf m f) x) t refl
       (is-found grown (lookUpOf m f) x (m .waits) (out-last (m .waits) (lookUpOf m f)) (s .0) (s .1))
       (λ v i p. absurd (a .free v i p)) (λ (p : 2 ≡ 3). absurd (omega arith))
-  look-up t k none q =
+  look-up t none q =
       cond-cases Whole (givesNothing m w timeout) (λ g. answered (answerNothing m w) t refl
       (is-nothing grown w (m .waits) (out-last (m .waits) w) nobody (reason g))
       (λ v i p. absurd (a .free v i p)) (λ _. (w, there-last, refl, nobody)))
@@ -396,7 +396,7 @@ module _ (choice : ℕ → ℕ) (f : Frame) (m : Model) (a : Admitted f m)
       there-last = Memᴰ·append-right (m .waits) (List·Memᴰ·head refl)
 
       nobody : someAvailable (m .txns) w (m .entries) ≡ false
-      nobody = pick-nothing k (m .txns) w (m .entries) q
+      nobody = none-any (available (m .txns) w) (m .entries) q
 
       reason : givesNothing m w timeout ≡ true → Closes f grown w
       reason g =
@@ -408,13 +408,13 @@ module _ (choice : ℕ → ℕ) (f : Frame) (m : Model) (a : Admitted f m)
                 (and-right (w .«if_exists») _ z),
           )) (or-cases (eqb timeout 0) _ g)
 
-  pub carries : isOperation (f .op) ≡ true → Carries f m (carriedOut choice m f .records) (carriedOut choice m f .model)
+  pub carries : isOperation (f .op) ≡ true → Carries f m (carriedOut m f .records) (carriedOut m f .model)
   unfolding carriedOut write lookUp create commitFrame abortFrame tick written created committed aborted ticked
   carries is =
       let w = lookUpOf m f in
-      own-cases Whole choice m f is (λ t. plain (write m f) (rw (eqb-true (f .op) 1 t)) (λ (k : 1 ≡ 3). omega arith)
+      own-cases Whole m f is (λ t. plain (write m f) (rw (eqb-true (f .op) 1 t)) (λ (k : 1 ≡ 3). omega arith)
       (not-now (write-not-tick (f .op) t)) (writes m t a))
-      (λ t. look-up t (choice (w .party)) (pick (choice (w .party)) (availableTo (m .txns) w (m .entries))) refl)
+      (λ t. look-up t (oldest (m .txns) w (m .entries)) refl)
       (λ t. plain (create m f) (rw (eqb-true (f .op) 6 t)) (λ (k : 5 ≡ 3). omega arith)
       (not-now (create-not-tick (f .op) t)) (creates m t a))
       (λ t. plain (commitFrame m f) (rw (eqb-true (f .op) 7 t)) (λ (k : 6 ≡ 3). omega arith)
@@ -427,27 +427,27 @@ module _ (choice : ℕ → ℕ) (f : Frame) (m : Model) (a : Admitted f m)
       not-now z t = absurd (true≢false (sym t ∙ z))
 
 -- a frame that is not refused
-pub step-carries : (choice : ℕ → ℕ) (m : Model) (bs : List ℕ) (area : ℕ) → Ordered (m .txns) → refusal m bs area ≡ 0
-    → Admitted (decode bs) m × Carries (decode bs) m (step choice m bs area .records) (step choice m bs area .model)
+pub step-carries : (m : Model) (bs : List ℕ) (area : ℕ) → Ordered (m .txns) → refusal m bs area ≡ 0
+    → Admitted (decode bs) m × Carries (decode bs) m (step m bs area .records) (step m bs area .model)
 unfolding step accepted
-step-carries choice m bs area ordered e =
+step-carries m bs area ordered e =
     let c = clear m bs area e in
     let a = admitted m bs area c in
-    rw e (a, carries choice (decode bs) m a ordered (is-one bs (c .operation)))
+    rw e (a, carries (decode bs) m a ordered (is-one bs (c .operation)))
 
 -- every step: one that is carried out, or refused
 pub data StepIs (f : Frame) (m : Model) (rs : List Record) (n : Model) : Type 0 where
   is-carried : Admitted f m → Carries f m rs n → StepIs f m rs n
   is-refused : Events f m (heard f rs) n → n ≡ m → StepIs f m rs n
 
-pub step-is : (choice : ℕ → ℕ) (m : Model) (bs : List ℕ) (area : ℕ) → Ordered (m .txns)
-    → StepIs (decode bs) m (step choice m bs area .records) (step choice m bs area .model)
+pub step-is : (m : Model) (bs : List ℕ) (area : ℕ) → Ordered (m .txns)
+    → StepIs (decode bs) m (step m bs area .records) (step m bs area .model)
 unfolding step accepted refusedWith wasRefused refused
-step-is choice m bs area ordered =
+step-is m bs area ordered =
     cond-cases (λ (o : Outcome). StepIs f m (o .records) (o .model)) (eqb n 0)
     (λ e. let c = clear m bs area (eqb-true n 0 e) in
     let a = admitted m bs area c in
-    is-carried a (carries choice f m a ordered (is-one bs (c .operation)))) (λ _. is-refused
+    is-carried a (carries f m a ordered (is-one bs (c .operation)))) (λ _. is-refused
     (cond-cases (λ (rs : List Record). Events f m (heard f rs) m) (eqb n areaRefused) (λ _. rw and-false over)
     (λ _. rw and-false (then (refuses m bs area refl) over))) refl)
   where
@@ -457,9 +457,9 @@ step-is choice m bs area ordered =
     n : ℕ
     n = refusal m bs area
 
-pub step-events : (choice : ℕ → ℕ) (m : Model) (bs : List ℕ) (area : ℕ) → Ordered (m .txns)
-    → Events (decode bs) m (heard (decode bs) (step choice m bs area .records)) (step choice m bs area .model)
-step-events choice m bs area o = go (step-is choice m bs area o)
+pub step-events : (m : Model) (bs : List ℕ) (area : ℕ) → Ordered (m .txns)
+    → Events (decode bs) m (heard (decode bs) (step m bs area .records)) (step m bs area .model)
+step-events m bs area o = go (step-is m bs area o)
   where
     go : {n : Model} {rs : List Record} → StepIs (decode bs) m rs n → Events (decode bs) m (heard (decode bs) rs) n
     go (is-carried a c) = c .events

@@ -3,7 +3,7 @@ use Prim.Native.Nat.{ℕ, _*_, _≤_}
 use mathlib.Core.Bool.{true, false}
 use mathlib.Core.Logic.{_⊎_, inl, inr, ⊎-elim}
 use mathlib.Core.Path.{_≡_, refl, sym, ap, ap₂, _∙_, subst, subst⁻¹}
-use mathlib.Core.List.{List, [], _∷_, _++_, List·Memᴰ, List·Memᴰ·head, List·Memᴰ·tail, List·Memᴰ·not-nil}
+use mathlib.Core.List.{List, [], _∷_, _++_, map, List·Memᴰ, List·Memᴰ·head, List·Memᴰ·tail, List·Memᴰ·not-nil}
 use mathlib.Core.List.{List·Memᴰ·cases-cons}
 use native.Mathlib.Omega.{arith}
 use borrow.Author.Tests.{ltb-true, ltb-false}
@@ -20,8 +20,8 @@ use Rattle.rules.specs.Refusals.{refusal}
 use Rattle.rules.specs.Step.{Outcome, step}
 use Rattle.rules.specs.Allowed.{Answered}
 use Rattle.rules.specs.SerialRun.{Logged, serialRun, Serial}
-use Rattle.demands.specs.Machine.{Handed, frameIn, Machine}
-use Rattle.demands.specs.History.{recordsOf, History, Made, EveryState, EveryStep}
+use Rattle.demands.specs.Machine.{Handed, frameIn, Input, inputOf, Machine}
+use Rattle.demands.specs.History.{recordsOf, History, handedOf, Made, inputsOf, EveryState, EveryStep}
 use Rattle.demands.specs.Judged.{CarriedOut, Judged}
 use Rattle.demands.specs.Answers.{AnsweredNow, asked, NothingLeft, isTicked, closes}
 use Rattle.demands.specs.Said.{Said}
@@ -33,12 +33,14 @@ use Rattle.demands.specs.Bounds.{ByNumber, Timely, ReadByLive, OwnTakeHo
 use Rattle.rules.proofs.BoolLaws.{bool-cases}
 use Rattle.rules.proofs.Capacity.{step-fits}
 use Rattle.rules.proofs.AreaLaws.{area-length, area-front, area-rest}
-use Rattle.demands.proofs.Runs.{Input, runs, made, answersTo}
-use Rattle.demands.proofs.ByRule.{ByRule, Follows, inputOf, run-to, run-of}
+use Rattle.demands.proofs.Runs.{runs, made, answersTo}
+use Rattle.demands.proofs.ByRule.{ByRule, Follows, run-to, run-of}
 use Rattle.demands.proofs.Capacities.{bounded}
 use Rattle.demands.proofs.JudgedProof.{number-is, one-is, refused-record, no-record}
 use Rattle.demands.proofs.OwnPartLaws.{answered-now}
 use Rattle.demands.proofs.BoundsProof.{numbers-ascend, timely, readers-are-live, own-take-hold}
+use Rattle.demands.proofs.OrderLaws.{InOrder}
+use Rattle.demands.proofs.SoundProof.{orderly}
 use Rattle.demands.proofs.SaidProof.{step-said}
 use Rattle.demands.proofs.SettledProof.{Stable, stable}
 use Rattle.demands.proofs.AnswersProof.{nothing-left, in-time, answersTo-cons}
@@ -48,17 +50,17 @@ use Rattle.demands.proofs.ToldProof.{told-demand}
 use Rattle.demands.proofs.SerialRunProof.{serializes}
 
 -- the records of a step fit its area
-records-room : (choice : ℕ → ℕ) (m : Model) (bs : List ℕ) (area : ℕ) → Bounded m
-    → 28 * length (step choice m bs area .records) ≤ area
-records-room choice m bs area b = go (bool-cases (ltb area 700))
+records-room : (m : Model) (bs : List ℕ) (area : ℕ) → Bounded m
+    → 28 * length (step m bs area .records) ≤ area
+records-room m bs area b = go (bool-cases (ltb area 700))
   where
-    go : (ltb area 700 ≡ true) ⊎ (ltb area 700 ≡ false) → 28 * length (step choice m bs area .records) ≤ area
+    go : (ltb area 700 ≡ true) ⊎ (ltb area 700 ≡ false) → 28 * length (step m bs area .records) ≤ area
     go (inl t) =
-        let none = no-record choice m bs area (one-is m bs area .1 (ltb-true area 700 t)) in
+        let none = no-record m bs area (one-is m bs area .1 (ltb-true area 700 t)) in
         omega (arith, ap (λ (rs : List Record). length rs) none)
     go (inr t) =
         let l = ltb-false area 700 t in
-        omega (arith, step-fits choice m bs area b .1)
+        omega (arith, step-fits m bs area b .1)
 
 -- what holds of the frames of a log holds of the frames handed in
 frames-in : (m : Model) (is : List Input) (P : List ℕ → Type 0)
@@ -68,7 +70,7 @@ unfolding runs
 frames-in m [] P h i j = absurd (List·Memᴰ·not-nil j)
 frames-in m (k ∷ is) P h i j =
     ⊎-elim (λ e. subst⁻¹ (λ (x : Input). P (x .frame)) e (h _ (List·Memᴰ·head refl)))
-    (λ l. frames-in (step (k .choice) m (k .frame) (k .area) .model) is P (λ x y. h x (List·Memᴰ·tail y)) i l)
+    (λ l. frames-in (step m (k .frame) (k .area) .model) is P (λ x y. h x (List·Memᴰ·tail y)) i l)
     (List·Memᴰ·cases-cons j)
 
 -- Of any space whose steps the rules give.
@@ -76,18 +78,19 @@ module _ (S : Machine) (f : Follows S) where
   -- what holds of every run's model holds of every state that frames made
   of-made : (P : Model → Type 0) → ((is : List Input) → P (made is)) → {log : List Logged} {t : S .State} → Made S log t
       → P (S .view t)
-  of-made P h r = let q = run-of S f r in subst⁻¹ P (q .model) (h (q .inputs))
+  of-made P h r = let q = run-of S f r in subst⁻¹ P (q .model) (h (inputsOf r))
 
   -- and so with its log
   of-log : (P : List Logged → Model → Type 0) → ((is : List Input) → P (runs empty is .log) (made is))
       → EveryState S (λ log t. P log (S .view t))
   of-log P h log t r =
       let q = run-of S f r in
-      subst⁻¹ (λ l. P l (S .view t)) (q .log-is) (subst⁻¹ (P (runs empty (q .inputs) .log)) (q .model) (h (q .inputs)))
+      let is = inputsOf r in
+      subst⁻¹ (λ l. P l (S .view t)) (q .log-is) (subst⁻¹ (P (runs empty is .log)) (q .model) (h is))
 
   -- what the rules give; what holds of its records and its model holds of what is answered
   abbrev given : {t u : S .State} {h : Handed} {a : Answered} → ByRule S t h u a → Outcome
-  given {t} {u} {h} q = step (q .choice) (S .view t) (h .frame) (length (h .area))
+  given {t} {u} {h} q = step (S .view t) (h .frame) (length (h .area))
 
   of-step : (P : S .State → Handed → List Record → Model → Type 0)
       → ((log : List Logged) (t u : S .State) (h : Handed) (a : Answered) → Made S log t → (q : ByRule S t h u a)
@@ -103,17 +106,17 @@ module _ (S : Machine) (f : Follows S) where
       let q = f .steps t h u a p in
       let m = S .view t in
       let n = length (h .area) in
-      let number : a .number ≡ refusal m (h .frame) n = q .number ∙ number-is (q .choice) m (h .frame) n in
-      let fits = records-room (q .choice) m (h .frame) n (of-made Bounded bounded r) in
+      let number : a .number ≡ refusal m (h .frame) n = q .number ∙ number-is m (h .frame) n in
+      let fits = records-room m (h .frame) n (of-made Bounded bounded r) in
       let room : 28 * length (a .records) ≤ n = subst⁻¹ (λ (rs : List Record). 28 * length rs ≤ n) (q .records) fits in
       record {
         first-row = number;
         unchanged = q .unchanged;
         one-record = λ x y.
             q .records
-            ∙ refused-record (q .choice) m (h .frame) n (λ e. x (number ∙ e)) (λ e. y (number ∙ e))
+            ∙ refused-record m (h .frame) n (λ e. x (number ∙ e)) (λ e. y (number ∙ e))
             ∙ ap (λ k. refused (h .frame) k ∷ []) (sym number);
-        no-record = λ e. q .records ∙ no-record (q .choice) m (h .frame) n (sym number ∙ e);
+        no-record = λ e. q .records ∙ no-record m (h .frame) n (sym number ∙ e);
         too-short = ((λ e. one-is m (h .frame) n .0 (sym number ∙ e)), (λ l. number ∙ one-is m (h .frame) n .1 l));
         same-length = ap length (q .bytes) ∙ area-length (a .records) (h .area) room;
         written = ap (take (28 * length (a .records))) (q .bytes) ∙ area-front (a .records) (h .area);
@@ -130,7 +133,7 @@ module _ (S : Machine) (f : Follows S) where
   follows-2 =
       record {
         said = of-step (λ t h rs m. CarriedOut S t h → Said (frameIn h) (S .view t) rs)
-            (λ log t u h a r q. step-said (q .choice) (S .view t) (h .frame) (length (h .area)));
+            (λ log t u h a r q. step-said (S .view t) (h .frame) (length (h .area)) (of-made InOrder orderly r));
         counted = λ log t u h a r p. f .steps t h u a p .count;
         booked = of-log (λ l m. Booked (bookOf l) m) book-demand;
         told = of-log (λ l m. Explained (serialRun l) m) told-demand;
@@ -152,19 +155,20 @@ module _ (S : Machine) (f : Follows S) where
   closed-in-time log t u h a r p later v rest n l d =
       let q = f .steps t h u a p in
       let is = run-of S f r in
-      let m = made (is .inputs) in
-      let i = inputOf h (q .choice) in
-      let o : Model → Outcome = λ k. step (q .choice) k (h .frame) (length (h .area)) in
+      let m = made (inputsOf r) in
+      let i = inputOf h in
+      let rest-in = map inputOf (handedOf rest) in
+      let o : Model → Outcome = λ k. step k (h .frame) (length (h .area)) in
       let js = run-to S f (o m .model) (q .space ∙ ap (λ k. o k .model) (is .model)) rest in
-      let same : answersTo m (i ∷ js .inputs) ≡ a .records ++ recordsOf later =
-      answersTo-cons m i (js .inputs)
+      let same : answersTo m (i ∷ rest-in) ≡ a .records ++ recordsOf later =
+      answersTo-cons m i rest-in
       ∙ ap₂ (λ (x y : List Record). x ++ y) (sym (q .records ∙ ap (λ k. o k .records) (is .model)))
       (ap recordsOf (sym (js .log-is))) in
       subst
       (λ (rs : List Record). frameIn h .leaseOrTimeout ≤ length (filterb isTicked rs)
       → anyb (closes (frameIn h .party) (frameIn h .txn)) rs ≡ true)
       same
-      (in-time (is .inputs) i (js .inputs) (subst (λ k. refusal k (h .frame) (length (h .area)) ≡ 0) (is .model) n) l d)
+      (in-time (inputsOf r) i rest-in (subst (λ k. refusal k (h .frame) (length (h .area)) ≡ 0) (is .model) n) l d)
 
   pub follow-on : Consequences S
   follow-on =
@@ -172,16 +176,16 @@ module _ (S : Machine) (f : Follows S) where
         found-exactly = of-step
             (λ t h rs m. CarriedOut S t h → isLookUp (frameIn h .op) ≡ true
             → AnsweredNow (S .view t) (lookUpOf (S .view t) (frameIn h)) (frameIn h .leaseOrTimeout) rs m)
-            (λ log t u h a r q. answered-now (q .choice) (S .view t) (h .frame) (length (h .area)));
+            (λ log t u h a r q. answered-now (S .view t) (h .frame) (length (h .area)) (of-made InOrder orderly r));
         nothing-only = of-step (λ t h rs m. CarriedOut S t h → NothingLeft (asked (S .view t) (frameIn h)) rs m)
-            (λ log t u h a r q. nothing-left (S .view t) (of-made Stable stable r) (q .choice) (h .frame)
+            (λ log t u h a r q. nothing-left (S .view t) (of-made Stable stable r) (h .frame)
             (length (h .area)));
         in-time = closed-in-time;
         settled = λ log t r.
             let s = of-made Stable stable r in record { none-available = s .none-for; not-reached = s .ahead };
         one-each = λ log t r. of-made Stable stable r .sound-model .each;
         few = of-step (λ t h rs m. length rs ≤ 25)
-            (λ log t u h a r q. step-fits (q .choice) (S .view t) (h .frame) (length (h .area))
+            (λ log t u h a r q. step-fits (S .view t) (h .frame) (length (h .area))
             (of-made Bounded bounded r) .1);
       }
 
@@ -198,5 +202,5 @@ module _ (S : Machine) (f : Follows S) where
             let q = run-of S f r in
             let bytes = subst (λ (l : List Logged). (x : Logged) → List·Memᴰ x l → AreBytes (x .frame)) (q .log-is) h in
             subst⁻¹ (λ l. AllInRange (recordsOf l)) (q .log-is)
-            (range-demand (q .inputs) (frames-in empty (q .inputs) AreBytes bytes));
+            (range-demand (inputsOf r) (frames-in empty (inputsOf r) AreBytes bytes));
       }

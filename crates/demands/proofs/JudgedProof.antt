@@ -48,34 +48,34 @@ one-is m bs area = (
 )
 
 -- the number is the refusal's
-pub number-is : (choice : ℕ → ℕ) (m : Model) (bs : List ℕ) (area : ℕ)
-    → step choice m bs area .number ≡ refusal m bs area
+pub number-is : (m : Model) (bs : List ℕ) (area : ℕ)
+    → step m bs area .number ≡ refusal m bs area
 unfolding step accepted refusedWith
-number-is choice m bs area =
+number-is m bs area =
     cond-cases (λ (o : Outcome). o .number ≡ refusal m bs area) (eqb (refusal m bs area) 0) (λ e. sym (eqb-true _ 0 e))
     (λ e. refl)
 
-module _ (choice : ℕ → ℕ) (m : Model) (bs : List ℕ) (area : ℕ) where
+module _ (m : Model) (bs : List ℕ) (area : ℕ) where
   -- a frame with a number is refused
-  step-refused : (refusal m bs area ≡ 0 → ⊥) → step choice m bs area ≡ refusedWith m bs (refusal m bs area)
+  step-refused : (refusal m bs area ≡ 0 → ⊥) → step m bs area ≡ refusedWith m bs (refusal m bs area)
   unfolding step accepted
   step-refused h =
       cond-cases (λ (o : Outcome). o ≡ refusedWith m bs (refusal m bs area)) (eqb (refusal m bs area) 0)
       (λ e. absurd (h (eqb-true _ 0 e))) (λ e. refl)
 
-  pub refused-model : (refusal m bs area ≡ 0 → ⊥) → step choice m bs area .model ≡ m
+  pub refused-model : (refusal m bs area ≡ 0 → ⊥) → step m bs area .model ≡ m
   unfolding refusedWith
   refused-model h = ap (λ (o : Outcome). o .model) (step-refused h)
 
   refused-records : (refusal m bs area ≡ 0 → ⊥)
-      → step choice m bs area .records
+      → step m bs area .records
       ≡ cond (eqb (refusal m bs area) areaRefused) [] (refused bs (refusal m bs area) ∷ [])
   unfolding refusedWith
   refused-records h = ap (λ (o : Outcome). o .records) (step-refused h)
 
   pub refused-record : (refusal m bs area ≡ 0 → ⊥) → (refusal m bs area ≡ areaRefused → ⊥)
-      → step choice m bs area .records ≡ refused bs (refusal m bs area) ∷ []
+      → step m bs area .records ≡ refused bs (refusal m bs area) ∷ []
   refused-record h k = refused-records h ∙ rw (ne-eqb (refusal m bs area) areaRefused k)
 
-  pub no-record : refusal m bs area ≡ areaRefused → step choice m bs area .records ≡ []
+  pub no-record : refusal m bs area ≡ areaRefused → step m bs area .records ≡ []
   no-record h = refused-records (λ z. omega arith) ∙ rw (eq-eqb (refusal m bs area) areaRefused h)

@@ -6,6 +6,7 @@ pub mod AscendingLaws
 pub mod EachLaws
 pub mod HoldLaws
 pub mod HolderLaws
+pub mod OrderLaws
 pub mod OwnPartLaws
 -- runs of the rules, and histories carried to them
 pub mod Runs
@@ -43,6 +44,7 @@ pub mod Follows
 -- no other space meets them, and what follows for any that does
 pub mod Twins
 pub mod DeterminedProof
+pub mod FixedProof
 pub mod ConsequencesProof
 -- trays, the course's examples, wrong spaces
 pub mod TraysProof

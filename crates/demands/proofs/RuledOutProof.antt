@@ -1,13 +1,16 @@
 -- Each wrong space fails the demand named for it, by a concrete history.
-use Prim.Native.Nat.{ℕ}
-use mathlib.Core.Bool.{true≢false}
+use Prim.Native.Nat.{ℕ, _<_}
+use mathlib.Core.Bool.{Bool, true, not, _&&_, true≢false}
 use mathlib.Core.Path.{_≡_, refl, sym, ap}
 use mathlib.Core.List.{List, [], _∷_, map, List·Memᴰ·head, List·Memᴰ·not-nil}
 use native.Mathlib.Omega.{arith}
+use borrow.Author.Tests.{ltb-true, leb-false, not-true}
+use lib.Dec.{leb, ltb}
 use lib.ListN.{length, replicate, getD}
+use Rattle.rules.specs.declared.Entry.{Entry}
 use Rattle.rules.specs.declared.Record.{Record}
 use Rattle.rules.specs.declared.Until.the-variants.{Tick}
-use Rattle.rules.specs.Lists.{distinct}
+use Rattle.rules.specs.Lists.{anyb}
 use Rattle.rules.specs.State.{Model, empty}
 use Rattle.rules.specs.Frame.{decode}
 use Rattle.rules.specs.Refusals.{refusal}
@@ -19,47 +22,50 @@ use Rattle.rules.specs.SerialRun.{followLog, serialRun, left, committedIn, Seri
 use Rattle.demands.specs.Machine.{Handed, Stepper, StepsBy, answeredBy, spaceOf}
 use Rattle.demands.specs.History.{History, begun, handed, Made}
 use Rattle.demands.specs.Told.{Told, readsNumber, whoTakes, whoReads, committedTold, privateTold, told}
+use Rattle.demands.specs.Bounds.{Ascending}
 use Rattle.demands.specs.Demands.{Demand2, Demand3}
 use Rattle.demands.specs.Frames.{E, write-by, read-by, take-by, create-by, commit-by, abort-by, a-tick}
 use Rattle.demands.specs.RuledOut.{saysNothing, saysWaiting, refusesAll, sameRecord, storesNothing}
 use Rattle.demands.specs.RuledOut.{firstFrameOnly, oneMore, losesCommit, putsBackLate, ownReadBars, nothingFirst}
 use Rattle.demands.specs.RuledOut.{showsPrivate, ignoresWrites, writesTwice, ticksAtWrites, neverExpires}
-use Rattle.demands.specs.RuledOut.{lastExceptionFirst, lastServedFirst, servesEnded, RuledOut}
-use Rattle.demands.proofs.SaidProof.{Once, said-given}
+use Rattle.demands.specs.RuledOut.{lastExceptionFirst, lastServedFirst, servesEnded, newestFirst}
+use Rattle.demands.specs.RuledOut.{newestInService, RuledOut}
+use Rattle.rules.proofs.ListLaws.{none-mem}
+use Rattle.rules.proofs.BoolLaws.{and-left, and-right}
+use Rattle.demands.proofs.AllLaws.{all-none, all-cons, all-map}
+use Rattle.demands.proofs.OrderLaws.{Numbered}
+use Rattle.demands.proofs.SaidProof.{said-given}
 use Rattle.demands.proofs.Computed.{all-rules}
 
--- the frames of a history are handed in with areas of 700 bytes, and the first choice is made
-abbrev choice : ℕ → ℕ
-choice p = 0
-
+-- the frames of a history are handed in with areas of 700 bytes
 abbrev handIn : List ℕ → Handed
 handIn f = record { frame = f; area = replicate 700 0 }
 
 -- what a space makes of a list of frames, and its log
 unfoldable pub lastOf : Stepper → Model → List (List ℕ) → Model
 lastOf does m [] = m
-lastOf does m (f ∷ fs) = lastOf does (does choice m f 700 .model) fs
+lastOf does m (f ∷ fs) = lastOf does (does m f 700 .model) fs
 
 unfoldable pub logOf : Stepper → Model → List (List ℕ) → List Logged
 logOf does m [] = []
 logOf does m (f ∷ fs) =
-    let rest = logOf does (does choice m f 700 .model) fs in
-    record { frame = f; records = does choice m f 700 .records } ∷ rest
+    let rest = logOf does (does m f 700 .model) fs in
+    record { frame = f; records = does m f 700 .records } ∷ rest
 
 -- the answer to a frame
 abbrev answerTo : Stepper → Model → List ℕ → Answered
-answerTo does m f = answeredBy (does choice m f 700) (replicate 700 0)
+answerTo does m f = answeredBy (does m f 700) (replicate 700 0)
 
 one-step : (does : Stepper) (m : Model) (f : List ℕ)
-    → StepsBy does m (handIn f) (does choice m f 700 .model) (answerTo does m f)
-one-step does m f = record { choice = choice; space = refl; answered = refl }
+    → StepsBy does m (handIn f) (does m f 700 .model) (answerTo does m f)
+one-step does m f = record { space = refl; answered = refl }
 
 played : (does : Stepper) (m : Model) (fs : List (List ℕ))
     → History (spaceOf does) m (logOf does m fs) (lastOf does m fs)
 unfolding lastOf logOf answeredBy
 played does m [] = begun m
 played does m (f ∷ fs) =
-    handed (handIn f) (answerTo does m f) (one-step does m f) (played does (does choice m f 700 .model) fs)
+    handed (handIn f) (answerTo does m f) (one-step does m f) (played does (does m f 700 .model) fs)
 
 from-empty : (does : Stepper) (fs : List (List ℕ)) → Made (spaceOf does) (logOf does empty fs) (lastOf does empty fs)
 from-empty does fs = (empty, refl, played does empty fs)
@@ -75,29 +81,51 @@ all-told = tt
 abbrev a-kept : Kept
 a-kept = record { number = 1; fields = E; end = Tick 9 }
 
--- a record's kind or party, by its place
+-- a record's kind, party or entry number, by its place
 abbrev kindAt : ℕ → List Record → ℕ
 kindAt k rs = getD (map (λ (r : Record). r .kind) rs) k 0
 
 abbrev partyAt : ℕ → List Record → ℕ
 partyAt k rs = getD (map (λ (r : Record). r .party) rs) k 0
 
--- what a frame after some frames says, the rules say with some choice: so nothing in it can differ from theirs
+abbrev entryAt : ℕ → List Record → ℕ
+entryAt k rs = getD (map (λ (r : Record). r .entry .0) rs) k 0
+
+-- whether entries stand by number, below the next
+unfoldable orderedb : ℕ → List Entry → Bool
+orderedb n [] = true
+orderedb n (e ∷ es) = ltb (e .id .0) n && (not (anyb (λ x. leb (x .id .0) (e .id .0)) es) && orderedb n es)
+
+ordered : (n : ℕ) (es : List Entry) → orderedb n es ≡ true → Numbered n es
+unfolding orderedb Ascending
+ordered n [] t = (tt, all-none (λ e. e .id .0 < n))
+ordered n (e ∷ es) t =
+    let above : Entry → Bool = λ x. leb (x .id .0) (e .id .0) in
+    let others = and-right (ltb (e .id .0) n) (not (anyb above es) && orderedb n es) t in
+    let rest = ordered n es (and-right (not (anyb above es)) (orderedb n es) others) in
+    let below = ltb-true (e .id .0) n (and-left (ltb (e .id .0) n) (not (anyb above es) && orderedb n es) t) in
+    let ahead = not-true (anyb above es) (and-left (not (anyb above es)) (orderedb n es) others) in (
+      (
+        all-map (λ k. e .id .0 < k) (λ (x : Entry). x .id .0) es
+            (λ x i. leb-false (x .id .0) (e .id .0) (none-mem above ahead i)),
+        rest .0,
+      ),
+      all-cons below (rest .1),
+    )
+
+-- what a frame after some frames says, the rules say: so nothing in it can differ from theirs
 module _ (does : Stepper) (d : Demand2 (spaceOf does)) (fs : List (List ℕ)) (f : List ℕ) where
   abbrev before : Model
   before = lastOf does empty fs
 
-  by-said : refusal before f 700 ≡ 0 → Once (before .waits) → (tells : List Record → ℕ)
-      → ((c : ℕ → ℕ) → tells (carriedOut c before (decode f) .records) ≡ tells (does choice before f 700 .records) → ⊥)
+  by-said : refusal before f 700 ≡ 0 → orderedb (before .nextEntry) (before .entries) ≡ true → (tells : List Record → ℕ)
+      → (tells (carriedOut before (decode f) .records) ≡ tells (does before f 700 .records) → ⊥)
       → ⊥
   unfolding answeredBy
   by-said n e tells differs =
-      let r =
-      said-given
-      (d .said (logOf does empty fs) before (does choice before f 700 .model) (handIn f) (answerTo does before f)
-      (from-empty does fs) (one-step does before f) n)
-      e in
-      differs (r .0) (ap tells (r .1))
+      differs (ap tells (said-given
+      (d .said (logOf does empty fs) before (does before f 700 .model) (handIn f) (answerTo does before f)
+      (from-empty does fs) (one-step does before f) n) (ordered _ _ e)))
 
 -- demand 3 of what some frames make
 by-serial : (does : Stepper) → Demand3 (spaceOf does) → (fs : List (List ℕ))
@@ -106,19 +134,19 @@ unfolding Demand3
 by-serial does d fs = d (logOf does empty fs) (lastOf does empty fs) (from-empty does fs)
 
 pub each-ruled-out : RuledOut
-unfolding all-rules all-told lastOf logOf answeredBy distinct saysNothing saysWaiting refusesAll sameRecord
+unfolding all-rules all-told lastOf logOf answeredBy orderedb saysNothing saysWaiting refusesAll sameRecord
     storesNothing firstFrameOnly losesCommit putsBackLate ownReadBars nothingFirst showsPrivate ignoresWrites
-    writesTwice ticksAtWrites neverExpires lastExceptionFirst lastServedFirst servesEnded
+    writesTwice ticksAtWrites neverExpires lastExceptionFirst lastServedFirst servesEnded newestFirst newestInService
 each-ruled-out =
     record {
       says-nothing = λ d.
           by-said saysNothing d (write-by 1 0 9 E ∷ []) (read-by 2 0 0 7) refl refl (kindAt 0)
-          (λ c (q : 2 ≡ 3). omega arith);
+          (λ (q : 2 ≡ 3). omega arith);
       says-waiting = λ d.
           by-said saysWaiting d (write-by 1 0 9 E ∷ []) (read-by 2 0 0 7) refl refl (kindAt 0)
-          (λ c (q : 2 ≡ 4). omega arith);
-      refuses-all = λ d. by-said refusesAll d [] (read-by 2 0 0 7) refl refl (kindAt 0) (λ c (q : 3 ≡ 15). omega arith);
-      same-record = λ d. by-said sameRecord d [] (read-by 2 0 0 7) refl refl (kindAt 0) (λ c (q : 3 ≡ 9). omega arith);
+          (λ (q : 2 ≡ 4). omega arith);
+      refuses-all = λ d. by-said refusesAll d [] (read-by 2 0 0 7) refl refl (kindAt 0) (λ (q : 3 ≡ 15). omega arith);
+      same-record = λ d. by-said sameRecord d [] (read-by 2 0 0 7) refl refl (kindAt 0) (λ (q : 3 ≡ 9). omega arith);
       -- what is written is told, and not stored
       stores-nothing = λ d.
           let fs = write-by 1 0 9 E ∷ [] in
@@ -128,11 +156,11 @@ each-ruled-out =
           List·Memᴰ·not-nil (s .told-stored x (List·Memᴰ·head refl) .1);
       first-frame-only = λ d.
           by-said firstFrameOnly d (write-by 1 0 9 E ∷ []) (read-by 2 0 0 7) refl refl (kindAt 0)
-          (λ c (q : 2 ≡ 15). omega arith);
+          (λ (q : 2 ≡ 15). omega arith);
       invented-count = λ d.
           let b = answerTo step empty a-tick in
           let q : _≡_ {A = ℕ} 2 1 =
-          d .counted [] empty (step choice empty a-tick 700 .model) (handIn a-tick) (oneMore b)
+          d .counted [] empty (step empty a-tick 700 .model) (handIn a-tick) (oneMore b)
           (empty, refl, begun empty) (b, one-step step empty a-tick, refl) in
           omega arith;
       -- what is committed is left in the serial run, and not in the space
@@ -146,32 +174,39 @@ each-ruled-out =
           List·Memᴰ·not-nil (s .same (record { number = 1; fields = E; end = Tick 1 }) .1 (List·Memᴰ·head refl));
       own-read-bars = λ d.
           by-said ownReadBars d (write-by 1 0 9 E ∷ create-by 1 9 ∷ read-by 1 1 0 7 ∷ []) (take-by 1 1 0 7) refl refl
-          (kindAt 0) (λ c (q : 2 ≡ 3). omega arith);
+          (kindAt 0) (λ (q : 2 ≡ 3). omega arith);
       -- party 2's take is given nothing in the tick that gives the entry back
       nothing-first = λ d.
           by-said nothingFirst d (write-by 1 0 9 E ∷ create-by 1 1 ∷ take-by 1 1 0 7 ∷ take-by 2 0 1 7 ∷ []) a-tick refl
-          refl (kindAt 2) (λ c (q : 2 ≡ 3). omega arith);
+          refl (kindAt 2) (λ (q : 2 ≡ 3). omega arith);
       -- the found stands before the commit of what it finds: the serial run fails
       shows-private = λ d.
           true≢false (sym (by-serial showsPrivate d
           (take-by 2 0 9 7 ∷ create-by 1 9 ∷ write-by 1 1 9 E ∷ []) .succeeds));
       ignores-writes = λ d.
-          by-said ignoresWrites d [] (write-by 1 0 9 E) refl refl length (λ c (q : 1 ≡ 0). omega arith);
-      writes-twice = λ d. by-said writesTwice d [] (write-by 1 0 9 E) refl refl length (λ c (q : 1 ≡ 2). omega arith);
+          by-said ignoresWrites d [] (write-by 1 0 9 E) refl refl length (λ (q : 1 ≡ 0). omega arith);
+      writes-twice = λ d. by-said writesTwice d [] (write-by 1 0 9 E) refl refl length (λ (q : 1 ≡ 2). omega arith);
       ticks-at-writes = λ d.
-          by-said ticksAtWrites d [] (write-by 1 0 9 E) refl refl length (λ c (q : 1 ≡ 2). omega arith);
+          by-said ticksAtWrites d [] (write-by 1 0 9 E) refl refl length (λ (q : 1 ≡ 2). omega arith);
       -- the transaction's exception is missing
       never-expires = λ d.
-          by-said neverExpires d (create-by 1 1 ∷ []) a-tick refl refl length (λ c (q : 2 ≡ 1). omega arith);
+          by-said neverExpires d (create-by 1 1 ∷ []) a-tick refl refl length (λ (q : 2 ≡ 1). omega arith);
       last-exception-first = λ d.
           by-said lastExceptionFirst d (create-by 1 1 ∷ create-by 2 1 ∷ []) a-tick refl refl (partyAt 1)
-          (λ c (q : 1 ≡ 2). omega arith);
+          (λ (q : 1 ≡ 2). omega arith);
       last-served-first = λ d.
           by-said lastServedFirst d (take-by 2 0 9 7 ∷ take-by 3 0 9 7 ∷ []) (write-by 1 0 9 E) refl refl (partyAt 1)
-          (λ c (q : 2 ≡ 3). omega arith);
+          (λ (q : 2 ≡ 3). omega arith);
       -- E is given back in the tick of its end, and found
       serves-ended = λ d.
           by-said servesEnded d (write-by 1 0 1 E ∷ create-by 1 1 ∷ take-by 1 1 0 7 ∷ take-by 2 0 9 7 ∷ []) a-tick refl
-          refl length (λ c (q : 2 ≡ 3). omega arith);
+          refl length (λ (q : 2 ≡ 3). omega arith);
+      -- of two entries the second is handed out
+      newest-first = λ d.
+          by-said newestFirst d (write-by 1 0 9 E ∷ write-by 1 0 9 E ∷ []) (read-by 2 0 0 7) refl refl (entryAt 0)
+          (λ (q : 1 ≡ 2). omega arith);
+      newest-in-service = λ d.
+          by-said newestInService d (take-by 2 0 9 7 ∷ create-by 1 9 ∷ write-by 1 1 9 E ∷ write-by 1 1 9 E ∷ [])
+          (commit-by 1 1) refl refl (entryAt 1) (λ (q : 1 ≡ 2). omega arith);
       answers-none = λ d. d .answers [] empty (empty, refl, begun empty) (handIn a-tick) .2;
     }

@@ -33,8 +33,9 @@ use Rattle.rules.proofs.LayoutLaws.{commit-ends, abort-ends}
 use Rattle.rules.proofs.ListLaws.{filter-append, filter-filter, filter-same, mem-filter, filter-mem, any-mem}
 use Rattle.rules.proofs.ListLaws.{any-filter, all-false, count, count-append, count-cons, count-filter, count-map}
 use Rattle.rules.proofs.ListLaws.{count-mem}
+use Rattle.demands.specs.Machine.{Input}
 use Rattle.demands.specs.Bounds.{Ascending, ByNumber}
-use Rattle.demands.proofs.Runs.{Input, runs, made}
+use Rattle.demands.proofs.Runs.{runs, made}
 use Rattle.demands.proofs.AllLaws.{All, all-none, all-snoc, all-filter, all-map, out-mem, out-all}
 use Rattle.demands.proofs.AscendingLaws.{ascend-filter, ascending-distinct}
 use Rattle.demands.proofs.HoldLaws.{equal-or, eqb-cases, not-so}

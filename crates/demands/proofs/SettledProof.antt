@@ -24,7 +24,8 @@ use Rattle.rules.specs.Step.{step}
 use Rattle.rules.proofs.BoolLaws.{bool-cases}
 use Rattle.rules.proofs.ListLaws.{none-mem, all-false}
 use Rattle.rules.proofs.LayoutLaws.{write-serves, commit-serves, abort-serves, tick-serves}
-use Rattle.demands.proofs.Runs.{Input, made, made-keep}
+use Rattle.demands.specs.Machine.{Input}
+use Rattle.demands.proofs.Runs.{made, made-keep}
 use Rattle.demands.proofs.AllLaws.{All, all-none, all-snoc, out-all}
 use Rattle.demands.proofs.HoldLaws.{eqb-cases, not-so, available-free}
 use Rattle.demands.proofs.Unavailable.{handOut-unavailable}
@@ -128,8 +129,8 @@ steady-events over s h = h
 steady-events (then e t) s h = steady-events t (sound-event e s) (steady-event e s h)
 
 -- and when it is over
-pub stable-step : (i : Input) (m : Model) → Stable m → Stable (step (i .choice) m (i .frame) (i .area) .model)
-stable-step i m k = go (step-is (i .choice) m (i .frame) (i .area) (k .sound-model .ordered .txns))
+pub stable-step : (i : Input) (m : Model) → Stable m → Stable (step m (i .frame) (i .area) .model)
+stable-step i m k = go (step-is m (i .frame) (i .area) (k .sound-model .ordered .txns))
   where
     f : Frame
     f = decode (i .frame)

@@ -13,25 +13,25 @@ use Rattle.rules.specs.declared.Record.{Record}
 use Rattle.rules.specs.declared.Txn.{Txn}
 use Rattle.rules.specs.declared.TxnId.{TxnId}
 use Rattle.rules.specs.declared.LookUp.{LookUp}
-use Rattle.rules.specs.Lists.{filterb}
 use Rattle.rules.specs.State.{Model, empty}
 use Rattle.rules.specs.Holds.{liveTxn, dropReaderOf}
 use Rattle.rules.specs.Frame.{Frame, decode, isLookUp}
 use Rattle.rules.specs.Write.{newEntry, stored}
-use Rattle.rules.specs.LookUp.{lookUpOf, removes, isEntry, marked, handOut}
+use Rattle.rules.specs.LookUp.{lookUpOf}
 use Rattle.rules.specs.Transactions.{noTxn, create, released, withoutTxn, commit, abort}
 use Rattle.rules.specs.Tick.{dropEnded}
 use Rattle.rules.specs.Step.{step}
 use Rattle.rules.specs.SerialRun.{Logged, wasRefused}
-use Rattle.rules.proofs.BoolLaws.{cond-cases}
 use Rattle.rules.proofs.LayoutLaws.{commit-ends}
 use Rattle.rules.proofs.ReaderLaws.{bit-of-zero}
 use Rattle.demands.specs.Bounds.{Ascending}
-use Rattle.demands.proofs.Runs.{Input, runs, made}
-use Rattle.demands.proofs.AllLaws.{All, all-none, all-snoc, all-filter, all-map}
-use Rattle.demands.proofs.AscendingLaws.{ascend-filter, ascend-map, ascend-snoc}
+use Rattle.demands.specs.Machine.{Input}
+use Rattle.demands.proofs.Runs.{runs, made}
+use Rattle.demands.proofs.AllLaws.{all-none}
+use Rattle.demands.proofs.AscendingLaws.{ascend-filter, ascend-snoc}
 use Rattle.demands.proofs.EachLaws.{Each, filtered, each-out, each-snoc}
-use Rattle.demands.proofs.HoldLaws.{eqb-cases, cleared-cases, available-free, mark-cases}
+use Rattle.demands.proofs.HoldLaws.{cleared-cases, available-free}
+use Rattle.demands.proofs.OrderLaws.{InOrder, numbered-filter, handed-numbered, freed-numbered, stored-order}
 use Rattle.demands.proofs.Events.{LiveOf, Heard, asking, saying, heard, Event, refuses, asks, writes, is-found}
 use Rattle.demands.proofs.Events.{is-nothing, is-waiting, creates, commits, aborts, ticks, excepts, expires}
 use Rattle.demands.proofs.Events.{Events, over, then}
@@ -41,43 +41,12 @@ use Rattle.demands.proofs.HolderLaws.{lives-on, stays-live, add-live, d
 use Rattle.demands.proofs.Becomes.{newTxn, Becomes, is-new, as-was, as-ever, is-held, is-freed, becomes, WaitsOn}
 use Rattle.demands.proofs.Becomes.{is-asked, waited, waited-ever, waited-commit, is-outside, waits-on}
 
--- numbers: entries stand by number, below the next
-abbrev Numbered : ℕ → List Entry → Type 0
-Numbered n es = Ascending (map (λ (e : Entry). e .id .0) es) × All (λ e. e .id .0 < n) es
-
-numbered-filter : {n : ℕ} (p : Entry → Bool) (es : List Entry) → Numbered n es → Numbered n (filterb p es)
-numbered-filter p es h = (ascend-filter (λ (e : Entry). e .id .0) p es (h .0), all-filter p es (λ e i _. h .1 e i))
-
-numbered-map : {n : ℕ} (g : Entry → Entry) → ((e : Entry) → g e .id .0 ≡ e .id .0) → (es : List Entry) → Numbered n es
-    → Numbered n (map g es)
-numbered-map {n} g q es h =
-    let below = all-map (λ e. e .id .0 < n) g es (λ e i. let l = h .1 e i in let same = q e in omega arith) in
-    (ascend-map (λ (e : Entry). e .id .0) g q es (h .0), below)
-
-handed-numbered : {n : ℕ} (ts : List Txn) (w : LookUp) (e : Entry) (es : List Entry) → Numbered n es
-    → Numbered n (handOut ts w e es)
-unfolding handOut
-handed-numbered {n} ts w e es h =
-    cond-cases (Numbered n) (removes w e) (λ _. numbered-filter (λ x. not (isEntry e x)) es h)
-    (λ _. numbered-map (λ x. cond (isEntry e x) (marked ts w x) x)
-    (λ x. let same : Entry → Type 0 = λ y. y .id .0 ≡ x .id .0 in
-    cond-cases same (isEntry e x) (λ _. mark-cases ts w x same (λ _. refl) (λ b _ _. refl)) (λ _. refl)) es h)
-
-freed-numbered : {n : ℕ} (ts : List Txn) (t : ℕ) (p : Entry → Bool) (es : List Entry) → Numbered n es
-    → Numbered n (map (released ts t) (filterb p es))
-unfolding released
-freed-numbered ts t p es h = numbered-map (released ts t) (λ _. refl) (filterb p es) (numbered-filter p es h)
-
-numbered : {f : Frame} {m n : Model} {hs : List Heard} → Event f m hs n → Numbered (m .nextEntry) (m .entries)
-    → Numbered (n .nextEntry) (n .entries)
-unfolding stored newEntry create commit abort dropEnded
+-- entries stand by number, below the next
+numbered : {f : Frame} {m n : Model} {hs : List Heard} → Event f m hs n → InOrder m → InOrder n
+unfolding create commit abort dropEnded
 numbered (refuses m bs area q) h = h
 numbered (asks m t a) h = h
-numbered {f} (writes m t a) h =
-    let more : All (λ e. e .id .0 < m .nextEntry + 1) (m .entries) = λ e i. let l = h .1 e i in omega arith in
-    eqb-cases (Numbered (m .nextEntry + 1)) (f .leaseOrTimeout) 0 (λ _. (h .0, more))
-    (λ _. let up = ascend-snoc (λ (e : Entry). e .id .0) (newEntry m f) (m .entries) (h .1) (h .0) in
-    (up, all-snoc (m .entries) more (omega arith)))
+numbered {f} (writes m t a) h = stored-order m f h
 numbered (is-found m w e ws o i av) h = handed-numbered (m .txns) w e (m .entries) h
 numbered (is-nothing m w ws o n c) h = h
 numbered (is-waiting m w i q n d c) h = h
@@ -311,8 +280,8 @@ module _ {R : Type 0} (k : Reader R) (Q : Model → R → Type 0) (keeps : Keeps
   runs-keep m r [] s h = (s, h)
   runs-keep m r (i ∷ is) s h =
       let f = decode (i .frame) in
-      let o = step (i .choice) m (i .frame) (i .area) in
-      let e = step-events (i .choice) m (i .frame) (i .area) (s .ordered .txns) in
+      let o = step m (i .frame) (i .area) in
+      let e = step-events m (i .frame) (i .area) (s .ordered .txns) in
       runs-keep (o .model) (hearsAll k f (heard f (o .records)) r) is (sound-events e s) (events-keep r e s h)
 
   pub made-keep : (r : R) → Q empty r → (is : List Input) → Q (made is) (readsLog k (runs empty is .log) r)
@@ -329,3 +298,6 @@ module _ (P : Model → Type 0)
 
 pub sound : (is : List Input) → Sound (made is)
 sound is = runs-keep noReader (λ m r. Unit {0}) (λ f m n hs r e s h. tt) empty tt is sound-empty tt .0
+
+pub orderly : (is : List Input) → InOrder (made is)
+orderly is = let s = sound is in (s .ordered .entries, s .below)

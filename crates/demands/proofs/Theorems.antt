@@ -2,6 +2,7 @@
 use Rattle.demands.specs.Machine.{theSpace, theRules}
 use Rattle.demands.specs.Demands.{Demand1, Demand2, Demand3}
 use Rattle.demands.specs.Determined.{Determined, ThirdFollows}
+use Rattle.demands.specs.Fixed.{Fixed}
 use Rattle.demands.specs.Consequences.{Consequences, ConsequencesFollow}
 use Rattle.demands.specs.Bounds.{Bounds}
 use Rattle.demands.specs.RuledOut.{RuledOut}
@@ -9,6 +10,7 @@ use Rattle.demands.proofs.ByRule.{space-follows, rules-follow}
 use Rattle.demands.proofs.Follows.{follows-1, follows-2, follows-3, follows-bounds}
 use Rattle.demands.proofs.Answering.{space-begins, space-answers, rules-begin, rules-answer}
 use Rattle.demands.proofs.DeterminedProof.{every-history, every-serial}
+use Rattle.demands.proofs.FixedProof.{every-reply}
 use Rattle.demands.proofs.ConsequencesProof.{every-consequence}
 use Rattle.demands.proofs.RuledOutProof.{each-ruled-out}
 
@@ -38,9 +40,13 @@ rules-3 = follows-3 theRules rules-follow
 pub rules-bounds : Bounds theRules
 rules-bounds = follows-bounds theRules rules-follow
 
--- Any space that meets demands 1 and 2 answers as the rules do; so the third follows, and the consequences.
+-- Any space that meets demands 1 and 2 answers exactly as the rules do; so the third follows, and the consequences.
 pub determined : Determined
 determined = every-history
+
+-- so the answer to every frame list is fixed
+pub fixed : Fixed
+fixed = every-reply
 
 pub third-follows : ThirdFollows
 third-follows = every-serial

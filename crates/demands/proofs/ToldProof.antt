@@ -21,9 +21,10 @@ use Rattle.rules.proofs.BoolLaws.{cond-cases, and-right}
 use Rattle.rules.proofs.ListLaws.{mem-filter, filter-mem, any-mem, mem-any, none-mem, all-false, count, count-cons}
 use Rattle.rules.proofs.ListLaws.{count-mem, count-map, count-filter}
 use Rattle.rules.proofs.ReaderLaws.{bit-of-zero}
+use Rattle.demands.specs.Machine.{Input}
 use Rattle.demands.specs.Told.{Told, takesNumber, readsNumber, whoTakes, whoReads, committedTold, privateTold}
 use Rattle.demands.specs.Told.{told, AsTold, Explained}
-use Rattle.demands.proofs.Runs.{runs, Input, made}
+use Rattle.demands.proofs.Runs.{runs, made}
 use Rattle.demands.proofs.AllLaws.{All, all-none, all-cons, all-append, all-filter, all-map}
 use Rattle.demands.proofs.AscendingLaws.{ascending-distinct}
 use Rattle.demands.proofs.HoldLaws.{not-so, eqb-cases}

@@ -32,11 +32,11 @@ empty-bounded : Bounded empty
 empty-bounded = record { entries-fit = omega arith; txns-fit = omega arith; waits-fit = omega arith }
 
 -- a run from any space
-record From (choices : ℕ → ℕ → ℕ) (m : Model) (area : List ℕ) (fs : List (List ℕ)) (o : TrayOutcome) : Type 0 where
+record From (m : Model) (area : List ℕ) (fs : List (List ℕ)) (o : TrayOutcome) : Type 0 where
   log : List Logged
   last : Model
   history : History theRules m log last
-  handed-in : HandedIn choices m area (take (o .frames) fs) log last
+  handed-in : HandedIn m area (take (o .frames) fs) log last
   count : o .frames ≡ length log
   records : o .records ≡ recordsOf log
   fit : 28 * length (o .records) ≤ length area
@@ -51,16 +51,16 @@ left-length rs area h =
     length-drop (28 * length rs) (areaAfter rs area) ∙ ap (λ n. n - 28 * length rs) (area-length rs area h)
 
 -- no frame is done: there is none left, or no room for its records
-stops : (choices : ℕ → ℕ → ℕ) (m : Model) (area : List ℕ) (fs : List (List ℕ)) (n : ℕ)
+stops : (m : Model) (area : List ℕ) (fs : List (List ℕ)) (n : ℕ)
     → (n ≡ 1) ⊎ ((n ≡ 0) × (0 ≡ length fs))
-    → From choices m area fs (stopped n)
+    → From m area fs (stopped n)
 unfolding recordsOf
-stops choices m area fs n h =
+stops m area fs n h =
     record {
       log = [];
       last = m;
       history = begun m;
-      handed-in = none-left choices m area;
+      handed-in = none-left m area;
       count = refl;
       records = refl;
       fit = omega arith;
@@ -69,16 +69,16 @@ stops choices m area fs n h =
       all-done = h;
     }
 
-from : (choices : ℕ → ℕ → ℕ) (m : Model) (area : List ℕ) (fs : List (List ℕ)) → Bounded m
-    → From choices m area fs (runFrames choices m (length area) fs)
+from : (m : Model) (area : List ℕ) (fs : List (List ℕ)) → Bounded m
+    → From m area fs (runFrames m (length area) fs)
 unfolding runFrames recordsOf answeredBy
-from choices m area [] b = stops choices m area [] 0 (inr (refl, refl))
-from choices m area (f ∷ fs) b =
-    cond-cases (From choices m area (f ∷ fs)) (ltb (length area) 700) (λ _. stops choices m area (f ∷ fs) 1 (inl refl))
-    (λ t. more t (from (λ n. choices (suc n)) (o .model) rest fs (s .0)))
+from m area [] b = stops m area [] 0 (inr (refl, refl))
+from m area (f ∷ fs) b =
+    cond-cases (From m area (f ∷ fs)) (ltb (length area) 700) (λ _. stops m area (f ∷ fs) 1 (inl refl))
+    (λ t. more t (from (o .model) rest fs (s .0)))
   where
     o : Outcome
-    o = step (choices 0) m f (length area)
+    o = step m f (length area)
 
     a : Answered
     a = answeredBy o area
@@ -87,18 +87,18 @@ from choices m area (f ∷ fs) b =
     rest = drop (28 * length (o .records)) (areaAfter (o .records) area)
 
     s : Bounded (o .model) × (length (o .records) ≤ 25)
-    s = step-fits (choices 0) m f (length area) b
+    s = step-fits m f (length area) b
 
     does : StepsBy step m (record { frame = f; area = area }) (o .model) a
-    does = record { choice = choices 0; space = refl; answered = refl }
+    does = record { space = refl; answered = refl }
 
     -- the run of the others, by the length of the area that is left
     others : ℕ → TrayOutcome
-    others n = runFrames (λ i. choices (suc i)) (o .model) n fs
+    others n = runFrames (o .model) n fs
 
-    more : ltb (length area) 700 ≡ false → From (λ i. choices (suc i)) (o .model) rest fs (others (length rest))
+    more : ltb (length area) 700 ≡ false → From (o .model) rest fs (others (length rest))
         → let r = others (length area - 28 * length (o .records)) in
-        From choices m area (f ∷ fs) (record {
+        From m area (f ∷ fs) (record {
           frames = suc (r .frames);
           records = o .records
               ++ r .records;
@@ -107,13 +107,13 @@ from choices m area (f ∷ fs) b =
     more t h =
         let l = ltb-false (length area) 700 t in
         let n = left-length (o .records) area (omega (arith, s .1)) in
-        let k = subst (λ n. From (λ i. choices (suc i)) (o .model) rest fs (others n)) n h in
+        let k = subst (λ n. From (o .model) rest fs (others n)) n h in
         let r = others (length area - 28 * length (o .records)) in
         record {
           log = record { frame = f; records = o .records } ∷ k .log;
           last = k .last;
           history = handed (record { frame = f; area = area }) a does (k .history);
-          handed-in = one-more choices a does refl (k .handed-in);
+          handed-in = one-more a does (k .handed-in);
           count = ap suc (k .count);
           records = ap (λ l. o .records ++ l) (k .records);
           fit = omega (arith, s .1, k .fit, n, length-append (o .records) (r .records));
@@ -124,8 +124,8 @@ from choices m area (f ∷ fs) b =
 
 pub trays-are-histories : TraysAreHistories
 unfolding TraysAreHistories
-trays-are-histories choices fs area =
-    let r = from choices empty area fs empty-bounded in
+trays-are-histories fs area =
+    let r = from empty area fs empty-bounded in
     record {
       log = r .log;
       last = r .last;
@@ -158,11 +158,11 @@ tray-cases Q tray a b c =
 
 pub numbers-are-read-back : NumbersAreReadBack
 unfolding NumbersAreReadBack runTray runPairs pairs
-numbers-are-read-back choices tray area =
+numbers-are-read-back tray area =
     tray-cases (λ n. ReadBack (cond (leb n 0) run (stopped n))) tray
     (read-back (stopped 15) (omega arith) (omega arith) (omega arith))
     (read-back (stopped 16) (omega arith) (omega arith) (omega arith))
-    (λ l. let r = from choices empty area fs empty-bounded in
+    (λ l. let r = from empty area fs empty-bounded in
     let k : length fs ≡ frameCount tray =
     length-map (pairs tray) (frameAt tray) ∙ pairs-length (frameCount tray) (drop 4 tray) in
     read-back run (omega (arith, r .done-few)) (omega (arith, r .few))
@@ -172,7 +172,7 @@ numbers-are-read-back choices tray area =
     fs = map (frameAt tray) (pairs tray)
 
     run : TrayOutcome
-    run = runFrames choices empty (length area) fs
+    run = runFrames empty (length area) fs
 
 -- ---- a list of records is told by its bytes, where every number is in the range of its bytes
 

@@ -1,6 +1,6 @@
 -- Two spaces that agree in all that frames and records tell, but for slots and the order of the entries: the same
 -- look-ups find, wait and conflict in both, each part of a step keeps it so, and a step of both says the same.
-use Prim.Native.Nat.{ℕ, _+_}
+use Prim.Native.Nat.{ℕ, _+_, _≤_}
 use mathlib.Core.Bool.{Bool, true, false, not, cond, _&&_, _||_, true≢false}
 use mathlib.Core.Logic.{_⊎_, inl, inr, ⊎-elim}
 use mathlib.Core.Path.{_≡_, refl, sym, ap, ap₂, _∙_, subst, subst⁻¹}
@@ -32,7 +32,7 @@ use Rattle.demands.specs.Book.{LiveTold}
 use Rattle.demands.specs.Said.{endNow, entriesLeft, inVain, Own, writes, finds, finds-none, waits, creates}
 use Rattle.demands.specs.Said.{commits, aborts, ticks, Serves, gone-through, is-found, waits-on, isServed}
 use Rattle.demands.specs.Said.{Service, follows, follows-not, exceptions, lapsed, nothings, Ends, in-order, Said}
-use Rattle.demands.specs.Said.{own-first}
+use Rattle.demands.specs.Said.{own-first, Oldest}
 use Rattle.rules.proofs.ListLaws.{mem-filter, filter-mem, any-mem, mem-any}
 use Rattle.rules.proofs.LayoutLaws.{lookUp-not-tick, create-not-tick}
 use Rattle.rules.proofs.ReaderLaws.{bit-of-zero, no-bits}
@@ -97,6 +97,21 @@ module _ {A B : Type 0} {R : A → B → Type 0} {xs : List A} {ys : List B} (h 
       (sym (same (x .0) (y .0) (y .2)) ∙ x .2))
       (λ t. let y = any-mem q ys t in let x = h .back (y .0) (y .1) in mem-any p (x .1)
       (same (x .0) (y .0) (x .2) ∙ y .2))
+
+  -- the lowest number of those that pass is the same
+  matched-lowest : (p : A → Bool) (q : B → Bool) (number : A → ℕ) (number′ : B → ℕ)
+      → ((x : A) (y : B) → R x y → (p x ≡ q y) × (number x ≡ number′ y))
+      → {x : A} {y : B} → R x y → ((z : A) → List·Memᴰ z xs → p z ≡ true → number x ≤ number z)
+      → (z : B) → List·Memᴰ z ys → q z ≡ true → number′ y ≤ number′ z
+  matched-lowest p q number number′ same {x} {y} r low z j t =
+      let k = h .back z j in
+      let l = low (k .0) (k .1) (same (k .0) z (k .2) .0 ∙ t) in
+      let one = same x y r .1 in
+      let other = same (k .0) z (k .2) .1 in
+      omega arith
+
+  matched-sym : Matched (λ y x. R x y) ys xs
+  matched-sym = record { forth = h .back; back = h .forth }
 
 -- ---- live transactions, but for their slots
 
@@ -252,6 +267,33 @@ module _ {ts us : List Txn} (p : Peers ts us) where
       → someConflicts ts w es ≡ someConflicts us w xs
   conflicts-in h w = matched-any h (conflicts ts w) (conflicts us w) (conflicts-same w)
 
+  -- the oldest that is available is the same, either way
+  same-number : (w : LookUp) (e x : Entry) → Like ts us e x
+      → (available ts w e ≡ available us w x) × (e .id .0 ≡ x .id .0)
+  same-number w e x l = (available-same w e x l, ap (λ (k : Kept). k .number) (l .kept))
+
+  module _ {es xs : List Entry} (h : Matched (Like ts us) es xs) (w : LookUp) {e x : Entry} (l : Like ts us e x) where
+    pub oldest-forth : List·Memᴰ x xs → Oldest ts w es e → Oldest us w xs x
+    oldest-forth j o =
+        record {
+          stored = j;
+          is-available = sym (available-same w e x l) ∙ o .is-available;
+          lowest =
+              matched-lowest h (available ts w) (available us w) (λ (y : Entry). y .id .0) (λ (y : Entry). y .id .0)
+              (same-number w) l (o .lowest);
+        }
+
+    pub oldest-back : List·Memᴰ e es → Oldest us w xs x → Oldest ts w es e
+    oldest-back i o =
+        record {
+          stored = i;
+          is-available = available-same w e x l ∙ o .is-available;
+          lowest =
+              matched-lowest (matched-sym h) (available us w) (available ts w) (λ (y : Entry). y .id .0)
+              (λ (y : Entry). y .id .0)
+              (λ y z k. (sym (same-number w z y k .0), sym (same-number w z y k .1))) l (o .lowest);
+        }
+
   -- handed out, or released
   hold-like : (w : LookUp) (e x : Entry) → Like ts us e x → Like ts us (withHold ts w e) (withHold us w x)
   unfolding withHold
@@ -308,10 +350,10 @@ found-same w {e} {x} l =
 serves-alike : {ts us : List Txn} {es xs : List Entry} {ws left : List LookUp} {founds : List Record} → Peers ts us
     → Matched (Like ts us) es xs → Serves ts es ws founds left → Serves us xs ws founds left
 serves-alike {xs = xs} p h (gone-through es) = gone-through xs
-serves-alike {us = us} {xs = xs} p h (is-found w e {es} {ws} {left} {founds} i av s) =
-    let x = h .forth e i in
+serves-alike {us = us} {xs = xs} p h (is-found w e {es} {ws} {left} {founds} o s) =
+    let x = h .forth e (o .stored) in
     subst⁻¹ (λ (r : Record). Serves us xs (w ∷ ws) (r ∷ founds) left) (found-same w (x .2))
-    (is-found w (x .0) (x .1) (sym (available-same p w e (x .0) (x .2)) ∙ av)
+    (is-found w (x .0) (oldest-forth p h w (x .2) (x .1) o)
     (serves-alike p (handOut-like p w (x .2) h) s))
 serves-alike p h (waits-on w q s) = waits-on w (sym (available-in p h w) ∙ q) (serves-alike p h s)
 
@@ -479,15 +521,13 @@ own-twins : {f : Frame} {m n m′ : Model} {a : Record} → Twins m n → Own f 
     → (n′ : Model) × Own f n a n′ × (Twins m′ n′ ⊎ Quiet f)
 own-twins {f} t (writes o) =
     (_, renamed (ap (λ (k : Model). written f (k .nextEntry)) (t .same)) (writes o), inl (stored-twins f t))
-own-twins {f} {m} {n} t (finds e o i av) =
-    let x = t .entries .forth e i in
-    let av′ =
-    subst (λ w. available (n .txns) w (x .0) ≡ true) (asks-same f t)
-    (sym (available-same (t .peers) (lookUpOf m f) e (x .0) (x .2)) ∙ av) in (
+own-twins {f} {m} {n} t (finds e l o) =
+    let x = t .entries .forth e (o .stored) in
+    let first = oldest-forth (t .peers) (t .entries) (lookUpOf m f) (x .2) (x .1) o in (
       _,
       renamed (found-same (lookUpOf m f) (x .2) ∙ ap (λ w. found w (x .0)) (asks-same f t))
-          (finds (x .0) o (x .1) av′),
-      inr (lookUp-quiet o),
+          (finds (x .0) l (subst (λ w. Oldest (n .txns) w (n .entries) (x .0)) (asks-same f t) first)),
+      inr (lookUp-quiet l),
     )
 own-twins {f} t (finds-none o u g) = (
   _,

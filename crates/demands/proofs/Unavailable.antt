@@ -8,13 +8,12 @@ use mathlib.Core.List.{List, List·Memᴰ, List·Memᴰ·not-nil, List·Memᴰ·
 use Rattle.rules.specs.declared.Entry.{Entry}
 use Rattle.rules.specs.declared.Txn.{Txn}
 use Rattle.rules.specs.declared.LookUp.{LookUp}
-use Rattle.rules.specs.Lists.{pick}
 use Rattle.rules.specs.Template.{bit}
-use Rattle.rules.specs.Holds.{liveTxn, addReader, dropReader, addReaderOf, dropReaderOf, available, availableTo}
+use Rattle.rules.specs.Holds.{liveTxn, addReader, dropReader, addReaderOf, dropReaderOf, available}
 use Rattle.rules.specs.Holds.{someAvailable}
 use Rattle.rules.specs.LookUp.{removes, marked, isEntry, handOut}
 use Rattle.rules.specs.Service.{serve}
-use Rattle.rules.proofs.ListLaws.{mem-filter, none-mem, all-false, pick-some, pick-none}
+use Rattle.rules.proofs.ListLaws.{find-some, none-any, none-mem, all-false}
 use Rattle.rules.proofs.StepCases.{serve-ind}
 use Rattle.rules.proofs.BoolLaws.{cond-cases}
 use Rattle.rules.proofs.ReaderLaws.{added, added-other, dropped, dropped-other, bit-of-zero, no-bits}
@@ -73,29 +72,20 @@ module _ (ts : List Txn) (v w : LookUp) (e : Entry) (av : available ts w e ≡ t
       (λ r. all-map no (λ x. cond (isEntry e x) (marked ts w x) x) es
       (λ x i. let h = none-mem (available ts v) n i in cond-cases no (isEntry e x) (λ q. hidden x r h) (λ q. h))))
 
--- what is picked of the available entries is stored and available
-pub picked : (k : ℕ) (ts : List Txn) (w : LookUp) (es : List Entry) (x : Entry) → pick k (availableTo ts w es) ≡ some x
-    → List·Memᴰ x es × (available ts w x ≡ true)
-picked k ts w es x e = mem-filter (available ts w) es (pick-some k (availableTo ts w es) e)
-
-pub pick-nothing : (k : ℕ) (ts : List Txn) (w : LookUp) (es : List Entry) → pick k (availableTo ts w es) ≡ none
-    → someAvailable ts w es ≡ false
-pick-nothing k ts w es q = pick-none (available ts w) k es q
-
-serve-unavailable : (choice : ℕ → ℕ) (ts : List Txn) (v : LookUp) (es : List Entry) (ws : List LookUp)
-    → someAvailable ts v es ≡ false → someAvailable ts v (serve choice ts es ws .entries) ≡ false
-serve-unavailable choice ts v =
-    serve-ind choice ts (λ es ws r. someAvailable ts v es ≡ false → someAvailable ts v (r .entries) ≡ false) (λ es n. n)
+serve-unavailable : (ts : List Txn) (v : LookUp) (es : List Entry) (ws : List LookUp)
+    → someAvailable ts v es ≡ false → someAvailable ts v (serve ts es ws .entries) ≡ false
+serve-unavailable ts v =
+    serve-ind ts (λ es ws r. someAvailable ts v es ≡ false → someAvailable ts v (r .entries) ≡ false) (λ es n. n)
     (λ es w ws q below. below)
-    (λ es w ws x q below n. below (handOut-unavailable ts v w x (picked (choice (w .party)) ts w es x q .1) es n))
+    (λ es w ws x q below n. below (handOut-unavailable ts v w x (find-some (available ts w) es q .1) es n))
 
-pub serve-settled : (choice : ℕ → ℕ) (ts : List Txn) (es : List Entry) (ws : List LookUp) (v : LookUp)
-    → List·Memᴰ v (serve choice ts es ws .waits) → someAvailable ts v (serve choice ts es ws .entries) ≡ false
-serve-settled choice ts es ws v =
-    serve-ind choice ts (λ es ws r. List·Memᴰ v (r .waits) → someAvailable ts v (r .entries) ≡ false)
+pub serve-settled : (ts : List Txn) (es : List Entry) (ws : List LookUp) (v : LookUp)
+    → List·Memᴰ v (serve ts es ws .waits) → someAvailable ts v (serve ts es ws .entries) ≡ false
+serve-settled ts es ws v =
+    serve-ind ts (λ es ws r. List·Memᴰ v (r .waits) → someAvailable ts v (r .entries) ≡ false)
     (λ es i. absurd (List·Memᴰ·not-nil i)) (λ es w ws q below i.
-    ⊎-elim (λ e. serve-unavailable choice ts v es ws
-    (subst⁻¹ (λ u. someAvailable ts u es ≡ false) e (pick-nothing (choice (w .party)) ts w es q))) below
+    ⊎-elim (λ e. serve-unavailable ts v es ws
+    (subst⁻¹ (λ u. someAvailable ts u es ≡ false) e (none-any (available ts w) es q))) below
     (List·Memᴰ·cases-cons i)) (λ es w ws x q below. below)
     es
     ws

@@ -13,17 +13,18 @@ use Rattle.rules.specs.Numbers.{kindFound, kindNothing, kindException, kindTick
 use Rattle.rules.specs.Lists.{filterb}
 use Rattle.rules.specs.Time.{reached}
 use Rattle.rules.specs.State.{Model, withWaits}
-use Rattle.rules.specs.Holds.{availableTo, someAvailable}
+use Rattle.rules.specs.Holds.{someAvailable}
 use Rattle.rules.specs.Frame.{Frame, isLookUp}
 use Rattle.rules.specs.Records.{found, nothing, waiting}
 use Rattle.rules.specs.LookUp.{lookUpOf, givesNothing}
+use Rattle.demands.specs.Said.{Oldest}
 
 -- The one record of a look-up that is not refused, for the four kinds together: found exactly when an entry is
--- available, then with one of those; nothing exactly under document 01's conditions (`givesNothing`); else waiting,
--- behind those that wait. (The cases exclude each other, and so do the kinds of their records.)
+-- available, then with the oldest of those; nothing exactly under document 01's conditions (`givesNothing`); else
+-- waiting, behind those that wait. (The cases exclude each other, and so do the kinds of their records.)
 pub record AnsweredNow (m : Model) (w : LookUp) (timeout : ℕ) (records : List Record) (n : Model) : Type 0 where
   pub found-case : someAvailable (m .txns) w (m .entries) ≡ true
-      → (e : Entry) × List·Memᴰ e (availableTo (m .txns) w (m .entries)) × (records ≡ found w e ∷ [])
+      → (e : Entry) × Oldest (m .txns) w (m .entries) e × (records ≡ found w e ∷ [])
   pub nothing-case : someAvailable (m .txns) w (m .entries) ≡ false
       → givesNothing m w timeout ≡ true
       → records ≡ nothing w ∷ []

@@ -18,7 +18,7 @@ use Rattle.demands.specs.Demands.{Demand1, Demand2}
 
 pub record Consequences (S : Machine) : Type 0 where
   -- a look-up that is not refused is answered at once, one statement for the four kinds: found exactly when an entry is
-  -- available, nothing exactly under the stated conditions, else waiting
+  -- available, with the oldest of those; nothing exactly under the stated conditions, else waiting
   pub found-exactly : EveryStep S (λ t h u a. CarriedOut S t h → isLookUp (frameIn h .op) ≡ true
       → AnsweredNow (S .view t) (lookUpOf (S .view t) (frameIn h)) (frameIn h .leaseOrTimeout) (a .records) (S .view u))
   -- what is given nothing, at once or later, has no available entry when the step is over

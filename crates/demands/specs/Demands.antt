@@ -44,5 +44,5 @@ pub record Demand2 (S : Machine) : Type 0 where
 unfoldable pub Demand3 : Machine → Type 0
 Demand3 S = EveryState S (λ log t. Serial (serialRun log) (S .view t))
 
--- The demands leave nothing open: whatever meets the first two answers as the rules do, frame by frame and record by
--- record (`Determined`). So the third follows from them.
+-- The demands leave nothing open: whatever meets the first two answers exactly as the rules do (`Determined`). So the
+-- third follows from them, and the answer to every list of frames is fixed (`Fixed`).

@@ -5,7 +5,7 @@ use Rattle.rules.specs.declared.Record.{Record}
 use Rattle.rules.specs.Lists.{joined}
 use Rattle.rules.specs.Allowed.{Answered}
 use Rattle.rules.specs.SerialRun.{Logged}
-use Rattle.demands.specs.Machine.{Handed, Machine}
+use Rattle.demands.specs.Machine.{Handed, Input, inputOf, Machine}
 
 abbrev pub logged : Handed → Answered → Logged
 logged h a = record { frame = h .frame; records = a .records }
@@ -20,9 +20,22 @@ pub data History (S : Machine) : S .State → List Logged → S .State → Type 
   handed : {s t u : S .State} {log : List Logged} (h : Handed) (a : Answered) → S .Steps s h t a → History S t log u
       → History S s (logged h a ∷ log) u
 
+-- what was handed in, and what was answered, in order
+unfoldable pub handedOf : {S : Machine} {s t : S .State} {log : List Logged} → History S s log t → List Handed
+handedOf (begun s) = []
+handedOf (handed h a p rest) = h ∷ handedOf rest
+
+unfoldable pub answersOf : {S : Machine} {s t : S .State} {log : List Logged} → History S s log t → List Answered
+answersOf (begun s) = []
+answersOf (handed h a p rest) = a ∷ answersOf rest
+
 -- a state that frames make of an empty space, with the log of them
 abbrev pub Made : (S : Machine) → List Logged → S .State → Type 0
 Made S log t = (s : S .State) × S .Empty s × History S s log t
+
+-- its frames, with the lengths of their answers areas
+abbrev pub inputsOf : {S : Machine} {log : List Logged} {t : S .State} → Made S log t → List Input
+inputsOf made = map inputOf (handedOf (made .2))
 
 -- what holds of every state, with its log, and of every step, after every history
 abbrev pub EveryState : (S : Machine) → (List Logged → S .State → Type 0) → Type 0

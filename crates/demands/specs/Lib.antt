@@ -8,6 +8,7 @@ pub mod Told
 pub mod Demands
 -- what they leave open (nothing), and what follows from them
 pub mod Determined
+pub mod Fixed
 pub mod Answers
 pub mod Consequences
 -- what else holds, of the space and of trays; the course's examples; wrong spaces

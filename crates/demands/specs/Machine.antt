@@ -18,6 +18,14 @@ pub record Handed : Type 0 where
 abbrev pub frameIn : Handed → Frame
 frameIn h = decode (h .frame)
 
+-- what an answer may depend on of it: the bytes of the frame, and the length of the area
+pub record Input : Type 0 where
+  pub frame : List ℕ
+  pub area : ℕ
+
+abbrev pub inputOf : Handed → Input
+inputOf h = record { frame = h .frame; area = length (h .area) }
+
 -- its states, how a state is read as document 01's tables, which states are empty, and what a frame does: the state
 -- after it, and what is answered
 pub record Machine : Type 1 where
@@ -41,15 +49,13 @@ unfoldable pub answeredBy : Outcome → List ℕ → Answered
 answeredBy o area =
     record { records = o .records; count = length (o .records); number = o .number; area = areaAfter (o .records) area }
 
--- the space whose frames do what a function says, by a free choice, to a model, a frame and the length of the answers
--- area
+-- the space whose frames do what a function says to a model, a frame and the length of the answers area
 abbrev pub Stepper : Type 0
-Stepper = (ℕ → ℕ) → Model → List ℕ → ℕ → Outcome
+Stepper = Model → List ℕ → ℕ → Outcome
 
 pub record StepsBy (does : Stepper) (m : Model) (h : Handed) (n : Model) (a : Answered) : Type 0 where
-  pub choice : ℕ → ℕ
-  pub space : n ≡ does choice m (h .frame) (length (h .area)) .model
-  pub answered : a ≡ answeredBy (does choice m (h .frame) (length (h .area))) (h .area)
+  pub space : n ≡ does m (h .frame) (length (h .area)) .model
+  pub answered : a ≡ answeredBy (does m (h .frame) (length (h .area))) (h .area)
 
 abbrev pub spaceOf : Stepper → Machine
 spaceOf does =

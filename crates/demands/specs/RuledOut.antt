@@ -1,7 +1,7 @@
 -- What the demands rule out: a small wrong space for each of document 01's Contracts c, for each mistake that students
--- make, and for silence, order and time; and the statement that the demand named for it fails. (`Determined` says that
--- no wrong space is left.)
-use Prim.Native.Nat.{ℕ, suc, _+_}
+-- make, for silence, order and time, and for the newest mark first; and the statement that the demand named for it
+-- fails. (`Determined` says that no wrong space is left.)
+use Prim.Native.Nat.{suc, _+_}
 use mathlib.Core.Bool.{Bool, not, cond, _&&_, _||_}
 use mathlib.Core.Path.{_≡_}
 use mathlib.Core.List.{List, [], _∷_, _++_, map, reverse}
@@ -9,12 +9,12 @@ use lib.Dec.{eqb}
 use Rattle.rules.specs.declared.Entry.{Entry}
 use Rattle.rules.specs.declared.LookUp.{LookUp}
 use Rattle.rules.specs.Numbers.{operationRefused}
-use Rattle.rules.specs.Lists.{filterb, pick}
+use Rattle.rules.specs.Lists.{filterb, findb}
 use Rattle.rules.specs.Time.{reached}
 use Rattle.rules.specs.State.{Model, withEntries, withWaits, withClock, withNextEntry}
 use Rattle.rules.specs.Template.{matches}
-use Rattle.rules.specs.Holds.{visible}
-use Rattle.rules.specs.Frame.{Frame, decode, isWrite, isLookUp, isCommit, isTick}
+use Rattle.rules.specs.Holds.{visible, oldest}
+use Rattle.rules.specs.Frame.{Frame, decode, isWrite, isLookUp, isCommit, isTick, serves}
 use Rattle.rules.specs.Records.{written, found, committed, exception, ticked}
 use Rattle.rules.specs.Done.{Carried, Done, after, quiet}
 use Rattle.rules.specs.LookUp.{lookUpOf, handOut, answer, answerNothing, answerWaiting}
@@ -23,17 +23,17 @@ use Rattle.rules.specs.Service.{serve, service}
 use Rattle.rules.specs.Tick.{endedTxns, abortAll, dropEnded, closeWaits}
 use Rattle.rules.specs.Refusals.{refusal}
 use Rattle.rules.specs.Write.{newEntry, stored}
-use Rattle.rules.specs.Step.{carriedOut, accepted, refusedWith, step}
+use Rattle.rules.specs.Step.{ownPart, carriedOut, accepted, refusedWith, step}
 use Rattle.rules.specs.Allowed.{Answered}
 use Rattle.demands.specs.Machine.{Machine, Stepper, StepsBy, spaceOf, theRules}
 use Rattle.demands.specs.Demands.{Demand1, Demand2, Demand3}
 
 -- a space that judges as the rules do, and carries some frames out in another way
-abbrev pub carrying : (Frame → Bool) → ((ℕ → ℕ) → Model → Frame → Done) → Stepper
-carrying some wrongly choice m bs area =
+abbrev pub carrying : (Frame → Bool) → (Model → Frame → Done) → Stepper
+carrying some wrongly m bs area =
     let f = decode bs in
     let n = refusal m bs area in
-    cond (eqb n 0) (accepted (cond (some f) (wrongly choice m f) (carriedOut choice m f))) (refusedWith m bs n)
+    cond (eqb n 0) (accepted (cond (some f) (wrongly m f) (carriedOut m f))) (refusedWith m bs n)
 
 abbrev pub lookUps : Frame → Bool
 lookUps f = isLookUp (f .op)
@@ -46,29 +46,29 @@ alone c = after (c .own) (quiet (c .model))
 
 -- says nothing, or waiting, while an entry is available
 unfoldable pub saysNothing : Stepper
-saysNothing = carrying lookUps (λ choice m f. alone (answerNothing m (lookUpOf m f)))
+saysNothing = carrying lookUps (λ m f. alone (answerNothing m (lookUpOf m f)))
 
 unfoldable pub saysWaiting : Stepper
-saysWaiting = carrying lookUps (λ choice m f. alone (answerWaiting m (lookUpOf m f)))
+saysWaiting = carrying lookUps (λ m f. alone (answerWaiting m (lookUpOf m f)))
 
 -- refuses every frame
 unfoldable pub refusesAll : Stepper
-refusesAll choice m bs area = refusedWith m bs operationRefused
+refusesAll m bs area = refusedWith m bs operationRefused
 
 -- prints the same record always
 unfoldable pub sameRecord : Stepper
-sameRecord choice m bs area = record { model = step choice m bs area .model; records = ticked ∷ []; number = 0 }
+sameRecord m bs area = record { model = step m bs area .model; records = ticked ∷ []; number = 0 }
 
 -- stores nothing: a write is answered, and its number used up, and no more
 unfoldable pub storesNothing : Stepper
 storesNothing =
     carrying (λ f. isWrite (f .op))
-    (λ choice m f. record { model = withNextEntry (m .nextEntry + 1) m; records = written f (m .nextEntry) ∷ [] })
+    (λ m f. record { model = withNextEntry (m .nextEntry + 1) m; records = written f (m .nextEntry) ∷ [] })
 
 -- works on the first frame only: once a number has been given out, every frame is refused
 unfoldable pub firstFrameOnly : Stepper
-firstFrameOnly choice m bs area =
-    cond (eqb (m .nextEntry) 1 && eqb (m .nextTxn) 1) (step choice m bs area) (refusedWith m bs operationRefused)
+firstFrameOnly m bs area =
+    cond (eqb (m .nextEntry) 1 && eqb (m .nextTxn) 1) (step m bs area) (refusedWith m bs operationRefused)
 
 -- returns an invented record count: one more than the records written
 abbrev pub oneMore : Answered → Answered
@@ -85,7 +85,7 @@ inventedCount =
 
 -- honours a commit and loses it: the record says committed, the private entries go
 unfoldable pub losesCommit : Stepper
-losesCommit = carrying (λ f. isCommit (f .op)) (λ choice m f. after (committed f) (service choice (abort (f .txn) m)))
+losesCommit = carrying (λ f. isCommit (f .op)) (λ m f. after (committed f) (service (abort (f .txn) m)))
 
 -- Mistakes that students make
 
@@ -110,7 +110,7 @@ dropFree m = withEntries (filterb (λ e. not (reached (m .clock) (e .end)) || no
 unfoldable pub putsBackLate : Stepper
 putsBackLate =
     carrying (λ f. isTick (f .op))
-    (λ choice m f. tickWith dropFree (then (service choice) closeWaits) m)
+    (λ m f. tickWith dropFree (then service closeWaits) m)
 
 -- lets a transaction's own read bar its own take
 abbrev pub unreadByAny : LookUp → Entry → Bool
@@ -120,12 +120,12 @@ unreadByAny w e =
 unfoldable pub ownReadBars : Stepper
 ownReadBars =
     carrying lookUps
-    (λ choice m f. let w = lookUpOf m f in
-    alone (answer m w (f .leaseOrTimeout) (pick (choice (w .party)) (filterb (unreadByAny w) (m .entries)))))
+    (λ m f. let w = lookUpOf m f in
+    alone (answer m w (f .leaseOrTimeout) (findb (unreadByAny w) (m .entries))))
 
 -- gives nothing before service in the tick of the deadline
 unfoldable pub nothingFirst : Stepper
-nothingFirst = carrying (λ f. isTick (f .op)) (λ choice m f. tickWith dropEnded (then closeWaits (service choice)) m)
+nothingFirst = carrying (λ f. isTick (f .op)) (λ m f. tickWith dropEnded (then closeWaits service) m)
 
 -- shows another's private entry to a waiting look-up: the first that waits is handed what is written inside a
 -- transaction
@@ -137,47 +137,47 @@ shown e m (w ∷ ws) =
 unfoldable pub showsPrivate : Stepper
 showsPrivate =
     carrying (λ f. isWrite (f .op) && not (eqb (f .txn) 0))
-    (λ choice m f. after (written f (m .nextEntry)) (shown (newEntry m f) (stored m f) (m .waits)))
+    (λ m f. after (written f (m .nextEntry)) (shown (newEntry m f) (stored m f) (m .waits)))
 
 -- Silence, order and time
 
 -- ignores writes: number 0, no record, nothing stored
 unfoldable pub ignoresWrites : Stepper
-ignoresWrites = carrying (λ f. isWrite (f .op)) (λ choice m f. quiet m)
+ignoresWrites = carrying (λ f. isWrite (f .op)) (λ m f. quiet m)
 
 -- stores each entry twice, with two records
 unfoldable pub writesTwice : Stepper
 writesTwice =
     carrying (λ f. isWrite (f .op))
-    (λ choice m f. after (written f (m .nextEntry)) (carriedOut choice (stored m f) f))
+    (λ m f. after (written f (m .nextEntry)) (carriedOut (stored m f) f))
 
 -- ticks at each write, with all that a tick does
 unfoldable pub ticksAtWrites : Stepper
 ticksAtWrites =
     carrying (λ f. isWrite (f .op))
-    (λ choice m f. then (λ n. carriedOut choice n f) (tickWith dropEnded (then (service choice) closeWaits)) m)
+    (λ m f. then (λ n. carriedOut n f) (tickWith dropEnded (then service closeWaits)) m)
 
 -- lets no transaction expire
 unfoldable pub neverExpires : Stepper
 neverExpires =
     carrying (λ f. isTick (f .op))
-    (λ choice m f. after ticked (then (service choice) closeWaits (dropEnded (withClock (m .clock + 1) m))))
+    (λ m f. after ticked (then service closeWaits (dropEnded (withClock (m .clock + 1) m))))
 
 -- gives the exceptions of a tick in another order than by number
 unfoldable pub lastExceptionFirst : Stepper
 lastExceptionFirst =
     carrying (λ f. isTick (f .op))
-    (λ choice m f. let later = withClock (m .clock + 1) m in
+    (λ m f. let later = withClock (m .clock + 1) m in
     let ended = reverse (endedTxns later) in
-    let last = then (service choice) closeWaits (dropEnded (abortAll ended later)) in
+    let last = then service closeWaits (dropEnded (abortAll ended later)) in
     record { model = last .model; records = ticked ∷ map exception ended ++ last .records })
 
 -- serves the last that arrived first
 unfoldable pub lastServedFirst : Stepper
 lastServedFirst =
     carrying (λ f. isWrite (f .op))
-    (λ choice m f. let n = stored m f in
-    let r = serve choice (n .txns) (n .entries) (reverse (n .waits)) in
+    (λ m f. let n = stored m f in
+    let r = serve (n .txns) (n .entries) (reverse (n .waits)) in
     let left = withEntries (r .entries) (withWaits (reverse (r .waits)) n) in
     after (written f (m .nextEntry)) (record { model = left; records = r .records }))
 
@@ -185,7 +185,29 @@ lastServedFirst =
 unfoldable pub servesEnded : Stepper
 servesEnded =
     carrying (λ f. isTick (f .op))
-    (λ choice m f. tickWith (λ n. n) (then (service choice) (then (λ n. quiet (dropEnded n)) closeWaits)) m)
+    (λ m f. tickWith (λ n. n) (then service (then (λ n. quiet (dropEnded n)) closeWaits)) m)
+
+-- "Oldest mark first"
+
+-- hands out the newest available entry at once
+unfoldable pub newestFirst : Stepper
+newestFirst =
+    carrying lookUps
+    (λ m f. let w = lookUpOf m f in
+    alone (answer m w (f .leaseOrTimeout) (oldest (m .txns) w (reverse (m .entries)))))
+
+-- hands out the newest in service, the oldest at once
+abbrev pub newestServed : Model → Done
+newestServed m =
+    let r = serve (m .txns) (reverse (m .entries)) (m .waits) in
+    record { model = withEntries (reverse (r .entries)) (withWaits (r .waits) m); records = r .records }
+
+unfoldable pub newestInService : Stepper
+newestInService =
+    carrying serves
+    (λ m f. let c = ownPart m f in
+    let others = after (c .own) (newestServed (c .model)) in
+    cond (isTick (f .op)) (tickWith dropEnded (then newestServed closeWaits) m) others)
 
 -- answers no frame at all
 abbrev pub mute : Machine
@@ -212,4 +234,6 @@ pub record RuledOut : Type 0 where
   pub last-exception-first : Demand2 (spaceOf lastExceptionFirst) → ⊥
   pub last-served-first : Demand2 (spaceOf lastServedFirst) → ⊥
   pub serves-ended : Demand2 (spaceOf servesEnded) → ⊥
+  pub newest-first : Demand2 (spaceOf newestFirst) → ⊥
+  pub newest-in-service : Demand2 (spaceOf newestInService) → ⊥
   pub answers-none : Demand1 mute → ⊥

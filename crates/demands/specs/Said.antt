@@ -1,6 +1,6 @@
 -- Demand 2, what a step says: the frame's own record, then what every step ends with; every record, and no other, in
 -- document 01's order. (What a step leaves in the tables is told by `Book` and `Told`.)
-use Prim.Native.Nat.{_+_}
+use Prim.Native.Nat.{_+_, _≤_}
 use mathlib.Core.Bool.{Bool, true, false, cond, not, _&&_, _||_}
 use mathlib.Core.Path.{_≡_}
 use mathlib.Core.List.{List, [], _∷_, _++_, map, List·Memᴰ}
@@ -26,13 +26,19 @@ inVain f m =
     eqb (f .leaseOrTimeout) 0
     || isIfExists (f .op) && not (someConflicts (m .txns) (lookUpOf m f) (m .entries))
 
+-- "Where several entries are available, found now hands out the one with the lowest entry number .. for immediate and
+-- served look-ups alike" (document 02, T-02): e is stored, available, and no available entry has a lower number
+pub record Oldest (ts : List Txn) (w : LookUp) (es : List Entry) (e : Entry) : Type 0 where
+  pub stored : List·Memᴰ e es
+  pub is-available : available ts w e ≡ true
+  pub lowest : (x : Entry) → List·Memᴰ x es → available ts w x ≡ true → e .id .0 ≤ x .id .0
+
 -- "What each frame does" of its own: the frame's own record, and the tables then
 pub data Own (f : Frame) (m : Model) : Record → Model → Type 0 where
   writes : isWrite (f .op) ≡ true → Own f m (written f (m .nextEntry)) (stored m f)
-  -- "Found, if an entry is available." "Which one of several .. is left free; it must be available at that step."
+  -- "Found, if an entry is available."
   finds : (e : Entry) → isLookUp (f .op) ≡ true
-      → List·Memᴰ e (m .entries)
-      → available (m .txns) (lookUpOf m f) e ≡ true
+      → Oldest (m .txns) (lookUpOf m f) (m .entries) e
       → Own f m (found (lookUpOf m f) e) (withEntries (handOut (m .txns) (lookUpOf m f) e (m .entries)) m)
   finds-none : isLookUp (f .op) ≡ true
       → someAvailable (m .txns) (lookUpOf m f) (m .entries) ≡ false
@@ -53,10 +59,9 @@ pub data Own (f : Frame) (m : Model) : Record → Model → Type 0 where
 -- from the entries and the waiting look-ups to the founds in the order served, and the look-ups that wait on
 pub data Serves (ts : List Txn) : List Entry → List LookUp → List Record → List LookUp → Type 0 where
   gone-through : (es : List Entry) → Serves ts es [] [] []
-  -- found, with any entry that is stored and available at its turn
+  -- found, with the oldest entry that is available at its turn
   is-found : (w : LookUp) (e : Entry) {es : List Entry} {ws left : List LookUp} {founds : List Record}
-      → List·Memᴰ e es
-      → available ts w e ≡ true
+      → Oldest ts w es e
       → Serves ts (handOut ts w e es) ws founds left
       → Serves ts es (w ∷ ws) (found w e ∷ founds) left
   -- passed over, since none is available at its turn

@@ -12,11 +12,11 @@ use Rattle.rules.specs.declared.EntryId.{EntryId}
 use Rattle.rules.specs.declared.Txn.{Txn}
 use Rattle.rules.specs.declared.TxnId.{TxnId}
 use Rattle.rules.specs.declared.LookUp.{LookUp}
-use Rattle.rules.specs.Lists.{filterb, findb, anyb, pick}
+use Rattle.rules.specs.Lists.{filterb, findb, anyb}
 use Rattle.rules.specs.Numbers.{maxTxns}
 use Rattle.rules.specs.State.{Model, withEntries, withTxns, withWaits}
 use Rattle.rules.specs.Template.{matches}
-use Rattle.rules.specs.Holds.{liveTxn, addReaderOf, dropReaderOf, readByOther, availableIf, available, availableTo}
+use Rattle.rules.specs.Holds.{liveTxn, addReaderOf, dropReaderOf, readByOther, availableIf, available, oldest}
 use Rattle.rules.specs.Holds.{othersIf, conflicts, someConflicts}
 use Rattle.rules.specs.LookUp.{handOut, removes, heldBy, withHold, marked, isEntry}
 use Rattle.rules.specs.Transactions.{releasedBy, released, commit, abort, withoutTxn, takenBy, privateTo}
@@ -25,7 +25,7 @@ use Rattle.rules.specs.Words.{upTo, txnOf, txnCount, txns, view}
 use Rattle.rules.proofs.ListLaws.{filter-all}
 use Rattle.rules.proofs.BoolLaws.{cond-cases}
 use Rattle.words.specs.Rows.{txnRow}
-use Rattle.words.proofs.SearchLaws.{find-append-none, find-append-some, first-pick}
+use Rattle.words.proofs.SearchLaws.{find-append-none, find-append-some}
 use Rattle.holds.specs.declared.sweep.Sweep.the-variants.{Expire, Commit, Abort, Remove, Mark}
 use Rattle.holds.specs.declared.endings.Leave.the-variants.{Inside}
 use Rattle.holds.specs.Leave.{stays}
@@ -77,13 +77,11 @@ unmarked n t x =
     (λ h. cond-cases (λ y. y ≡ x) (privateTo (t .0) x) (λ k. refl) (λ k. refl)) (λ h. refl)
 
 module _ (ws : List ℕ) (w : LookUp) (p : ℕ) (q : p ≡ slotOf (liveTxn (w .txn .0) (view ws .txns))) where
-  -- the first entry that is available, and whether one conflicts
-  pub first-available : pick 0 (availableTo (view ws .txns) w (view ws .entries)) ≡ findb (availableAt p w)
-      (view ws .entries)
+  -- the oldest entry that is available, and whether one conflicts
+  pub first-available : oldest (view ws .txns) w (view ws .entries) ≡ findb (availableAt p w) (view ws .entries)
   unfolding available availableAt readByOther
   first-available =
-      first-pick (available (view ws .txns) w) (view ws .entries)
-      ∙ ap (λ drop. findb (λ e. availableIf (not (eqb (drop (e .readers)) 0)) w e) (view ws .entries))
+      ap (λ drop. findb (λ e. availableIf (not (eqb (drop (e .readers)) 0)) w e) (view ws .entries))
       (drops ws (w .txn .0) p q)
 
   pub some-conflict : someConflicts (view ws .txns) w (view ws .entries) ≡ anyb (conflictsAt p w) (view ws .entries)

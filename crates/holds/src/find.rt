@@ -1,9 +1,8 @@
 // The search of the entries for a look-up.
 ghost use mathlib.Core.Path.{_≡_};
 ghost use Prim.Native.Nat.{_≤_};
-ghost use Rattle.rules.specs.Lists.{pick};
 ghost use Rattle.rules.specs.Words.{view};
-ghost use Rattle.rules.specs.Holds.{liveTxn, availableTo, someConflicts};
+ghost use Rattle.rules.specs.Holds.{liveTxn, oldest, someConflicts};
 ghost use Rattle.holds.specs.Live.{noSlot, slotOf};
 ghost use Rattle.holds.specs.Find.{matchOf};
 use crate::holds::is_available;
@@ -20,11 +19,10 @@ pub enum Match {
     None,
 }
 
-// The first entry that is available to the look-up, whose transaction has the slot p.
+// The oldest entry that is available to the look-up, whose transaction has the slot p.
 pub fn find_available(space: &Words, w: LookUp, p: u8) -> Match
     requires { ⌜ (p ≤ noSlot) × (p ≡ slotOf (liveTxn (w .txn .0) (view (now space) .txns))) ⌝ }
-    ensures { λ r. ⌜ matchOf r
-        ≡ pick 0 (availableTo (view (now (space .entry)) .txns) w (view (now (space .entry)) .entries)) ⌝ }
+    ensures { λ r. ⌜ matchOf r ≡ oldest (view (now (space .entry)) .txns) w (view (now (space .entry)) .entries) ⌝ }
 {
     let n = entry_count(space);
     let mut i: usize = 0;

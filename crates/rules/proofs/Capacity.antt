@@ -6,19 +6,19 @@ use mathlib.Core.Option.{Option, none, some}
 use mathlib.Core.List.{List, [], _∷_, _++_, map}
 use native.Mathlib.Nat.{le-trans}
 use native.Mathlib.Omega.{arith}
-use borrow.Author.Tests.{leb-false, not-false}
+use borrow.Author.Tests.{leb-false}
 use lib.Dec.{eqb}
 use lib.ListN.{length, length-append, length-map}
 use Rattle.rules.specs.declared.Entry.{Entry}
 use Rattle.rules.specs.declared.Record.{Record}
 use Rattle.rules.specs.declared.Txn.{Txn}
 use Rattle.rules.specs.declared.LookUp.{LookUp}
-use Rattle.rules.specs.Lists.{filterb, pick}
+use Rattle.rules.specs.Lists.{filterb}
 use Rattle.rules.specs.Numbers.{maxEntries, maxTxns, maxWaits, stepRecords, areaRefused}
 use Rattle.rules.specs.Time.{reached}
 use Rattle.rules.specs.State.{Model, Bounded}
-use Rattle.rules.specs.Holds.{available, availableTo, someAvailable}
-use Rattle.rules.specs.Frame.{Frame, decode, isOperation, isWrite, isLookUp, isCreate, isTick, serves}
+use Rattle.rules.specs.Holds.{available, oldest, someAvailable}
+use Rattle.rules.specs.Frame.{Frame, decode, isWrite, isLookUp, isCreate, isTick, serves}
 use Rattle.rules.specs.Records.{exception, nothing}
 use Rattle.rules.specs.Done.{Carried, Done, quiet}
 use Rattle.rules.specs.Write.{newEntry, stored, write}
@@ -26,36 +26,42 @@ use Rattle.rules.specs.LookUp.{lookUpOf, givesNothing, mustWait, answer,
 use Rattle.rules.specs.Transactions.{create, released, withoutTxn, commit, abort}
 use Rattle.rules.specs.Service.{service}
 use Rattle.rules.specs.Tick.{tick, endedTxns, abortAll, dropEnded, lapsed, closeWaits}
-use Rattle.rules.specs.Refusals.{noOperation, entriesFull, txnsFull, waitsFull}
+use Rattle.rules.specs.Refusals.{entriesFull, txnsFull, waitsFull}
 use Rattle.rules.specs.Step.{Outcome, commitFrame, abortFrame, ownPart, finish, carriedOut, step, accepted, refusedWith}
-use Rattle.rules.proofs.ListLaws.{length-filter, pick-none}
-use Rattle.rules.proofs.BoolLaws.{or-right, and-false-right, cond-cases}
+use Rattle.rules.proofs.ListLaws.{length-filter, none-any}
+use Rattle.rules.proofs.BoolLaws.{and-false-right, cond-cases}
 use Rattle.rules.proofs.StepCases.{step-cases, own-cases}
 use Rattle.rules.proofs.ServeLength.{handOut-length, serve-length}
 use Rattle.rules.proofs.RefusalLaws.{Clear, clear, is-one}
 
-stored-fits : (m : Model) (f : Frame) → isWrite (f .op) ≡ true → entriesFull m f ≡ false → Bounded m → Bounded (stored m f)
+stored-fits : (m : Model) (f : Frame) → isWrite (f .op) ≡ true → entriesFull m f ≡ false → Bounded m
+    → Bounded (stored m f)
 unfolding stored entriesFull
 stored-fits m f t e b = record { entries-fit = room; txns-fit = b .txns-fit; waits-fit = b .waits-fit }
   where
     room : length (cond (eqb (f .leaseOrTimeout) 0) (m .entries) (m .entries ++ (newEntry m f ∷ []))) ≤ maxEntries
     room =
         cond-cases (λ (l : List Entry). length l ≤ maxEntries) (eqb (f .leaseOrTimeout) 0) (λ q. b .entries-fit)
-        (λ q. let free = leb-false maxEntries (length (m .entries)) (and-false-right (isWrite (f .op) && not (eqb (f .leaseOrTimeout) 0)) _ (ap₂ (λ x y. x && not y) t q) e) in
+        (λ q. let free = leb-false maxEntries (length (m .entries))
+        (and-false-right (isWrite (f .op) && not (eqb (f .leaseOrTimeout) 0)) _ (ap₂ (λ x y. x && not y) t q) e) in
         omega (arith, free, length-append (m .entries) (newEntry m f ∷ [])))
 
-answer-fits : (m : Model) (f : Frame) (k : ℕ) → isLookUp (f .op) ≡ true → waitsFull m f ≡ false → Bounded m → (o : Option Entry)
-    → pick k (availableTo (m .txns) (lookUpOf m f) (m .entries)) ≡ o → Bounded (answer m (lookUpOf m f) (f .leaseOrTimeout) o .model)
+answer-fits : (m : Model) (f : Frame) → isLookUp (f .op) ≡ true → waitsFull m f ≡ false → Bounded m → (o : Option Entry)
+    → oldest (m .txns) (lookUpOf m f) (m .entries) ≡ o → Bounded (answer m (lookUpOf m f) (f .leaseOrTimeout) o .model)
 unfolding answer answerFound answerNothing answerWaiting waitsFull mustWait
-answer-fits m f k t full b (some e) q =
+answer-fits m f t full b (some e) q =
     record {
       entries-fit = omega (arith, handOut-length (m .txns) (lookUpOf m f) e (m .entries), b .entries-fit);
       txns-fit = b .txns-fit;
       waits-fit = b .waits-fit;
     }
-answer-fits m f k t full b none q =
+answer-fits m f t full b none q =
     cond-cases (λ (c : Carried). Bounded (c .model)) (givesNothing m w (f .leaseOrTimeout)) (λ n. b)
-    (λ n. record { entries-fit = b .entries-fit; txns-fit = b .txns-fit; waits-fit = omega (arith, free n, length-append (m .waits) (w ∷ [])) })
+    (λ n. record {
+      entries-fit = b .entries-fit;
+      txns-fit = b .txns-fit;
+      waits-fit = omega (arith, free n, length-append (m .waits) (w ∷ []));
+    })
   where
     w : LookUp
     w = lookUpOf m f
@@ -64,9 +70,10 @@ answer-fits m f k t full b none q =
     free n =
         leb-false maxWaits (length (m .waits))
         (and-false-right (isLookUp (f .op) && (not (someAvailable (m .txns) w (m .entries)) && not (givesNothing m w (f .leaseOrTimeout)))) _
-        (ap₂ (λ x y. x && y) t (ap₂ (λ x y. not x && not y) (pick-none (available (m .txns) w) k (m .entries) q) n)) full)
+        (ap₂ (λ x y. x && y) t (ap₂ (λ x y. not x && not y) (none-any (available (m .txns) w) (m .entries) q) n)) full)
 
-create-fits : (m : Model) (f : Frame) → isCreate (f .op) ≡ true → txnsFull m f ≡ false → Bounded m → Bounded (create m f .model)
+create-fits : (m : Model) (f : Frame) → isCreate (f .op) ≡ true → txnsFull m f ≡ false → Bounded m
+    → Bounded (create m f .model)
 unfolding create txnsFull
 create-fits m f t full b =
     record {
@@ -75,7 +82,8 @@ create-fits m f t full b =
       waits-fit = b .waits-fit;
     }
 
-released-length : (ts : List Txn) (t : ℕ) (p : Entry → Bool) (es : List Entry) → length (map (released ts t) (filterb p es)) ≤ length es
+released-length : (ts : List Txn) (t : ℕ) (p : Entry → Bool) (es : List Entry)
+    → length (map (released ts t) (filterb p es)) ≤ length es
 released-length ts t p es = omega (arith, length-map (filterb p es) (released ts t), length-filter p es)
 
 commit-fits : (t : ℕ) (m : Model) → Bounded m → Bounded (commit t m)
@@ -101,15 +109,15 @@ unfolding abortAll
 abortAll-fits [] m b = b
 abortAll-fits (t ∷ ts) m b = abortAll-fits ts (abort (t .id .0) m) (abort-fits (t .id .0) m b)
 
-own-fits : (choice : ℕ → ℕ) (m : Model) (bs : List ℕ) (area : ℕ) → Clear m bs area → Bounded m
-    → Bounded (ownPart choice m (decode bs) .model)
+own-fits : (m : Model) (bs : List ℕ) (area : ℕ) → Clear m bs area → Bounded m
+    → Bounded (ownPart m (decode bs) .model)
 unfolding write lookUp commitFrame abortFrame tick
-own-fits choice m bs area c b =
+own-fits m bs area c b =
     let f = decode bs in
     let w = lookUpOf m f in
-    own-cases (λ (d : Carried). Bounded (d .model)) choice m f (is-one bs (c .operation))
+    own-cases (λ (d : Carried). Bounded (d .model)) m f (is-one bs (c .operation))
     (λ t. stored-fits m f t (c .entry-room) b)
-    (λ t. answer-fits m f (choice (w .party)) t (c .wait-room) b (pick (choice (w .party)) (availableTo (m .txns) w (m .entries))) refl)
+    (λ t. answer-fits m f t (c .wait-room) b (oldest (m .txns) w (m .entries)) refl)
     (λ t. create-fits m f t (c .txn-room) b)
     (λ t. commit-fits (f .txn) m b)
     (λ t. abort-fits (f .txn) m b)
@@ -127,16 +135,21 @@ lapsed-fits m b =
     let over : Txn → Bool = λ t. reached (m .clock) (t .end) in
     let r = abortAll-fits (filterb over (m .txns)) m b in
     record {
-      model-fits = record { entries-fit = le-trans (length-filter _ (abortAll (filterb over (m .txns)) m .entries)) (r .entries-fit); txns-fit = r .txns-fit; waits-fit = r .waits-fit };
-      records-fit = omega (arith, length-map (filterb over (m .txns)) exception, length-filter over (m .txns), b .txns-fit);
+      model-fits = record {
+        entries-fit = le-trans (length-filter _ (abortAll (filterb over (m .txns)) m .entries)) (r .entries-fit);
+        txns-fit = r .txns-fit;
+        waits-fit = r .waits-fit;
+      };
+      records-fit =
+          omega (arith, length-map (filterb over (m .txns)) exception, length-filter over (m .txns), b .txns-fit);
     }
 
 -- a found for each look-up that waits no longer
-pub service-fits : (choice : ℕ → ℕ) (m : Model) → Bounded m
-    → Bounded (service choice m .model) × (length (service choice m .records) + length (service choice m .model .waits) ≤ maxWaits)
+pub service-fits : (m : Model) → Bounded m
+    → Bounded (service m .model) × (length (service m .records) + length (service m .model .waits) ≤ maxWaits)
 unfolding service
-service-fits choice m b =
-    let r = serve-length choice (m .txns) (m .entries) (m .waits) in (
+service-fits m b =
+    let r = serve-length (m .txns) (m .entries) (m .waits) in (
       record {
         entries-fit = omega (arith, r .entries, b .entries-fit);
         txns-fit = b .txns-fit;
@@ -151,47 +164,59 @@ unfolding closeWaits
 close-fits m b =
     let due : LookUp → Bool = λ w. reached (m .clock) (w .deadline) in
     record {
-      model-fits = record { entries-fit = b .entries-fit; txns-fit = b .txns-fit; waits-fit = le-trans (length-filter _ (m .waits)) (b .waits-fit) };
+      model-fits = record {
+        entries-fit = b .entries-fit;
+        txns-fit = b .txns-fit;
+        waits-fit = le-trans (length-filter _ (m .waits)) (b .waits-fit);
+      };
       records-fit = omega (arith, length-map (filterb due (m .waits)) nothing, length-filter due (m .waits));
     }
 
 -- so at most 24 records behind the frame's own
-finish-fits : (choice : ℕ → ℕ) (f : Frame) (m : Model) → Bounded m → Fits (maxTxns + maxWaits) (finish choice f m)
+finish-fits : (f : Frame) (m : Model) → Bounded m → Fits (maxTxns + maxWaits) (finish f m)
 unfolding finish
-finish-fits choice f m b = record { model-fits = closed-fits .model-fits; records-fit = few }
+finish-fits f m b = record { model-fits = closed-fits .model-fits; records-fit = few }
   where
     ended : Done
     ended = cond (isTick (f .op)) (lapsed m) (quiet m)
 
     ended-fits : Fits maxTxns ended
     ended-fits =
-        cond-cases (Fits maxTxns) (isTick (f .op)) (λ t. lapsed-fits m b) (λ t. record { model-fits = b; records-fit = omega arith })
+        cond-cases (Fits maxTxns) (isTick (f .op)) (λ t. lapsed-fits m b)
+        (λ t. record { model-fits = b; records-fit = omega arith })
 
     served : Done
-    served = cond (serves f) (service choice (ended .model)) (quiet (ended .model))
+    served = cond (serves f) (service (ended .model)) (quiet (ended .model))
 
     served-fits : Bounded (served .model) × (length (served .records) + length (served .model .waits) ≤ maxWaits)
     served-fits =
-        cond-cases (λ (d : Done). Bounded (d .model) × (length (d .records) + length (d .model .waits) ≤ maxWaits)) (serves f)
-        (λ t. service-fits choice (ended .model) (ended-fits .model-fits)) (λ t. (ended-fits .model-fits, omega (arith, ended-fits .model-fits .waits-fit)))
+        cond-cases (λ (d : Done). Bounded (d .model) × (length (d .records) + length (d .model .waits) ≤ maxWaits))
+        (serves f)
+        (λ t. service-fits (ended .model) (ended-fits .model-fits))
+        (λ t. (ended-fits .model-fits, omega (arith, ended-fits .model-fits .waits-fit)))
 
     closed : Done
     closed = cond (isTick (f .op)) (closeWaits (served .model)) (quiet (served .model))
 
     closed-fits : Fits (length (served .model .waits)) closed
     closed-fits =
-        cond-cases (Fits (length (served .model .waits))) (isTick (f .op)) (λ t. close-fits (served .model) (served-fits .0))
+        cond-cases (Fits (length (served .model .waits))) (isTick (f .op))
+        (λ t. close-fits (served .model) (served-fits .0))
         (λ t. record { model-fits = served-fits .0; records-fit = omega arith })
 
     few : length (ended .records ++ served .records ++ closed .records) ≤ maxTxns + maxWaits
     few = simp length-append (omega (arith, ended-fits .records-fit, served-fits .1, closed-fits .records-fit))
 
 -- capacities are kept, and a step writes at most 25 records
-pub step-fits : (choice : ℕ → ℕ) (m : Model) (bs : List ℕ) (area : ℕ) → Bounded m
-    → Bounded (step choice m bs area .model) × (length (step choice m bs area .records) ≤ stepRecords)
+pub step-fits : (m : Model) (bs : List ℕ) (area : ℕ) → Bounded m
+    → Bounded (step m bs area .model) × (length (step m bs area .records) ≤ stepRecords)
 unfolding refusedWith accepted carriedOut
-step-fits choice m bs area b =
-    step-cases (λ (o : Outcome). Bounded (o .model) × (length (o .records) ≤ stepRecords)) choice m bs area
-    (λ n. (b, cond-cases (λ (l : List Record). length l ≤ stepRecords) (eqb n areaRefused) (λ q. omega arith) (λ q. omega arith)))
-    (λ e. let r = finish-fits choice (decode bs) (ownPart choice m (decode bs) .model) (own-fits choice m bs area (clear m bs area e) b) in
+step-fits m bs area b =
+    step-cases (λ (o : Outcome). Bounded (o .model) × (length (o .records) ≤ stepRecords)) m bs area
+    (λ n. (
+      b,
+      cond-cases (λ (l : List Record). length l ≤ stepRecords) (eqb n areaRefused) (λ q. omega arith)
+          (λ q. omega arith),
+    ))
+    (λ e. let r = finish-fits (decode bs) (ownPart m (decode bs) .model) (own-fits m bs area (clear m bs area e) b) in
     (r .model-fits, omega (arith, r .records-fit)))

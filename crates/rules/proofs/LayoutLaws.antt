@@ -1,11 +1,10 @@
 -- The table of operations: what its rows say of each operation, and with what a frame of each finishes.
 use Prim.Native.Nat.{ℕ, zero, suc, _≤_}
-use mathlib.Core.Bool.{Bool, true, false, not, cond, _&&_}
-use mathlib.Core.Logic.{_⊎_, inl, inr, ⊎-elim}
-use mathlib.Core.Path.{_≡_, refl, subst⁻¹}
-use mathlib.Core.List.{append-nil}
+use mathlib.Core.Bool.{true, false, not, _&&_}
+use mathlib.Core.Logic.{_⊎_, ⊎-elim}
+use mathlib.Core.Path.{_≡_, refl}
 use native.Mathlib.Omega.{arith}
-use borrow.Author.Tests.{eqb-true, eqb-false, eq-eqb, ne-eqb, leb-true, leb-false, ltb-true}
+use borrow.Author.Tests.{eqb-true, eqb-false, eq-eqb, leb-true, leb-false, ltb-true}
 use lib.Dec.{eqb, leb, ltb}
 use lib.ListN.{length}
 use Rattle.rules.specs.Numbers.{opWrite, opRead, opTake, opReadIfExists, opTakeIfExists, opCreate, opCommit, opAbort, opTick}
@@ -14,7 +13,6 @@ use Rattle.rules.specs.Frame.{Frame, layoutOf, isOperation, isWrite, isL
 use Rattle.rules.specs.Frame.{layouts, lookUpOp, isTake, isIfExists, serves}
 use Rattle.rules.specs.Frame.{hasLeaseOrTimeout, endsTxn}
 use Rattle.rules.specs.Done.{quiet}
-use Rattle.rules.specs.Service.{service}
 use Rattle.rules.specs.Step.{finish}
 use Rattle.rules.proofs.BoolLaws.{and-left, and-right, and-cases, twice-not}
 
@@ -22,7 +20,8 @@ use Rattle.rules.proofs.BoolLaws.{and-left, and-right, and-cases, twice
 pub lookUp-cases : (P : ℕ → Type 0) (op : ℕ) → isLookUp op ≡ true
     → P opRead → P opTake → P opReadIfExists → P opTakeIfExists → P op
 lookUp-cases P op e p2 p3 p4 p5 =
-    go op (leb-true opRead op (and-left _ (leb op opTakeIfExists) e)) (leb-true op opTakeIfExists (and-right (leb opRead op) _ e))
+    go op (leb-true opRead op (and-left _ (leb op opTakeIfExists) e))
+    (leb-true op opTakeIfExists (and-right (leb opRead op) _ e))
   where
     go : (n : ℕ) → opRead ≤ n → n ≤ opTakeIfExists → P n
     go zero l h = absurd (omega arith)
@@ -52,17 +51,14 @@ left-is-tick op is w l c k a =
     let low = ltb-true 0 op (and-left _ (ltb op (length layouts)) is) in
     let high = ltb-true op (length layouts) (and-right (ltb 0 op) _ is) in
     eq-eqb op opTick
-    (⊎-elim (λ q. omega (arith, leb-false opRead op q)) (λ q. omega (arith, leb-false op opTakeIfExists q)) (and-cases (leb opRead op) (leb op opTakeIfExists) l))
+    (⊎-elim (λ q. omega (arith, leb-false opRead op q)) (λ q. omega (arith, leb-false op opTakeIfExists q))
+    (and-cases (leb opRead op) (leb op opTakeIfExists) l))
 
--- a frame after which service does not follow, and that is no tick, is over; one after which it follows ends with it
-module _ (choice : ℕ → ℕ) (f : Frame) (m : Model) where
-  pub finish-quiet : isTick (f .op) ≡ false → serves f ≡ false → finish choice f m ≡ quiet m
+-- a frame after which service does not follow, and that is no tick, is over
+module _ (f : Frame) (m : Model) where
+  pub finish-quiet : isTick (f .op) ≡ false → serves f ≡ false → finish f m ≡ quiet m
   unfolding finish
   finish-quiet t s = rw (t, s)
-
-  pub finish-serves : isTick (f .op) ≡ false → serves f ≡ true → finish choice f m ≡ service choice m
-  unfolding finish
-  finish-serves t s = rw (t, s, append-nil)
 
 -- which those are
 module _ (f : Frame) where

@@ -1,5 +1,5 @@
 -- Service leaves no more entries than there were, and each look-up is answered or waits on.
-use Prim.Native.Nat.{ℕ, _+_, _≤_}
+use Prim.Native.Nat.{_+_, _≤_}
 use mathlib.Core.Bool.{cond, not}
 use mathlib.Core.Path.{_≡_, refl}
 use mathlib.Core.List.{List}
@@ -17,17 +17,22 @@ use Rattle.rules.proofs.BoolLaws.{cond-cases}
 pub handOut-length : (ts : List Txn) (w : LookUp) (e : Entry) (es : List Entry) → length (handOut ts w e es) ≤ length es
 unfolding handOut
 handOut-length ts w e es =
-    cond-cases (λ (l : List Entry). length l ≤ length es) (removes w e) (λ q. length-filter (λ x. not (isEntry e x)) es) (λ q. omega (arith, length-map es (λ x. cond (isEntry e x) (marked ts w x) x)))
+    cond-cases (λ (l : List Entry). length l ≤ length es) (removes w e)
+    (λ q. length-filter (λ x. not (isEntry e x)) es)
+    (λ q. omega (arith, length-map es (λ x. cond (isEntry e x) (marked ts w x) x)))
 
 -- each look-up is answered or waits on
 pub record ServeLength (es : List Entry) (ws : List LookUp) (r : Served) : Type 0 where
   pub entries : length (r .entries) ≤ length es
   pub waits : length (r .waits) + length (r .records) ≡ length ws
 
-pub serve-length : (choice : ℕ → ℕ) (ts : List Txn) (es : List Entry) (ws : List LookUp) → ServeLength es ws (serve choice ts es ws)
-serve-length choice ts es ws =
-    serve-ind choice ts ServeLength (λ es. record { entries = omega arith; waits = refl })
+pub serve-length : (ts : List Txn) (es : List Entry) (ws : List LookUp) → ServeLength es ws (serve ts es ws)
+serve-length ts es ws =
+    serve-ind ts ServeLength (λ es. record { entries = omega arith; waits = refl })
     (λ es w ws q below. record { entries = below .entries; waits = omega (arith, below .waits) })
-    (λ es w ws x q below. record { entries = omega (arith, below .entries, handOut-length ts w x es); waits = omega (arith, below .waits) })
+    (λ es w ws x q below. record {
+      entries = omega (arith, below .entries, handOut-length ts w x es);
+      waits = omega (arith, below .waits);
+    })
     es
     ws

@@ -18,13 +18,12 @@ pub record Answered : Type 0 where
   pub area : List ℕ
 
 -- The words of a space, a frame and an answers area are allowed to become the words `after` and what is answered:
--- there is a choice with which the rules give exactly this. A refused frame gives the very same words back.
+-- exactly what the rules give. A refused frame gives the very same words back.
 pub record Allowed (before frame area after : List ℕ) (a : Answered) : Type 0 where
-  pub choice : ℕ → ℕ
-  pub space : view after ≡ step choice (view before) frame (length area) .model
-  pub records : a .records ≡ step choice (view before) frame (length area) .records
+  pub space : view after ≡ step (view before) frame (length area) .model
+  pub records : a .records ≡ step (view before) frame (length area) .records
   pub count : a .count ≡ length (a .records)
-  pub number : a .number ≡ step choice (view before) frame (length area) .number
+  pub number : a .number ≡ step (view before) frame (length area) .number
   pub bytes : a .area ≡ areaAfter (a .records) area
   pub unchanged : (a .number ≡ 0 → ⊥) → after ≡ before
 
@@ -35,9 +34,8 @@ pub record Stepped (before frame area after : List ℕ) (returned : ℕ) (area�
   pub returns : returned ≡ answered .count + 65536 * answered .number
   pub leaves : area′ ≡ answered .area
 
--- `space_run_tray` returns the three numbers of a tray's run in one, and leaves the answers area as `area′`: there
--- are choices, one for each frame, with which the rules give exactly this
+-- `space_run_tray` returns the three numbers of a tray's run in one, and leaves the answers area as `area′`: exactly
+-- what the rules give
 pub record TrayRan (tray area : List ℕ) (returned : ℕ) (area′ : List ℕ) : Type 0 where
-  pub choices : ℕ → ℕ → ℕ
-  pub returns : returned ≡ hostNumber (runTray choices tray (length area))
-  pub leaves : area′ ≡ areaAfter (runTray choices tray (length area) .records) area
+  pub returns : returned ≡ hostNumber (runTray tray (length area))
+  pub leaves : area′ ≡ areaAfter (runTray tray (length area) .records) area

@@ -1,5 +1,5 @@
 -- What a frame does, in parts: its own part with its own record, and parts with any number of records.
-use mathlib.Core.List.{List, [], _∷_, _++_}
+use mathlib.Core.List.{List, [], _∷_}
 use Rattle.rules.specs.declared.Record.{Record}
 use Rattle.rules.specs.State.{Model}
 

@@ -7,7 +7,7 @@ use lib.Dec.{eqb}
 use Rattle.rules.specs.declared.Entry.{Entry}
 use Rattle.rules.specs.declared.Txn.{Txn}
 use Rattle.rules.specs.declared.LookUp.{LookUp}
-use Rattle.rules.specs.Lists.{filterb, findb, anyb}
+use Rattle.rules.specs.Lists.{findb, anyb}
 use Rattle.rules.specs.Template.{bit, matches}
 
 -- the live transaction with a number
@@ -65,9 +65,10 @@ conflicts ts w e =
     && not (available ts w e)
     && othersIf (readByOther ts (w .txn .0) e) w e
 
--- the entries that are available to a look-up
-abbrev pub availableTo : List Txn → LookUp → List Entry → List Entry
-availableTo ts w es = filterb (available ts w) es
+-- "Where several entries are available, found now hands out the one with the lowest entry number" (document 02, T-02).
+-- It stands first: entries stand by number (demands, `Bounds.by-number`).
+abbrev pub oldest : List Txn → LookUp → List Entry → Option Entry
+oldest ts w es = findb (available ts w) es
 
 abbrev pub someAvailable : List Txn → LookUp → List Entry → Bool
 someAvailable ts w es = anyb (available ts w) es

@@ -8,10 +8,10 @@ use Rattle.rules.specs.declared.Entry.{Entry}
 use Rattle.rules.specs.declared.Txn.{Txn}
 use Rattle.rules.specs.declared.TxnId.{TxnId}
 use Rattle.rules.specs.declared.LookUp.{LookUp}
-use Rattle.rules.specs.Lists.{filterb, pick}
+use Rattle.rules.specs.Lists.{filterb}
 use Rattle.rules.specs.Time.{until}
 use Rattle.rules.specs.State.{Model, holding, withEntries, withWaits}
-use Rattle.rules.specs.Holds.{liveTxn, addReaderOf, dropReaderOf, availableTo, someAvailable, someConflicts}
+use Rattle.rules.specs.Holds.{liveTxn, addReaderOf, dropReaderOf, oldest, someAvailable, someConflicts}
 use Rattle.rules.specs.Frame.{Frame, isTake, isIfExists}
 use Rattle.rules.specs.Records.{found, nothing, waiting}
 use Rattle.rules.specs.Done.{Carried}
@@ -78,8 +78,5 @@ unfoldable pub answer : Model → LookUp → ℕ → Option Entry → Carried
 answer m w timeout (some e) = answerFound m w e
 answer m w timeout none = cond (givesNothing m w timeout) (answerNothing m w) (answerWaiting m w)
 
--- `choice` is the free choice: from the party that is answered to a place among the entries available to it
-unfoldable pub lookUp : (ℕ → ℕ) → Model → Frame → Carried
-lookUp choice m f =
-    let w = lookUpOf m f in
-    answer m w (f .leaseOrTimeout) (pick (choice (w .party)) (availableTo (m .txns) w (m .entries)))
+unfoldable pub lookUp : Model → Frame → Carried
+lookUp m f = let w = lookUpOf m f in answer m w (f .leaseOrTimeout) (oldest (m .txns) w (m .entries))

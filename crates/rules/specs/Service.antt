@@ -1,15 +1,13 @@
 -- Service: the waiting look-ups are gone through once in order of arrival, and each with an available entry is
--- answered found.
-use Prim.Native.Nat.{ℕ}
+-- answered found, with the oldest available at its turn.
 use mathlib.Core.List.{List, [], _∷_}
 use mathlib.Core.Option.{none, some}
 use Rattle.rules.specs.declared.Entry.{Entry}
 use Rattle.rules.specs.declared.Record.{Record}
 use Rattle.rules.specs.declared.Txn.{Txn}
 use Rattle.rules.specs.declared.LookUp.{LookUp}
-use Rattle.rules.specs.Lists.{pick}
 use Rattle.rules.specs.State.{Model, withEntries, withWaits}
-use Rattle.rules.specs.Holds.{availableTo}
+use Rattle.rules.specs.Holds.{oldest}
 use Rattle.rules.specs.Records.{found}
 use Rattle.rules.specs.Done.{Done}
 use Rattle.rules.specs.LookUp.{handOut}
@@ -27,15 +25,15 @@ foundFirst w e r = record { entries = r .entries; waits = r .waits; records = fo
 abbrev pub waitsFirst : LookUp → Served → Served
 waitsFirst w r = record { entries = r .entries; waits = w ∷ r .waits; records = r .records }
 
-unfoldable pub serve : (ℕ → ℕ) → List Txn → List Entry → List LookUp → Served
-serve choice ts es [] = record { entries = es; waits = []; records = [] }
-serve choice ts es (w ∷ ws) =
-    elim (pick (choice (w .party)) (availableTo ts w es)) [
-      | some e ↦ foundFirst w e (serve choice ts (handOut ts w e es) ws)
-      | none ↦ waitsFirst w (serve choice ts es ws)
+unfoldable pub serve : List Txn → List Entry → List LookUp → Served
+serve ts es [] = record { entries = es; waits = []; records = [] }
+serve ts es (w ∷ ws) =
+    elim (oldest ts w es) [
+      | some e ↦ foundFirst w e (serve ts (handOut ts w e es) ws)
+      | none ↦ waitsFirst w (serve ts es ws)
     ]
 
-unfoldable pub service : (ℕ → ℕ) → Model → Done
-service choice m =
-    let r = serve choice (m .txns) (m .entries) (m .waits) in
+unfoldable pub service : Model → Done
+service m =
+    let r = serve (m .txns) (m .entries) (m .waits) in
     record { model = withEntries (r .entries) (withWaits (r .waits) m); records = r .records }

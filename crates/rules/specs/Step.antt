@@ -24,26 +24,26 @@ unfoldable pub abortFrame : Model → Frame → Carried
 abortFrame m f = record { model = abort (f .txn) m; own = aborted f }
 
 -- what a frame that is not refused does of its own
-unfoldable pub ownPart : (ℕ → ℕ) → Model → Frame → Carried
-ownPart choice m f =
+unfoldable pub ownPart : Model → Frame → Carried
+ownPart m f =
     cond (isWrite (f .op)) (write m f)
-    (cond (isLookUp (f .op)) (lookUp choice m f)
+    (cond (isLookUp (f .op)) (lookUp m f)
     (cond (isCreate (f .op)) (create m f)
     (cond (isCommit (f .op)) (commitFrame m f)
     (cond (isAbort (f .op)) (abortFrame m f) (tick m)))))
 
 -- What it ends with, "in this order": what ends now, in a tick; service, where it follows; look-ups whose deadline is
 -- reached, in a tick. "then exceptions, founds in the order served, nothings"
-unfoldable pub finish : (ℕ → ℕ) → Frame → Model → Done
-finish choice f m =
+unfoldable pub finish : Frame → Model → Done
+finish f m =
     let ended = cond (isTick (f .op)) (lapsed m) (quiet m) in
-    let served = cond (serves f) (service choice (ended .model)) (quiet (ended .model)) in
+    let served = cond (serves f) (service (ended .model)) (quiet (ended .model)) in
     let closed = cond (isTick (f .op)) (closeWaits (served .model)) (quiet (served .model)) in
     record { model = closed .model; records = ended .records ++ served .records ++ closed .records }
 
 -- what a frame that is not refused does
-unfoldable pub carriedOut : (ℕ → ℕ) → Model → Frame → Done
-carriedOut choice m f = let c = ownPart choice m f in after (c .own) (finish choice f (c .model))
+unfoldable pub carriedOut : Model → Frame → Done
+carriedOut m f = let c = ownPart m f in after (c .own) (finish f (c .model))
 
 -- the new space, the records written and the number returned
 pub record Outcome : Type 0 where
@@ -59,7 +59,7 @@ unfoldable pub accepted : Done → Outcome
 accepted d = record { model = d .model; records = d .records; number = 0 }
 
 -- a frame's bytes, and the length of the answers area
-unfoldable pub step : (ℕ → ℕ) → Model → List ℕ → ℕ → Outcome
-step choice m bs area =
+unfoldable pub step : Model → List ℕ → ℕ → Outcome
+step m bs area =
     let n = refusal m bs area in
-    cond (eqb n 0) (accepted (carriedOut choice m (decode bs))) (refusedWith m bs n)
+    cond (eqb n 0) (accepted (carriedOut m (decode bs))) (refusedWith m bs n)

@@ -60,25 +60,24 @@ pub record TrayOutcome : Type 0 where
 abbrev pub stopped : ℕ → TrayOutcome
 stopped n = record { frames = 0; records = []; number = n }
 
--- "it stops with 1 before a frame for which under 700 bytes are left, else ends with 0". `choices` has a choice for
--- each frame
-unfoldable pub runFrames : (ℕ → ℕ → ℕ) → Model → ℕ → List (List ℕ) → TrayOutcome
-runFrames choices m area [] = stopped 0
-runFrames choices m area (f ∷ fs) =
-    let o = step (choices 0) m f area in
-    let rest = runFrames (λ i. choices (suc i)) (o .model) (area - recordSize * length (o .records)) fs in
+-- "it stops with 1 before a frame for which under 700 bytes are left, else ends with 0"
+unfoldable pub runFrames : Model → ℕ → List (List ℕ) → TrayOutcome
+runFrames m area [] = stopped 0
+runFrames m area (f ∷ fs) =
+    let o = step m f area in
+    let rest = runFrames (o .model) (area - recordSize * length (o .records)) fs in
     let done : TrayOutcome =
     record { frames = suc (rest .frames); records = o .records ++ rest .records; number = rest .number } in
     cond (ltb area stepArea) (stopped areaRefused) done
 
-unfoldable pub runPairs : (ℕ → ℕ → ℕ) → List ℕ → ℕ → TrayOutcome
-runPairs choices tray area = runFrames choices empty area (map (frameAt tray) (pairs tray))
+unfoldable pub runPairs : List ℕ → ℕ → TrayOutcome
+runPairs tray area = runFrames empty area (map (frameAt tray) (pairs tray))
 
 -- a tray that is refused has done nothing
-unfoldable pub runTray : (ℕ → ℕ → ℕ) → List ℕ → ℕ → TrayOutcome
-runTray choices tray area =
+unfoldable pub runTray : List ℕ → ℕ → TrayOutcome
+runTray tray area =
     let n = trayRefusal tray in
-    let run = runPairs choices tray area in
+    let run = runPairs tray area in
     cond (leb n 0) run (stopped n)
 
 -- "frames + 65,536 × records + 4,294,967,296 × number"

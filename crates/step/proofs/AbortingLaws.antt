@@ -1,5 +1,6 @@
 -- The transactions that end now, aborted one by one.
 use Prim.Native.Nat.{_<_}
+use mathlib.Core.Bool.{Bool}
 use mathlib.Core.Option.{none, some}
 use mathlib.Core.Path.{_≡_, sym, ap, _∙_}
 use lib.ListN.{length}
@@ -9,9 +10,9 @@ use Rattle.rules.specs.State.{Model}
 use Rattle.rules.specs.Tick.{endedTxns, abortAll}
 use Rattle.rules.specs.Time.{reached}
 use Rattle.rules.specs.Transactions.{abort}
-use Rattle.rules.proofs.ListLaws.{find-some}
+use Rattle.rules.proofs.ListLaws.{find-some, any-filter, none-any}
 use Rattle.rules.proofs.AbortLaws.{abort-first, abort-fewer}
-use Rattle.words.proofs.SearchLaws.{first-pick, pick-first, pick-none}
+use Rattle.words.proofs.SearchLaws.{find-head}
 
 -- what is left to abort gives what the rules give
 pub record Aborting (m₀ m : Model) : Type 0 where
@@ -22,7 +23,7 @@ module _ {m₀ m : Model} (h : Aborting m₀ m) where
       → m′ ≡ abort (t .id .0) m → Aborting m₀ m′ × (length (m′ .txns) < length (m .txns))
   unfolding endedTxns
   aborting-more {t} e q =
-      let r = pick-first (endedTxns m) (first-pick (λ x. reached (m .clock) (x .end)) (m .txns) ∙ e) in (
+      let r = find-head (λ x. reached (m .clock) (x .end)) (m .txns) e in (
         record { rest = ap (λ x. abortAll (endedTxns x) x) q ∙ sym (abort-first m t (r .0) (r .1)) ∙ h .rest },
         rw q (abort-fewer m t (find-some (λ x. reached (m .clock) (x .end)) (m .txns) e .0)),
       )
@@ -30,5 +31,5 @@ module _ {m₀ m : Model} (h : Aborting m₀ m) where
   pub aborting-done : findb (λ x. reached (m .clock) (x .end)) (m .txns) ≡ none → m ≡ abortAll (endedTxns m₀) m₀
   unfolding endedTxns abortAll
   aborting-done e =
-      ap (λ l. abortAll l m)
-      (sym (pick-none (endedTxns m) (first-pick (λ x. reached (m .clock) (x .end)) (m .txns) ∙ e))) ∙ h .rest
+      let due : Txn → Bool = λ x. reached (m .clock) (x .end) in
+      ap (λ l. abortAll l m) (sym (any-filter due (m .txns) (none-any due (m .txns) e))) ∙ h .rest

@@ -22,7 +22,7 @@ use Rattle.rules.proofs.Capacity.{lapsed-fits, service-fits}
 use Rattle.rules.proofs.ListLaws.{filter-pass, count-mem}
 use Rattle.rules.proofs.ViewLaws.{view-bounded}
 use Rattle.step.specs.declared.finish.Ending.{Ending}
-use Rattle.step.specs.Does.{Does, first}
+use Rattle.step.specs.Does.{Does}
 use Rattle.step.specs.Ending.{inTick, served, EndsAs, endedBy, servedBy, closedBy}
 use Rattle.step.proofs.AddsLaws.{does-then}
 
@@ -51,13 +51,13 @@ module _ (ws : List ℕ) (e : Ending) where
   pub few-served : length (servedBy e (view ws) .records) + length (servedBy e (view ws) .model .waits) ≤ maxWaits
   few-served =
       cond-cases (λ (d : Done). length (d .records) + length (d .model .waits) ≤ maxWaits) (served e)
-      (λ t. service-fits first (view ws) (view-bounded ws) .1) (λ t. omega (arith, view-bounded ws .waits-fit))
+      (λ t. service-fits (view ws) (view-bounded ws) .1) (λ t. omega (arith, view-bounded ws .waits-fit))
 
 pub finish-parts : {ws₁ ws₂ ws₃ a a₁ a₂ a₃ : List ℕ} {c c₁ c₂ c₃ : ℕ} (ws : List ℕ) (e : Ending)
     → recordSize * c ≤ length a
     → Does (endedBy e (view ws)) ws₁ a a₁ c c₁ → Does (servedBy e (view ws₁)) ws₂ a₁ a₂ c₁ c₂
     → Does (closedBy e (view ws₂)) ws₃ a₂ a₃ c₂ c₃
-    → (f : Frame) → EndsAs f e → Does (finish first f (view ws)) ws₃ a a₃ c c₃
+    → (f : Frame) → EndsAs f e → Does (finish f (view ws)) ws₃ a a₃ c c₃
 unfolding finish
 finish-parts {ws₂ = ws₂} {ws₃ = ws₃} {a₁ = a₁} {a₂ = a₂} {a₃ = a₃} {c₁ = c₁} {c₂ = c₂} {c₃ = c₃} ws e room p q r f k =
     let q′ = subst (λ m. Does (servedBy e m) ws₂ a₁ a₂ c₁ c₂) (p .model) q in

@@ -33,12 +33,11 @@ kind-back false true = (refl, refl)
 kind-back true true = (refl, refl)
 
 -- a look-up's own part is one
-pub own-find : (choice : ℕ → ℕ) (m : Model) (l : FindRequest) → lookUp choice m (frameOf (Find l))
-    ≡ ownPart choice m (frameOf (Find l))
+pub own-find : (m : Model) (l : FindRequest) → lookUp m (frameOf (Find l)) ≡ ownPart m (frameOf (Find l))
 unfolding ownPart
-own-find choice m l =
+own-find m l =
     let f : ℕ → Frame = λ op. frame op (l .party) (l .mask) (l .txn .0) (l .timeout) (l .fields) in
-    kind-cases (λ op. lookUp choice m (f op) ≡ ownPart choice m (f op)) (l .takes) (l .«if_exists») refl refl refl refl
+    kind-cases (λ op. lookUp m (f op) ≡ ownPart m (f op)) (l .takes) (l .«if_exists») refl refl refl refl
 
 -- and it ends with nothing more
 pub find-ends : (l : FindRequest) → EndsAs (frameOf (Find l)) Quiet

@@ -1,8 +1,8 @@
 -- A look-up's own part, by what the search of the entries finds.
 use Prim.Native.Nat.{ℕ}
 use mathlib.Core.Bool.{true, false, cond}
-use mathlib.Core.Option.{Option, none, some}
-use mathlib.Core.Path.{_≡_, refl, sym, ap, _∙_, subst₂}
+use mathlib.Core.Option.{none, some}
+use mathlib.Core.Path.{_≡_, refl, sym, ap, subst₂}
 use mathlib.Core.List.{List, [], _∷_, _++_}
 use native.Mathlib.Omega.{arith}
 use lib.Dec.{leb}
@@ -10,21 +10,19 @@ use lib.ListN.{length}
 use Rattle.rules.specs.declared.Entry.{Entry}
 use Rattle.rules.specs.declared.LookUp.{LookUp}
 use Rattle.rules.specs.declared.Record.{Record}
-use Rattle.rules.specs.Lists.{pick}
 use Rattle.rules.specs.Numbers.{maxWaits, waitsRefused}
 use Rattle.rules.specs.State.{Model, withWaits}
 use Rattle.rules.specs.Frame.{Frame, isLookUp}
-use Rattle.rules.specs.Holds.{available, availableTo}
+use Rattle.rules.specs.Holds.{available, oldest}
 use Rattle.rules.specs.Done.{Carried as OwnPart}
 use Rattle.rules.specs.LookUp.{lookUpOf, givesNothing, mustWait, answerFound, answerNothing, answerWaiting, answer}
 use Rattle.rules.specs.LookUp.{lookUp}
 use Rattle.rules.specs.Records.{found, nothing, waiting}
 use Rattle.rules.specs.Refusals.{waitsFull}
 use Rattle.rules.specs.Words.{view}
-use Rattle.words.proofs.SearchLaws.{first-pick, some-any, none-any}
+use Rattle.rules.proofs.ListLaws.{some-any, none-any}
 use Rattle.step.specs.declared.own.Outcome.{Outcome}
 use Rattle.step.specs.declared.own.Outcome.the-variants.{Carried, Refused}
-use Rattle.step.specs.Does.{first}
 use Rattle.step.specs.Judge.{lateRefusal, noWaitLeft}
 use Rattle.step.specs.Outcome.{ComesTo}
 
@@ -58,23 +56,18 @@ module _ (ws ws′ : List ℕ) (f : Frame) (w : LookUp) (q : w ≡ lookUpOf (vie
   abbrev m : Model
   m = view ws
 
-  abbrev picks : Option Entry
-  picks = pick 0 (availableTo (m .txns) w (m .entries))
-
-  pub none-found : (r : Outcome) → picks ≡ none
+  pub none-found : (r : Outcome) → oldest (m .txns) w (m .entries) ≡ none
       → ComesTo (cond (noWaitLeft m w (f .leaseOrTimeout)) waitsRefused 0) (answer m w
       (f .leaseOrTimeout) none) ws ws′ r
-      → ComesTo (lateRefusal m f) (lookUp first m f) ws ws′ r
+      → ComesTo (lateRefusal m f) (lookUp m f) ws ws′ r
   unfolding waitsFull mustWait lookUp
   none-found r n h =
-      let none-available =
-      none-any (available (m .txns) w) (m .entries) (sym (first-pick (available (m .txns) w) (m .entries)) ∙ n) in
-      comes-as ws ws′ r (rw (o, sym q, none-available)) (rw (sym q, n)) h
+      comes-as ws ws′ r (rw (o, sym q, none-any (available (m .txns) w) (m .entries) n)) (rw (sym q, n)) h
 
-  pub one-found : {e : Entry} {r : Record} → picks ≡ some e → view ws′ ≡ answerFound m w e .model → r ≡ found w e
-      → ComesTo (lateRefusal m f) (lookUp first m f) ws ws′ (Carried r)
+  pub one-found : {e : Entry} {r : Record} → oldest (m .txns) w (m .entries) ≡ some e
+      → view ws′ ≡ answerFound m w e .model → r ≡ found w e
+      → ComesTo (lateRefusal m f) (lookUp m f) ws ws′ (Carried r)
   unfolding waitsFull mustWait lookUp answer answerFound
   one-found n v e =
-      let one-available =
-      some-any (available (m .txns) w) (m .entries) (sym (first-pick (available (m .txns) w) (m .entries)) ∙ n) in
+      let one-available = some-any (available (m .txns) w) (m .entries) n in
       (rw (o, sym q, one-available), record { model = rw (sym q, n) v; own = rw (sym q, n) e })

@@ -18,8 +18,8 @@ use Rattle.rules.specs.Holds.{liveTxn}
 use Rattle.rules.specs.Refusals.{admissionRows, roomRows, waitRows, inTxn, partyWaits, notLive, notOwn}
 use Rattle.rules.specs.Refusals.{noLease, tooLate, entriesFull, txnsFull, noNumber}
 use Rattle.rules.specs.Requests.{frame, frameOf, spaceRefusal}
+use Rattle.rules.proofs.ListLaws.{some-any, none-any}
 use Rattle.rules.proofs.RefusalLaws.{first-append}
-use Rattle.words.proofs.SearchLaws.{some-any, none-any}
 use Rattle.step.specs.Judge.{txnRefusal, partyRefusal, late, admissionRefusal, roomRefusal, earlyRefusal}
 use Rattle.step.specs.Judge.{lateRefusal}
 use Rattle.step.proofs.KindLaws.{kind-cases}

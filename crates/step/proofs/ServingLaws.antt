@@ -11,15 +11,13 @@ use lib.Seq.{take-suc-set, drop-set-lt}
 use Rattle.rules.specs.declared.Entry.{Entry}
 use Rattle.rules.specs.declared.Record.{Record}
 use Rattle.rules.specs.declared.LookUp.{LookUp}
-use Rattle.rules.specs.Lists.{pick}
 use Rattle.rules.specs.State.{Model, withEntries, withWaits}
-use Rattle.rules.specs.Holds.{availableTo}
+use Rattle.rules.specs.Holds.{oldest}
 use Rattle.rules.specs.Records.{found}
 use Rattle.rules.specs.LookUp.{handOut}
 use Rattle.rules.specs.Service.{Served, serve, service, foundFirst, waitsFirst}
 use Rattle.rules.proofs.StepCases.{serve-none, serve-some}
 use Rattle.holds.specs.AtSlot.{handedOut}
-use Rattle.step.specs.Does.{first}
 
 -- those that wait on and the founds of the look-ups gone through, before what the rest gives
 abbrev behind : List LookUp → List Record → Served → Served
@@ -42,8 +40,8 @@ waits-behind ws rs w s =
 pub record Serving (m₀ m : Model) (i n : ℕ) (rs : List Record) : Type 0 where
   pub rest-same : m ≡ withEntries (m .entries) (withWaits (m .waits) m₀)
   pub size : length (m .waits) ≡ length (m₀ .waits)
-  pub so-far : serve first (m₀ .txns) (m₀ .entries) (m₀ .waits)
-      ≡ behind (take n (m .waits)) rs (serve first (m .txns) (m .entries) (drop i (m .waits)))
+  pub so-far : serve (m₀ .txns) (m₀ .entries) (m₀ .waits)
+      ≡ behind (take n (m .waits)) rs (serve (m .txns) (m .entries) (drop i (m .waits)))
   pub low : n ≤ i
   pub few : length rs ≤ i
 
@@ -52,12 +50,12 @@ serving-none m = record { rest-same = refl; size = refl; so-far = refl; low = li
 
 module _ {m₀ m : Model} {i n : ℕ} {rs : List Record} (s : Serving m₀ m i n rs) {w : LookUp}
     (next : drop i (m .waits) ≡ w ∷ drop (suc i) (m .waits)) where
-  turn : serve first (m₀ .txns) (m₀ .entries) (m₀ .waits)
-      ≡ behind (take n (m .waits)) rs (serve first (m .txns) (m .entries) (w ∷ drop (suc i) (m .waits)))
-  turn = s .so-far ∙ ap (λ ws. behind (take n (m .waits)) rs (serve first (m .txns) (m .entries) ws)) next
+  turn : serve (m₀ .txns) (m₀ .entries) (m₀ .waits)
+      ≡ behind (take n (m .waits)) rs (serve (m .txns) (m .entries) (w ∷ drop (suc i) (m .waits)))
+  turn = s .so-far ∙ ap (λ ws. behind (take n (m .waits)) rs (serve (m .txns) (m .entries) ws)) next
 
   -- the next look-up is answered found
-  pub serving-found : {e : Entry} → pick 0 (availableTo (m .txns) w (m .entries)) ≡ some e
+  pub serving-found : {e : Entry} → oldest (m .txns) w (m .entries) ≡ some e
       → Serving m₀ (handedOut w e m) (i + 1) n (rs ++ (found w e ∷ []))
   unfolding handedOut
   serving-found {e} p =
@@ -68,14 +66,14 @@ module _ {m₀ m : Model} {i n : ℕ} {rs : List Record} (s : Serving m₀ m i n
             rw (add-one i)
             (turn
             ∙ ap (behind (take n (m .waits)) rs)
-            (serve-some first (m .txns) (m .entries) w (drop (suc i) (m .waits)) e p)
+            (serve-some (m .txns) (m .entries) w (drop (suc i) (m .waits)) e p)
             ∙ found-behind (take n (m .waits)) rs w e _);
         low = omega (arith, s .low);
         few = simp length-append (omega (arith, s .few));
       }
 
   -- it waits on
-  pub serving-waits : pick 0 (availableTo (m .txns) w (m .entries)) ≡ none → n < length (m .waits)
+  pub serving-waits : oldest (m .txns) w (m .entries) ≡ none → n < length (m .waits)
       → Serving m₀ (withWaits (set (m .waits) n w) m) (i + 1) (n + 1) rs
   serving-waits p h =
       record {
@@ -90,7 +88,7 @@ module _ {m₀ m : Model} {i n : ℕ} {rs : List Record} (s : Serving m₀ m i n
                   (omega (arith, s .low)),
             )
             (turn
-            ∙ ap (behind (take n (m .waits)) rs) (serve-none first (m .txns) (m .entries) w (drop (suc i) (m .waits)) p)
+            ∙ ap (behind (take n (m .waits)) rs) (serve-none (m .txns) (m .entries) w (drop (suc i) (m .waits)) p)
             ∙ waits-behind (take n (m .waits)) rs w _);
         low = omega (arith, s .low);
         few = omega (arith, s .few);
@@ -98,13 +96,13 @@ module _ {m₀ m : Model} {i n : ℕ} {rs : List Record} (s : Serving m₀ m i n
 
 -- all are gone through
 pub serving-done : {m₀ m : Model} {i n : ℕ} {rs : List Record} → Serving m₀ m i n rs → length (m₀ .waits) ≤ i
-    → service first m₀ ≡ record { model = withWaits (take n (m .waits)) m; records = rs }
+    → service m₀ ≡ record { model = withWaits (take n (m .waits)) m; records = rs }
 unfolding service serve
 serving-done {m₀} {m} {i} {n} {rs} s h =
-    let all : serve first (m₀ .txns) (m₀ .entries) (m₀ .waits)
+    let all : serve (m₀ .txns) (m₀ .entries) (m₀ .waits)
     ≡ record { entries = m .entries; waits = take n (m .waits); records = rs }
     = s .so-far
-    ∙ ap (λ l. behind (take n (m .waits)) rs (serve first (m .txns) (m .entries) l))
+    ∙ ap (λ l. behind (take n (m .waits)) rs (serve (m .txns) (m .entries) l))
     (drop-of-length-le (m .waits) {i = i} (omega (arith, s .size)))
     ∙ ap₂ (λ a b. record { entries = m .entries; waits = a; records = b }) (append-nil (take n (m .waits)))
     (append-nil rs) in

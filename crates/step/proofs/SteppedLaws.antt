@@ -24,7 +24,7 @@ use Rattle.rules.proofs.ListLaws.{none≢some}
 use Rattle.rules.proofs.BoolLaws.{cond-cases}
 use Rattle.rules.proofs.RefusalLaws.{refusal-parts, form-not-area, space-not-area}
 use Rattle.step.specs.declared.own.Outcome.the-variants.{Carried, Refused as Kept}
-use Rattle.step.specs.Does.{first, Adds, Does}
+use Rattle.step.specs.Does.{Adds, Does}
 use Rattle.step.specs.Judge.{earlyRefusal, lateRefusal}
 use Rattle.step.specs.Outcome.{ComesTo}
 use Rattle.step.proofs.AddsLaws.{adds-then}
@@ -86,22 +86,22 @@ module _ (m : Model) (bs : List ℕ) (area : ℕ) where
 -- ---- what is allowed
 -- a step's outcome, where the number n is given
 abbrev outcome : List ℕ → List ℕ → ℕ → Outcome
-outcome ws bs n = cond (eqb n 0) (accepted (carriedOut first (view ws) (decode bs))) (refusedWith (view ws) bs n)
+outcome ws bs n = cond (eqb n 0) (accepted (carriedOut (view ws) (decode bs))) (refusedWith (view ws) bs n)
 
 by : (ws bs area : List ℕ) {n : ℕ} → refusal (view ws) bs (length area) ≡ n
-    → step first (view ws) bs (length area) ≡ outcome ws bs n
+    → step (view ws) bs (length area) ≡ outcome ws bs n
 unfolding step
 by ws bs area e = ap (outcome ws bs) e
 
 refused-by : (ws bs area : List ℕ) {n : ℕ} → refusal (view ws) bs (length area) ≡ n → (n ≡ 0 → ⊥)
-    → step first (view ws) bs (length area) ≡ refusedWith (view ws) bs n
+    → step (view ws) bs (length area) ≡ refusedWith (view ws) bs n
 refused-by ws bs area {n} e z =
     by ws bs area e
-    ∙ ap (λ b. cond b (accepted (carriedOut first (view ws) (decode bs))) (refusedWith (view ws) bs n)) (ne-eqb n 0 z)
+    ∙ ap (λ b. cond b (accepted (carriedOut (view ws) (decode bs))) (refusedWith (view ws) bs n)) (ne-eqb n 0 z)
 
 module _ {ws bs area ws′ area′ : List ℕ} {returned : ℕ} where
-  -- what the rules give with the code's choice
-  gives : (o : Outcome) → step first (view ws) bs (length area) ≡ o → view ws′ ≡ o .model
+  -- what the rules give
+  gives : (o : Outcome) → step (view ws) bs (length area) ≡ o → view ws′ ≡ o .model
       → area′ ≡ areaAfter (o .records) area → returned ≡ length (o .records) + 65536 * o .number
       → ((o .number ≡ 0 → ⊥) → ws′ ≡ ws) → Stepped ws bs area ws′ returned area′
   gives o e v b r u =
@@ -109,7 +109,6 @@ module _ {ws bs area ws′ area′ : List ℕ} {returned : ℕ} where
         answered = record { records = o .records; count = length (o .records); number = o .number; area = area′ };
         allowed =
             record {
-              choice = first;
               space = v ∙ sym (ap (λ (x : Outcome). x .model) e);
               records = sym (ap (λ (x : Outcome). x .records) e);
               count = refl;
@@ -151,7 +150,7 @@ module _ {ws bs area ws′ area′ : List ℕ} {returned : ℕ} where
       module _ (e : earlyRefusal (view ws) (frameOf q) ≡ 0) where
         -- 14
         pub stepped-late : {n : ℕ}
-            → ComesTo (lateRefusal (view ws) (frameOf q)) (ownPart first (view ws) (frameOf q)) ws ws′ (Kept n)
+            → ComesTo (lateRefusal (view ws) (frameOf q)) (ownPart (view ws) (frameOf q)) ws ws′ (Kept n)
             → (returned ≡ 1 + 65536 * n) × Adds (refused bs n ∷ []) area area′ 0 1
             → Stepped ws bs area ws′ returned area′
         stepped-late c a =
@@ -159,17 +158,17 @@ module _ {ws bs area ws′ area′ : List ℕ} {returned : ℕ} where
 
         -- carried out: the frame's own record, and then its finish
         pub stepped-done : {ws₁ a₁ : List ℕ} {own : Record} {n : ℕ}
-            → ComesTo (lateRefusal (view ws) (frameOf q)) (ownPart first (view ws) (frameOf q)) ws ws₁ (Carried own)
-            → Adds (own ∷ []) area a₁ 0 n → Does (finish first (frameOf q) (view ws₁)) ws′ a₁ area′ n returned
+            → ComesTo (lateRefusal (view ws) (frameOf q)) (ownPart (view ws) (frameOf q)) ws ws₁ (Carried own)
+            → Adds (own ∷ []) area a₁ 0 n → Does (finish (frameOf q) (view ws₁)) ws′ a₁ area′ n returned
             → Stepped ws bs area ws′ returned area′
         unfolding carriedOut accepted
         stepped-done c a f =
             let all =
-            subst₂ (λ r m. Adds (r ∷ finish first (frameOf q) m .records) area area′ 0 returned) (c .1 .own)
+            subst₂ (λ r m. Adds (r ∷ finish (frameOf q) m .records) area area′ 0 returned) (c .1 .own)
             (c .1 .model)
             (adds-then (omega arith) a (f .adds)) in
-            gives (accepted (carriedOut first (view ws) (frameOf q)))
+            gives (accepted (carriedOut (view ws) (frameOf q)))
             (by ws bs area (late (view ws) bs (length area) h d e ∙ c .0)
-            ∙ ap (λ g. accepted (carriedOut first (view ws) g)) (sym (asked-frame d)))
-            (f .model ∙ ap (λ m. finish first (frameOf q) m .model) (c .1 .model)) (all .bytes)
+            ∙ ap (λ g. accepted (carriedOut (view ws) g)) (sym (asked-frame d)))
+            (f .model ∙ ap (λ m. finish (frameOf q) m .model) (c .1 .model)) (all .bytes)
             (omega (arith, all .counts)) (λ z. absurd (z refl))

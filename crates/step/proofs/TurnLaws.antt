@@ -11,8 +11,7 @@ use Rattle.rules.specs.declared.Entry.{Entry}
 use Rattle.rules.specs.declared.Record.{Record}
 use Rattle.rules.specs.declared.LookUp.{LookUp}
 use Rattle.rules.specs.Done.{Done}
-use Rattle.rules.specs.Holds.{liveTxn, availableTo}
-use Rattle.rules.specs.Lists.{pick}
+use Rattle.rules.specs.Holds.{liveTxn, oldest}
 use Rattle.rules.specs.Numbers.{maxWaits, recordSize}
 use Rattle.rules.specs.Records.{found}
 use Rattle.rules.specs.Service.{service}
@@ -25,7 +24,7 @@ use Rattle.words.proofs.Tables.{waitTable, view-waits, length-waits, entries-re
 use Rattle.holds.specs.AtSlot.{availableAt, handedOut}
 use Rattle.holds.specs.Live.{slotOf}
 use Rattle.holds.proofs.HandLaws.{first-available}
-use Rattle.step.specs.Does.{Adds, Does, first}
+use Rattle.step.specs.Does.{Adds, Does}
 use Rattle.step.proofs.AddsLaws.{adds-none, adds-length, adds-then}
 use Rattle.step.proofs.ServingLaws.{Serving, serving-none, serving-found, serving-waits, serving-done}
 
@@ -70,12 +69,12 @@ module _ {ws₀ ws a₀ a : List ℕ} {done₀ done i₀ i : ℕ} {w : LookUp} {
           none-yet = search-more (k .none-yet) r (sym v ∙ t);
         }
 
-    pub looking-found : b ≡ true → j < count → pick 0 (availableTo (view ws .txns) w (view ws .entries)) ≡ some e
+    pub looking-found : b ≡ true → j < count → oldest (view ws .txns) w (view ws .entries) ≡ some e
     looking-found t l =
         first-available ws w p (k .slot)
         ∙ search-found (entries-read ws) (k .none-yet) (omega (arith, k .all)) r (sym v ∙ t)
 
-  pub looking-none : j ≡ count → pick 0 (availableTo (view ws .txns) w (view ws .entries)) ≡ none
+  pub looking-none : j ≡ count → oldest (view ws .txns) w (view ws .entries) ≡ none
   looking-none l = first-available ws w p (k .slot) ∙ search-none (entries-read ws) (k .none-yet) (l ∙ k .all)
 
 module _ {ws₀ ws a₀ a : List ℕ} {count done i n : ℕ} (t : Turns ws₀ ws a₀ a count done i n) where
@@ -104,7 +103,7 @@ module _ {ws₀ ws a₀ a : List ℕ} {count done i n : ℕ} (t : Turns ws₀ ws
         ∙ ap (λ x. withWaits (set (view ws .waits) n x) (view ws)) (sym q)
 
     pub turn-found : {ws′ a′ : List ℕ} {e : Entry} {r : Record} {done′ : ℕ}
-        → pick 0 (availableTo (view ws .txns) w (view ws .entries)) ≡ some e
+        → oldest (view ws .txns) w (view ws .entries) ≡ some e
         → (view ws′ ≡ handedOut w e (view ws)) × (length ws′ ≡ spaceWords) → r ≡ found w e
         → recordSize * count ≤ length a₀
         → Adds (r ∷ []) a a′ done done′
@@ -119,7 +118,7 @@ module _ {ws₀ ws a₀ a : List ℕ} {count done i n : ℕ} (t : Turns ws₀ ws
           adds = adds-then room (t .adds) (subst (λ x. Adds (x ∷ []) a a′ done done′) o d);
         }
 
-    pub turn-waits : {ws′ : List ℕ} → pick 0 (availableTo (view ws .txns) w (view ws .entries)) ≡ none
+    pub turn-waits : {ws′ : List ℕ} → oldest (view ws .txns) w (view ws .entries) ≡ none
         → ws′ ≡ moveWait ws i n → Turns ws₀ ws′ a₀ a count done (i + 1) (n + 1)
     turn-waits p e =
         record {
@@ -139,7 +138,7 @@ module _ {ws₀ ws a₀ a : List ℕ} {count done i n : ℕ} (t : Turns ws₀ ws
       (closed waitTable ws n (omega (arith, t .serving .low, same-count)) (omega (arith, t .long)))
 
   pub turns-done : {ws′ : List ℕ} → i ≡ waitCount ws₀ → ws′ ≡ set ws waitCountAt n
-      → Does (service first (view ws₀)) ws′ a₀ a count done
+      → Does (service (view ws₀)) ws′ a₀ a count done
   turns-done {ws′} h e =
       let d = serving-done (t .serving) (omega (arith, length-waits ws₀)) in
       subst (λ (x : Done). Does x ws′ a₀ a count done) (sym d)

@@ -9,10 +9,6 @@ use Rattle.rules.specs.Records.{areaAfter}
 use Rattle.rules.specs.Done.{Carried, Done}
 use Rattle.rules.specs.Words.{view}
 
--- the free choice as the code makes it: the first available entry
-abbrev pub first : ℕ → ℕ
-first party = 0
-
 -- a frame's own part, as the rules' `c` says it: the words become ws′, and r is the frame's own record
 pub record Carries (c : Carried) (ws′ : List ℕ) (r : Record) : Type 0 where
   pub model : view ws′ ≡ c .model

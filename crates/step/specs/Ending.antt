@@ -8,7 +8,6 @@ use Rattle.rules.specs.Service.{service}
 use Rattle.rules.specs.Tick.{lapsed, closeWaits}
 use Rattle.step.specs.declared.finish.Ending.{Ending}
 use Rattle.step.specs.declared.finish.Ending.the-variants.{Quiet, Service, Tick}
-use Rattle.step.specs.Does.{first}
 
 -- whether it is a tick's, and whether service is part of it
 abbrev pub inTick : Ending → Bool
@@ -31,7 +30,7 @@ abbrev pub endedBy : Ending → Model → Done
 endedBy e m = cond (inTick e) (lapsed m) (quiet m)
 
 abbrev pub servedBy : Ending → Model → Done
-servedBy e m = cond (served e) (service first m) (quiet m)
+servedBy e m = cond (served e) (service m) (quiet m)
 
 abbrev pub closedBy : Ending → Model → Done
 closedBy e m = cond (inTick e) (closeWaits m) (quiet m)

@@ -6,7 +6,7 @@ ghost use Rattle.rules.specs.Numbers.{maxTxns, maxWaits, recordSize};
 ghost use Rattle.rules.specs.Requests.{frameOf};
 ghost use Rattle.rules.specs.Step.{finish as finishFrame};
 ghost use Rattle.rules.specs.Words.{view};
-ghost use Rattle.step.specs.Does.{Does, first};
+ghost use Rattle.step.specs.Does.{Does};
 ghost use Rattle.step.specs.Ending.{EndsAs, endedBy, servedBy, closedBy};
 use crate::service::serve_waits;
 use crate::tick::close_waits;
@@ -84,7 +84,7 @@ pub(crate) fn close(space: &mut Words, answers: &mut [u8], count: usize, ending:
 // afterwards is returned.
 pub(crate) fn finish(space: &mut Words, answers: &mut [u8], count: usize, ending: Ending) -> usize
     requires { ⌜ recordSize * (count + maxTxns + maxWaits) ≤ length (now answers) ⌝ }
-    ensures { λ n. ⌜ ((f : Frame) → EndsAs f ending → Does (finishFrame first f (view (now (space .entry))))
+    ensures { λ n. ⌜ ((f : Frame) → EndsAs f ending → Does (finishFrame f (view (now (space .entry))))
         (now (space .exit)) (now (answers .entry)) (now (answers .exit)) count n) ⌝ }
 {
     let ended = end_now(space, answers, count, ending);

@@ -12,7 +12,6 @@ ghost use Rattle.rules.specs.declared.Request.the-variants.{Find};
 ghost use Rattle.holds.specs.Live.{noSlot, slotOf};
 ghost use Rattle.words.specs.Ends.{InTime};
 ghost use Rattle.words.specs.Rows.{FitsWord};
-ghost use Rattle.step.specs.Does.{first};
 ghost use Rattle.step.specs.Judge.{earlyRefusal, lateRefusal, noWaitLeft};
 ghost use Rattle.step.specs.Outcome.{ComesTo};
 use crate::own::Outcome;
@@ -90,7 +89,7 @@ pub(crate) fn wait_or_nothing(space: &mut Words, w: LookUp, p: u8, timeout: u32)
 pub(crate) fn find(space: &mut Words, l: FindRequest) -> Outcome
     requires { ⌜ earlyRefusal (view (now space)) (frameOf (Find l)) ≡ 0 ⌝ }
     ensures { λ r. ⌜ ComesTo (lateRefusal (view (now (space .entry))) (frameOf (Find l)))
-        (lookUp first (view (now (space .entry))) (frameOf (Find l))) (now (space .entry)) (now (space .exit)) r ⌝ }
+        (lookUp (view (now (space .entry))) (frameOf (Find l))) (now (space .entry)) (now (space .exit)) r ⌝ }
 {
     let w = look_up_of(space, l);
     let txn = w.txn;

@@ -8,7 +8,7 @@ ghost use Rattle.rules.specs.Step.{ownPart, commitFrame, abortFrame};
 ghost use Rattle.rules.specs.Tick.{tick};
 ghost use Rattle.rules.specs.Transactions.{create as createFrame};
 ghost use Rattle.rules.specs.Words.{view};
-ghost use Rattle.step.specs.Does.{first, Carries};
+ghost use Rattle.step.specs.Does.{Carries};
 ghost use Rattle.step.specs.Judge.{earlyRefusal, lateRefusal};
 ghost use Rattle.step.specs.Outcome.{ComesTo};
 use crate::look_up::find;
@@ -73,7 +73,7 @@ pub(crate) fn tick(space: &mut Words) -> Record
 pub(crate) fn carry_out(space: &mut Words, q: Request) -> Outcome
     requires { ⌜ earlyRefusal (view (now space)) (frameOf q) ≡ 0 ⌝ }
     ensures { λ r. ⌜ ComesTo (lateRefusal (view (now (space .entry))) (frameOf q))
-        (ownPart first (view (now (space .entry))) (frameOf q)) (now (space .entry)) (now (space .exit)) r ⌝ }
+        (ownPart (view (now (space .entry))) (frameOf q)) (now (space .entry)) (now (space .exit)) r ⌝ }
 {
     match q {
         Request::Write(w) => Outcome::Carried(write(space, w)),

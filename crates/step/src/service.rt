@@ -4,7 +4,7 @@ ghost use lib.ListN.{length};
 ghost use Rattle.rules.specs.Numbers.{maxWaits, recordSize};
 ghost use Rattle.rules.specs.Service.{service};
 ghost use Rattle.rules.specs.Words.{view};
-ghost use Rattle.step.specs.Does.{Does, first};
+ghost use Rattle.step.specs.Does.{Does};
 use crate::answers::add_record;
 use codec::records::found_record;
 use holds::holds::is_available;
@@ -18,11 +18,12 @@ use words::rows::set_wait_count;
 use words::rows::wait_at;
 use words::rows::wait_count;
 
-// The waiting look-ups are gone through once in order of arrival, and each with an available entry is answered found.
-// `count` records stand in the answers area before; the number afterwards is returned.
+// The waiting look-ups are gone through once in order of arrival, and each with an available entry is answered found,
+// with the oldest available at its turn. `count` records stand in the answers area before; the number afterwards is
+// returned.
 pub(crate) fn serve_waits(space: &mut Words, answers: &mut [u8], count: usize) -> usize
     requires { ⌜ recordSize * (count + maxWaits) ≤ length (now answers) ⌝ }
-    ensures { λ n. ⌜ Does (service first (view (now (space .entry)))) (now (space .exit))
+    ensures { λ n. ⌜ Does (service (view (now (space .entry)))) (now (space .exit))
         (now (answers .entry)) (now (answers .exit)) count n ⌝ }
 {
     let waits = wait_count(space);

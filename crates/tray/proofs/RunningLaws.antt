@@ -16,7 +16,7 @@ use Rattle.rules.specs.Allowed.{Answered, Allowed, Stepped}
 use Rattle.rules.proofs.AreaLaws.{area-length, area-then}
 use Rattle.rules.proofs.Capacity.{step-fits}
 use Rattle.rules.proofs.ViewLaws.{view-bounded}
-use Rattle.tray.proofs.RunLaws.{after, Ran, ran-none, ran-more, ran-all, ran-stops}
+use Rattle.tray.proofs.RunLaws.{Ran, ran-none, ran-more, ran-all, ran-stops}
 use Rattle.tray.specs.Pairs.{pairAt}
 use Rattle.tray.proofs.PairLaws.{framesOf, frames-length, frame-is}
 
@@ -58,7 +58,7 @@ running-more {tray} {a₀} {ws} {a} {ws′} {frame = frame} {part} {k = k} {n} {
           (al .space ∙ ap (λ (o : Outcome). o .model) same)
           (subst⁻¹ (λ l. Ran (take k (framesOf tray) ++ (f ∷ [])) (length a₀) (o .model) (rs ++ l))
           (al .records ∙ ap (λ (o : Outcome). o .records) same)
-          (ran-more (take k (framesOf tray)) (length a₀) (view ws) rs f (al .choice) (r .ran) room′)));
+          (ran-more (take k (framesOf tray)) (length a₀) (view ws) rs f (r .ran) room′)));
       counts = omega (arith, r .counts, count, length-append rs (x .records));
       area =
           e
@@ -86,7 +86,7 @@ running-more {tray} {a₀} {ws} {a} {ws′} {frame = frame} {part} {k = k} {n} {
     left = length a₀ - recordSize * length rs
 
     o : Outcome
-    o = step (al .choice) (view ws) f left
+    o = step (view ws) f left
 
     room′ : recordSize * length rs + stepArea ≤ length a₀
     room′ = omega (arith, room, r .counts)
@@ -97,12 +97,12 @@ running-more {tray} {a₀} {ws} {a} {ws′} {frame = frame} {part} {k = k} {n} {
         ∙ length-drop (recordSize * n) a
         ∙ ap₂ (λ x y. x - recordSize * y) (running-length r) (r .counts)
 
-    same : step (al .choice) (view ws) frame (length part) ≡ step (al .choice) (view ws) f left
-    same = ap₂ (λ l j. step (al .choice) (view ws) l j) q size
+    same : step (view ws) frame (length part) ≡ step (view ws) f left
+    same = ap₂ (λ l j. step (view ws) l j) q size
 
     few : length (x .records) ≤ stepRecords
     few =
-        let fits = step-fits (al .choice) (view ws) frame (length part) (view-bounded ws) .1 in
+        let fits = step-fits (view ws) frame (length part) (view-bounded ws) .1 in
         omega (arith, ap (λ (l : List Record). length l) (al .records), fits)
 
     count : returned % 65536 ≡ length (x .records)
@@ -118,26 +118,25 @@ running-more {tray} {a₀} {ws} {a} {ws′} {frame = frame} {part} {k = k} {n} {
         next = omega arith
 
 -- the run is over: all frames are done
-pub running-all : {tray a₀ ws a : List ℕ} {n : ℕ} (more : ℕ → ℕ → ℕ) (r : Running tray a₀ ws a (frameCount tray) n)
-    → runFrames (after (r .ran .choices) more) empty (length a₀) (framesOf tray)
+pub running-all : {tray a₀ ws a : List ℕ} {n : ℕ} (r : Running tray a₀ ws a (frameCount tray) n)
+    → runFrames empty (length a₀) (framesOf tray)
     ≡ record { frames = frameCount tray; records = r .records; number = 0 }
-running-all {tray} {a₀} {ws} more r =
-    ap (runFrames (after (r .ran .choices) more) empty (length a₀)) (sym whole)
-    ∙ ran-all (take (frameCount tray) (framesOf tray)) (length a₀) (view ws) (r .records) more (r .ran)
+running-all {tray} {a₀} {ws} r =
+    ap (runFrames empty (length a₀)) (sym whole)
+    ∙ ran-all (take (frameCount tray) (framesOf tray)) (length a₀) (view ws) (r .records) (r .ran)
     ∙ ap (λ (j : ℕ). record { frames = j; records = r .records; number = 0 }) (ap length whole ∙ frames-length tray)
   where
     whole : take (frameCount tray) (framesOf tray) ≡ framesOf tray
     whole = take-all (frameCount tray) (framesOf tray) (omega (arith, frames-length tray))
 
 -- it stops before a frame for which under 700 bytes are left
-pub running-stops : {tray a₀ ws a : List ℕ} {k n : ℕ} (more : ℕ → ℕ → ℕ) (r : Running tray a₀ ws a k n)
+pub running-stops : {tray a₀ ws a : List ℕ} {k n : ℕ} (r : Running tray a₀ ws a k n)
     → k < frameCount tray → length a₀ < recordSize * n + stepArea
-    → runFrames (after (r .ran .choices) more) empty (length a₀) (framesOf tray)
+    → runFrames empty (length a₀) (framesOf tray)
     ≡ record { frames = k; records = r .records; number = areaRefused }
-running-stops {tray} {a₀} {ws} {k = k} more r h l =
-    ap (runFrames (after (r .ran .choices) more) empty (length a₀))
-    (split-at (framesOf tray) k [] (omega (arith, frames-length tray)))
+running-stops {tray} {a₀} {ws} {k = k} r h l =
+    ap (runFrames empty (length a₀)) (split-at (framesOf tray) k [] (omega (arith, frames-length tray)))
     ∙ ran-stops (take k (framesOf tray)) (drop (suc k) (framesOf tray)) (getD (framesOf tray) k []) (length a₀)
-    (view ws) (r .records) more (r .ran) (omega (arith, r .counts))
+    (view ws) (r .records) (r .ran) (omega (arith, r .counts))
     ∙ ap (λ (j : ℕ). record { frames = j; records = r .records; number = areaRefused })
     (length-take-le k (framesOf tray) (omega (arith, frames-length tray)))

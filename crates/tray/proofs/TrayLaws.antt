@@ -13,7 +13,6 @@ use Rattle.rules.specs.Records.{areaAfter, answerBytes}
 use Rattle.rules.specs.Tray.{frameCount, pairsEnd, pairs, badTray, trayRefusal, frameAt, TrayOutcome, stopped}
 use Rattle.rules.specs.Tray.{runFrames, runPairs, runTray, hostNumber}
 use Rattle.rules.specs.Allowed.{TrayRan}
-use Rattle.tray.proofs.RunLaws.{after}
 use Rattle.tray.specs.declared.pairs.Pair.{Pair as Place}
 use Rattle.tray.specs.Pairs.{pairAt, Stands}
 use Rattle.tray.proofs.PairLaws.{framesOf, pairs-length, pair-is, pair-in}
@@ -34,12 +33,10 @@ neither false true e = absurd (omega (arith, e))
 neither false false e = (refl, refl)
 
 -- what a run comes to, in the words of the host
-ran-to : (tray a a′ : List ℕ) (returned : ℕ) (choices : ℕ → ℕ → ℕ) (o : TrayOutcome)
-    → runTray choices tray (length a) ≡ o
+ran-to : (tray a a′ : List ℕ) (returned : ℕ) (o : TrayOutcome) → runTray tray (length a) ≡ o
     → returned ≡ hostNumber o → a′ ≡ areaAfter (o .records) a → TrayRan tray a returned a′
-ran-to tray a a′ returned choices o e r q =
+ran-to tray a a′ returned o e r q =
     record {
-      choices = choices;
       returns = r ∙ ap hostNumber (sym e);
       leaves = q ∙ ap (λ (x : TrayOutcome). areaAfter (x .records) a) (sym e);
     }
@@ -49,12 +46,12 @@ pub tray-refused : (tray a : List ℕ) (n returned : ℕ) → n ≡ trayRefusal 
     → returned ≡ 0 + 65536 * 0 + 4294967296 * n
     → TrayRan tray a returned a
 unfolding runTray hostNumber areaAfter answerBytes
-tray-refused tray a n returned e h r = ran-to tray a a returned (λ i p. 0) (stopped n) run r refl
+tray-refused tray a n returned e h r = ran-to tray a a returned (stopped n) run r refl
   where
-    run : runTray (λ i p. 0) tray (length a) ≡ stopped n
+    run : runTray tray (length a) ≡ stopped n
     run =
-        ap (λ m. cond (leb m 0) (runPairs (λ i p. 0) tray (length a)) (stopped m)) (sym e)
-        ∙ ap (λ b. cond b (runPairs (λ i p. 0) tray (length a)) (stopped n)) (lt-leb n 0 (omega (arith, h)))
+        ap (λ m. cond (leb m 0) (runPairs tray (length a)) (stopped m)) (sym e)
+        ∙ ap (λ b. cond b (runPairs tray (length a)) (stopped n)) (lt-leb n 0 (omega (arith, h)))
 
 module _ (tray : List ℕ) (fine : trayRefusal tray ≡ 0) where
   pub passes : (badTray tray ≡ false) × (verdict tray ≡ false)
@@ -69,9 +66,9 @@ module _ (tray : List ℕ) (fine : trayRefusal tray ≡ 0) where
       (omega (arith, pairs-length tray)) in
       rw (pair-is tray k h) at within
 
-  runs : (choices : ℕ → ℕ → ℕ) (size : ℕ) → runTray choices tray size ≡ runFrames choices empty size (framesOf tray)
+  runs : (size : ℕ) → runTray tray size ≡ runFrames empty size (framesOf tray)
   unfolding runTray runPairs
-  runs choices size = ap (λ n. cond (leb n 0) (runPairs choices tray size) (stopped n)) fine
+  runs size = ap (λ n. cond (leb n 0) (runPairs tray size) (stopped n)) fine
 
   module _ {a₀ ws a : List ℕ} {k n returned : ℕ} (r : Running tray a₀ ws a k n) where
     -- all frames are done
@@ -79,15 +76,13 @@ module _ (tray : List ℕ) (fine : trayRefusal tray ≡ 0) where
     unfolding hostNumber
     tray-done e q =
         let whole : Running tray a₀ ws a (frameCount tray) n = rw e at r in
-        let choices = after (whole .ran .choices) (λ i p. 0) in
-        ran-to tray a₀ a returned choices (record { frames = frameCount tray; records = whole .records; number = 0 })
-        (runs choices (length a₀) ∙ running-all (λ i p. 0) whole) (omega (arith, q, e, whole .counts)) (whole .area)
+        ran-to tray a₀ a returned (record { frames = frameCount tray; records = whole .records; number = 0 })
+        (runs (length a₀) ∙ running-all whole) (omega (arith, q, e, whole .counts)) (whole .area)
 
     -- under 700 bytes are left before a frame
     pub tray-stops : k < frameCount tray → length a₀ < recordSize * n + stepArea
         → returned ≡ k + 65536 * n + 4294967296 * areaRefused → TrayRan tray a₀ returned a
     unfolding hostNumber
     tray-stops h l q =
-        let choices = after (r .ran .choices) (λ i p. 0) in
-        ran-to tray a₀ a returned choices (record { frames = k; records = r .records; number = areaRefused })
-        (runs choices (length a₀) ∙ running-stops (λ i p. 0) r h l) (omega (arith, q, r .counts)) (r .area)
+        ran-to tray a₀ a returned (record { frames = k; records = r .records; number = areaRefused })
+        (runs (length a₀) ∙ running-stops r h l) (omega (arith, q, r .counts)) (r .area)

@@ -52,11 +52,11 @@ frame-bytes tray h f i b j =
     h b (mem-drop (p .0 .offset) tray (mem-take (p .0 .size) (drop (p .0 .offset) tray)
     (subst⁻¹ (List·Memᴰ b) (p .2) j)))
 
-handed-frame : {choices : ℕ → ℕ → ℕ} {m n : Model} {area : List ℕ} {fs : List (List ℕ)} {log : List Logged}
-    → HandedIn choices m area fs log n
+handed-frame : {m n : Model} {area : List ℕ} {fs : List (List ℕ)} {log : List Logged}
+    → HandedIn m area fs log n
     → (l : Logged) → List·Memᴰ l log → List·Memᴰ (l .frame) fs
-handed-frame (none-left choices m area) l i = absurd (List·Memᴰ·not-nil i)
-handed-frame (one-more choices a s e h) l i =
+handed-frame (none-left m area) l i = absurd (List·Memᴰ·not-nil i)
+handed-frame (one-more a s h) l i =
     ⊎-elim (λ q. List·Memᴰ·head (ap (λ (x : Logged). x .frame) q)) (λ j. List·Memᴰ·tail (handed-frame h l j))
     (List·Memᴰ·cases-cons i)
 
@@ -65,26 +65,26 @@ record Left (area : ℕ) (o : TrayOutcome) : Type 0 where
   in-range : AllInRange (o .records)
   fit : recordSize * length (o .records) ≤ area
 
-left : (choices : ℕ → ℕ → ℕ) (tray area : List ℕ) → AreBytes tray
-    → Left (length area) (runTray choices tray (length area))
+left : (tray area : List ℕ) → AreBytes tray
+    → Left (length area) (runTray tray (length area))
 unfolding runTray runPairs TraysAreHistories
-left choices tray area h =
+left tray area h =
     cond-cases (Left (length area)) (leb (trayRefusal tray) 0) (λ _. run)
     (λ _. record { in-range = λ r i. absurd (List·Memᴰ·not-nil i); fit = omega arith })
   where
     fs : List (List ℕ)
     fs = map (frameAt tray) (pairs tray)
 
-    t : TrayHistory choices fs area (runFrames choices empty (length area) fs)
-    t = trays-are-histories choices fs area
+    t : TrayHistory fs area (runFrames empty (length area) fs)
+    t = trays-are-histories fs area
 
-    run : Left (length area) (runFrames choices empty (length area) fs)
+    run : Left (length area) (runFrames empty (length area) fs)
     run =
         record {
           in-range = subst⁻¹ AllInRange (t .records)
               (follows-bounds theRules rules-follow .in-range (t .log) (t .last) (empty, refl, t .history)
               (λ l i. frame-bytes tray h (l .frame)
-              (mem-take (runFrames choices empty (length area) fs .frames) fs (handed-frame (t .handed-in) l i))));
+              (mem-take (runFrames empty (length area) fs .frames) fs (handed-frame (t .handed-in) l i))));
           fit = t .fit;
         }
 
@@ -103,12 +103,12 @@ lastLine told = doneLine (framesIn told) (recordsIn told) (numberIn told)
 
 module _ (tray area area′ : List ℕ) (told : ℕ) (r : TrayRan tray area told area′) (bytes : AreBytes tray) where
   o : TrayOutcome
-  o = runTray (r .choices) tray (length area)
+  o = runTray tray (length area)
 
   back : (framesIn told ≡ o .frames) × (recordsIn told ≡ length (o .records)) × (numberIn told ≡ o .number)
   unfolding NumbersAreReadBack o
   back =
-      let b = numbers-are-read-back (r .choices) tray area in (
+      let b = numbers-are-read-back tray area in (
         ap framesIn (r .returns) ∙ b .frames,
         ap recordsIn (r .returns) ∙ b .records,
         ap numberIn (r .returns)
@@ -117,7 +117,7 @@ module _ (tray area area′ : List ℕ) (told : ℕ) (r : TrayRan tray area told
 
   pub records-fit : recordSize * recordsIn told ≤ length area
   unfolding o
-  records-fit = omega (arith, back .1, left (r .choices) tray area bytes .fit)
+  records-fit = omega (arith, back .1, left tray area bytes .fit)
 
   text : recordTexts (recordsIn told) area′ ++ lastLine told ≡ printed o
   unfolding printed areaAfter o
@@ -128,7 +128,7 @@ module _ (tray area area′ : List ℕ) (told : ℕ) (r : TrayRan tray area told
       (ap (λ n. doneLine n (recordsIn told) (numberIn told)) (back .0) ∙ ap₂ (doneLine (o .frames)) (back .1) (back .2))
     where
       in-range : AllInRange (o .records)
-      in-range = left (r .choices) tray area bytes .in-range
+      in-range = left tray area bytes .in-range
 
   module _ (old out new : List ℕ) (at n : ℕ) (f : Prints true (recordTexts (recordsIn told) area′) old out at)
       (k : at + lineSize ≤ length out) (p : Prints (hasLine (lineAt out at)) (lastLine told) (lineAt out at) new n)
@@ -142,8 +142,5 @@ module _ (tray area area′ : List ℕ) (told : ℕ) (r : TrayRan tray area told
     pub shown : Shows tray area old (withLine out at new) (at + n)
     unfolding o
     shown =
-        record {
-          choices = r .choices;
-          prints = subst (λ l. Prints true l old (withLine out at new) (at + n)) text
-              (prints-then (recordTexts (recordsIn told) area′) (lastLine told) old out new at n f last same);
-        }
+        subst (λ l. Prints true l old (withLine out at new) (at + n)) text
+        (prints-then (recordTexts (recordsIn told) area′) (lastLine told) old out new at n f last same)

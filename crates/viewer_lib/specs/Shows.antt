@@ -13,8 +13,6 @@ unfoldable pub recordTexts : ℕ → List ℕ → List ℕ
 recordTexts zero bs = []
 recordTexts (suc n) bs = recordText bs ++ recordTexts n (drop recordSize bs)
 
--- What a tray's run is answered stands in front of the buffer, as it is printed, and its length is n: there are
--- choices, one for each frame, with which the rules give exactly this.
-pub record Shows (tray area old new : List ℕ) (n : ℕ) : Type 0 where
-  pub choices : ℕ → ℕ → ℕ
-  pub prints : Prints true (printed (runTray choices tray (length area))) old new n
+-- What the rules answer to a tray stands in front of the buffer, as it is printed, and its length is n.
+abbrev pub Shows : List ℕ → List ℕ → List ℕ → List ℕ → ℕ → Type 0
+Shows tray area old new n = Prints true (printed (runTray tray (length area))) old new n

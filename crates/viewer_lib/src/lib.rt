@@ -12,6 +12,8 @@ const AREA: usize = 65536;
 
 // A tray that fills the buffer is over 65,536 bytes, and is refused with 15 whatever follows. What cannot be read or
 // written is said on standard error: the program has no exit status. Of input that cannot be read nothing is printed.
+// No contract can say what was read from or written to a descriptor: what is proved is the text between, `show_tray`'s
+// (DECISIONS 37).
 pub fn show() {
     let mut tray = [0u8; MAX_TRAY + 1];
     let mut answers = [0u8; AREA];

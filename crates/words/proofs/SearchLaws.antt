@@ -6,8 +6,8 @@ use mathlib.Core.Path.{_≡_, refl, sym, ap, _∙_}
 use mathlib.Core.List.{List, [], _∷_, _++_}
 use native.Mathlib.Omega.{arith}
 use native.Mathlib.Decide.{decLt}
-use Rattle.rules.specs.Lists.{filterb, findb, anyb, pick}
-use Rattle.rules.proofs.ListLaws.{none≢some, find-some, find-none, mem-any, all-false}
+use Rattle.rules.specs.Lists.{filterb, findb, anyb}
+use Rattle.rules.proofs.ListLaws.{none≢some, some-any, none-any}
 use Rattle.rules.specs.Words.{upTo}
 
 module _ {A : Type 0} (p : A → Bool) where
@@ -29,26 +29,16 @@ module _ {A : Type 0} (p : A → Bool) where
       go true r below = r
       go false r below = below r
 
-  -- some element passes if one is found, and none if none is
-  pub some-any : {x : A} (xs : List A) → findb p xs ≡ some x → anyb p xs ≡ true
-  some-any xs e = let f = find-some p xs e in mem-any p (f .0) (f .1)
-
-  pub none-any : (xs : List A) → findb p xs ≡ none → anyb p xs ≡ false
-  none-any xs e = all-false p xs (λ x m. find-none p e m)
-
-  -- the free choice, at the first
-  pub first-pick : (xs : List A) → pick 0 (filterb p xs) ≡ findb p xs
-  first-pick [] = refl
-  first-pick (x ∷ xs) = go (p x) (first-pick xs)
+  -- the first that passes is the first that is kept
+  pub find-head : {x : A} (xs : List A) → findb p xs ≡ some x → (ys : List A) × (filterb p xs ≡ x ∷ ys)
+  find-head [] e = absurd (none≢some e)
+  find-head {x} (y ∷ xs) e = go (p y) e (λ r. find-head xs r)
     where
-      head-pick : (y : A) (ys : List A) → pick 0 (y ∷ ys) ≡ some y
-      head-pick y [] = refl
-      head-pick y (z ∷ zs) = refl
-
-      go : (b : Bool) → pick 0 (filterb p xs) ≡ findb p xs
-          → pick 0 (cond b (x ∷ filterb p xs) (filterb p xs)) ≡ cond b (some x) (findb p xs)
-      go true e = head-pick x (filterb p xs)
-      go false e = e
+      go : (b : Bool) → cond b (some y) (findb p xs) ≡ some x
+          → (findb p xs ≡ some x → (ys : List A) × (filterb p xs ≡ x ∷ ys))
+          → (ys : List A) × (cond b (y ∷ filterb p xs) (filterb p xs) ≡ x ∷ ys)
+      go true r below = let s : y ≡ x = cc in (filterb p xs, ap {B = List A} (λ z. z ∷ filterb p xs) s)
+      go false r below = below r
 
 -- ---- the list xs is the n rows that a loop reads by f
 pub record Rows {A : Type 0} (xs : List A) (f : ℕ → A) (n : ℕ) : Type 0 where
@@ -101,13 +91,3 @@ module _ {A : Type 0} {q : A → Bool} {f : ℕ → A} where
 
     pub search-no : i ≡ n → anyb q xs ≡ false
     search-no e = none-any q xs (search-none e)
-
--- a list by its first element
-pub pick-first : {A : Type 0} {x : A} (xs : List A) → pick 0 xs ≡ some x → (ys : List A) × (xs ≡ x ∷ ys)
-pick-first [] e = absurd (none≢some e)
-pick-first {A} {x} (y ∷ []) e = let s : y ≡ x = cc in ([], ap {B = List A} (λ z. z ∷ []) s)
-pick-first {A} {x} (y ∷ z ∷ zs) e = let s : y ≡ x = cc in (z ∷ zs, ap {B = List A} (λ v. v ∷ z ∷ zs) s)
-
-pub pick-none : {A : Type 0} (xs : List A) → pick 0 xs ≡ none → xs ≡ []
-pick-none [] e = refl
-pick-none (x ∷ xs) e = absurd (none≢some (sym e))

@@ -9,7 +9,7 @@ use Rattle.viewer_lib.proofs.show.Statement.{statement}
 use Rattle.viewer_lib.proofs.show.Tie as tie
 
 within : (c : tie.After-show-tray) → c .show-tray .result ≤ length (c .show-tray .last .1 .1 .0)
-within c = prints-within _ _ _ _ (c .show-tray .ensures .prints) (c .show-tray .kept .1 .1 .0)
+within c = prints-within _ _ _ _ (c .show-tray .ensures) (c .show-tray .kept .1 .1 .0)
 
 pub show-spec : {M : Type 1} → statement M
 show-spec =

@@ -3,7 +3,6 @@ use mathlib.Core.Path.{refl}
 use borrow.Author.Needs.{needs}
 use Rattle.rules.specs.Refusals.{waitsFull}
 use Rattle.rules.specs.Step.{ownPart}
-use Rattle.step.specs.Does.{first}
 use Rattle.step.proofs.KindLaws.{own-find}
 use Rattle.step.proofs.LookUpAnswers.{comes-as}
 use Rattle.step.proofs.PassedLaws.{tick-clock}
@@ -29,7 +28,7 @@ returns c = rw (c .before .before .before .q .given .1) (refl, c .write .ensures
 returns-2 : tie.Need-returns-2
 returns-2 c =
     let l = c .before .before .before .q2 .given in
-    rw (l .1) (comes-as _ _ (c .find .result) refl (own-find first _ (l .0 .0)) (c .find .ensures))
+    rw (l .1) (comes-as _ _ (c .find .result) refl (own-find _ (l .0 .0)) (c .find .ensures))
 
 returns-3 : tie.Need-returns-3
 unfolding ownPart waitsFull

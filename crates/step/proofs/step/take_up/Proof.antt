@@ -1,4 +1,4 @@
--- `step::step::take_up` meets its contract, with the choice of the first available entry. Assumes nothing.
+-- `step::step::take_up` meets its contract. Assumes nothing.
 use mathlib.Core.Path.{_≡_, refl, sym, _∙_}
 use borrow.Author.Needs.{needs}
 use Rattle.rules.specs.Requests.{frameOf}

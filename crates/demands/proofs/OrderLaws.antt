@@ -1,0 +1,77 @@
+-- Entries that stand by number, below the next: what is left of them, marked, freed or handed out stands so too, and
+-- the first that is available is the oldest.
+use Prim.Native.Nat.{ℕ, _+_, _<_}
+use mathlib.Core.Bool.{Bool, cond, not}
+use mathlib.Core.Path.{_≡_, refl}
+use mathlib.Core.Option.{some}
+use mathlib.Core.List.{List, map}
+use native.Mathlib.Omega.{arith}
+use Rattle.rules.specs.declared.Entry.{Entry}
+use Rattle.rules.specs.declared.Txn.{Txn}
+use Rattle.rules.specs.declared.LookUp.{LookUp}
+use Rattle.rules.specs.Lists.{filterb}
+use Rattle.rules.specs.State.{Model}
+use Rattle.rules.specs.Holds.{available, oldest}
+use Rattle.rules.specs.Frame.{Frame}
+use Rattle.rules.specs.Write.{newEntry, stored}
+use Rattle.rules.specs.LookUp.{removes, isEntry, marked, handOut}
+use Rattle.rules.specs.Transactions.{released}
+use Rattle.rules.proofs.BoolLaws.{cond-cases}
+use Rattle.rules.proofs.ListLaws.{find-some}
+use Rattle.demands.specs.Bounds.{Ascending}
+use Rattle.demands.specs.Said.{Oldest}
+use Rattle.demands.proofs.AllLaws.{All, all-snoc, all-filter, all-map}
+use Rattle.demands.proofs.AscendingLaws.{ascend-filter, ascend-map, ascend-snoc, find-lowest, lowest-found}
+use Rattle.demands.proofs.HoldLaws.{eqb-cases, mark-cases}
+
+abbrev pub Numbered : ℕ → List Entry → Type 0
+Numbered n es = Ascending (map (λ (e : Entry). e .id .0) es) × All (λ e. e .id .0 < n) es
+
+pub numbered-filter : {n : ℕ} (p : Entry → Bool) (es : List Entry) → Numbered n es → Numbered n (filterb p es)
+numbered-filter p es h = (ascend-filter (λ (e : Entry). e .id .0) p es (h .0), all-filter p es (λ e i _. h .1 e i))
+
+pub numbered-map : {n : ℕ} (g : Entry → Entry) → ((e : Entry) → g e .id .0 ≡ e .id .0) → (es : List Entry)
+    → Numbered n es → Numbered n (map g es)
+numbered-map {n} g q es h =
+    let below = all-map (λ e. e .id .0 < n) g es (λ e i. let l = h .1 e i in let same = q e in omega arith) in
+    (ascend-map (λ (e : Entry). e .id .0) g q es (h .0), below)
+
+pub handed-numbered : {n : ℕ} (ts : List Txn) (w : LookUp) (e : Entry) (es : List Entry) → Numbered n es
+    → Numbered n (handOut ts w e es)
+unfolding handOut
+handed-numbered {n} ts w e es h =
+    cond-cases (Numbered n) (removes w e) (λ _. numbered-filter (λ x. not (isEntry e x)) es h)
+    (λ _. numbered-map (λ x. cond (isEntry e x) (marked ts w x) x)
+    (λ x. let same : Entry → Type 0 = λ y. y .id .0 ≡ x .id .0 in
+    cond-cases same (isEntry e x) (λ _. mark-cases ts w x same (λ _. refl) (λ b _ _. refl)) (λ _. refl)) es h)
+
+pub freed-numbered : {n : ℕ} (ts : List Txn) (t : ℕ) (p : Entry → Bool) (es : List Entry) → Numbered n es
+    → Numbered n (map (released ts t) (filterb p es))
+unfolding released
+freed-numbered ts t p es h = numbered-map (released ts t) (λ _. refl) (filterb p es) (numbered-filter p es h)
+
+abbrev pub InOrder : Model → Type 0
+InOrder m = Numbered (m .nextEntry) (m .entries)
+
+pub stored-order : (m : Model) (f : Frame) → InOrder m → InOrder (stored m f)
+unfolding stored newEntry
+stored-order m f h =
+    let more : All (λ e. e .id .0 < m .nextEntry + 1) (m .entries) = λ e i. let l = h .1 e i in omega arith in
+    eqb-cases (Numbered (m .nextEntry + 1)) (f .leaseOrTimeout) 0 (λ _. (h .0, more))
+    (λ _. let up = ascend-snoc (λ (e : Entry). e .id .0) (newEntry m f) (m .entries) (h .1) (h .0) in
+    (up, all-snoc (m .entries) more (omega arith)))
+
+-- the entry that the rules hand out is the oldest that is available, and the other way round
+module _ {n : ℕ} {ts : List Txn} {w : LookUp} {es : List Entry} {e : Entry} (h : Numbered n es) where
+  pub oldest-said : oldest ts w es ≡ some e → Oldest ts w es e
+  oldest-said q =
+      let f = find-some (available ts w) es q in
+      record {
+        stored = f .0;
+        is-available = f .1;
+        lowest = λ x i av. find-lowest (λ (x : Entry). x .id .0) (available ts w) es (h .0) q i av;
+      }
+
+  pub oldest-given : Oldest ts w es e → oldest ts w es ≡ some e
+  oldest-given o =
+      lowest-found (λ (x : Entry). x .id .0) (available ts w) es (h .0) (o .stored) (o .is-available) (o .lowest)
