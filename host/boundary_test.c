@@ -1,5 +1,6 @@
 /* Document 01's sample tray through the C boundary, byte by byte, and its printed lines to standard output; null
- * pointers; what each function leaves in its buffers; the headers' builders, names and layout of the words. */
+ * pointers; what each function leaves in its buffers; the headers' builders, names and layout of the words; the oldest
+ * entry first. */
 #include <stdlib.h>
 #include "lines.h"
 #include "space_frames.h"
@@ -125,11 +126,10 @@ static void read_words(void)
     step(space_frame_create(frame, 2, 9));                                  /* transaction 1, ends at 10 */
     step(space_frame_create(frame, 3, SPACE_FOREVER));                      /* transaction 2 */
     step(space_frame_write(frame, 3, mark, SPACE_FOREVER, 2));              /* entry 4, private to 2 */
-    uint32_t taken = step(space_frame_look_up(frame, SPACE_OP_TAKE, 2, 0, mark, 0, 1)).entry;
-    uint32_t read = step(space_frame_look_up(frame, SPACE_OP_READ, 3, 0, mark, 0, 2)).entry;
+    step(space_frame_look_up(frame, SPACE_OP_TAKE, 2, 0, mark, 0, 1));      /* entry 1 */
+    step(space_frame_look_up(frame, SPACE_OP_READ, 3, 0, mark, 0, 2));      /* entry 2 */
     step(space_frame_look_up(frame, SPACE_OP_TAKE_IF_EXISTS, 4, SPACE_MASK_SIDE | SPACE_MASK_PLACE, mark, 3, 0));
-    check(answers[0] == SPACE_RECORD_FOUND, "one is neither taken nor read");
-    uint32_t gone = space_record_at(answers, 0).entry;
+    check(space_record_at(answers, 0).entry == 3, "the one that is neither taken nor read nor private");
     step(space_frame_look_up(frame, SPACE_OP_TAKE, 5, SPACE_MASK_SIDE, (uint32_t[4]){0, 2, 0, 0}, 3, 0));
 
     check(space[SPACE_WORD_CLOCK] == 1 && space[SPACE_WORD_NEXT_ENTRY] == 5 && space[SPACE_WORD_NEXT_TRANSACTION] == 3,
@@ -141,14 +141,52 @@ static void read_words(void)
           "the transactions' rows");
     check(row_is(SPACE_WAITING_AT, SPACE_WAITING_WORDS, 0,
                  (uint32_t[]){5, SPACE_OP_TAKE, SPACE_MASK_SIDE, 0, 2, 0, 0, 0, 4}), "the waiting look-up's row");
-    for (uint32_t row = 0, number = 1; row < 3; row++, number++) {
-        number += number == gone;
-        const uint32_t end = number == 4 ? SPACE_FOREVER : 5 + number;
-        const uint32_t expected[] = {number, 7, 1, 40, 9, end, number == 4 ? 2 : 0, number == taken ? 1 : 0,
-                                     number == read && number != 4 ? 2 : 0};
-        check(row_is(SPACE_ENTRIES_AT, SPACE_ENTRY_WORDS, row, expected), "an entry's row");
-    }
+    check(row_is(SPACE_ENTRIES_AT, SPACE_ENTRY_WORDS, 0, (uint32_t[]){1, 7, 1, 40, 9, 6, 0, 1, 0}) &&
+          row_is(SPACE_ENTRIES_AT, SPACE_ENTRY_WORDS, 1, (uint32_t[]){2, 7, 1, 40, 9, 7, 0, 0, 2}) &&
+          row_is(SPACE_ENTRIES_AT, SPACE_ENTRY_WORDS, 2, (uint32_t[]){4, 7, 1, 40, 9, SPACE_FOREVER, 2, 0, 0}),
+          "the entries' rows");
     check(SPACE_WORDS == 758, "the words of a space");
+}
+
+static uint32_t found(uint8_t operation, uint8_t party, uint32_t transaction)
+{
+    size_t length = space_frame_look_up(frame, operation, party, SPACE_MASK_KIND, mark, 0, transaction);
+    struct space_record record = step(length);
+    return record.kind == SPACE_RECORD_FOUND ? record.entry : 0;
+}
+
+/* Of several available entries the one with the lowest number is found. */
+static void find_oldest(void)
+{
+    space_empty(space);
+    for (int i = 0; i < 4; i++)
+        step(space_frame_write(frame, 1, mark, SPACE_FOREVER, 0));          /* entries 1 to 4 */
+    check(found(SPACE_OP_READ, 2, 0) == 1 && found(SPACE_OP_TAKE, 2, 0) == 1 &&
+          found(SPACE_OP_READ_IF_EXISTS, 2, 0) == 2 && found(SPACE_OP_TAKE_IF_EXISTS, 2, 0) == 2, "the oldest first");
+    step(space_frame_create(frame, 2, SPACE_FOREVER));                      /* transaction 1 */
+    step(space_frame_write(frame, 2, mark, SPACE_FOREVER, 1));              /* entry 5, private */
+    check(found(SPACE_OP_TAKE, 2, 1) == 3 && found(SPACE_OP_READ, 3, 0) == 4, "a held one is passed over");
+    check(found(SPACE_OP_READ, 2, 1) == 4, "a committed one before the own private one, which is newer");
+    step(space_frame_abort(frame, 2, 1));
+    check(found(SPACE_OP_READ, 3, 0) == 3, "one that was put back is the oldest again");
+}
+
+/* The same in service: the look-ups in order of arrival, each the lowest number at its turn. */
+static void serve_oldest(void)
+{
+    space_empty(space);
+    step(space_frame_create(frame, 1, SPACE_FOREVER));                      /* transaction 1 */
+    for (int i = 0; i < 3; i++)
+        step(space_frame_write(frame, 1, mark, SPACE_FOREVER, 1));          /* entries 1 to 3, private */
+    for (uint8_t party = 4; party >= 2; party--)                            /* parties 4, 3, 2: take, read, take */
+        step(space_frame_look_up(frame, party == 3 ? SPACE_OP_READ : SPACE_OP_TAKE, party, 0, mark, 9, 0));
+    uint64_t returned = space_step(space, frame, space_frame_commit(frame, 1, 1), answers, SPACE_STEP_BYTES);
+    check(returned == 4, "committed and three founds");
+    for (uint32_t i = 1; i <= 3; i++) {
+        struct space_record record = space_record_at(answers, i);
+        check(record.kind == SPACE_RECORD_FOUND && record.party == 5 - i, "served in order of arrival");
+        check(record.entry == (i == 1 ? 1 : 2), "the oldest at each turn");
+    }
 }
 
 /* Words that frames did not make are read modulo 256 and 8, and up to the limits, as host/space.h tells. */
@@ -211,6 +249,8 @@ int main(void)
     pass_nulls();
     build_frames();
     read_words();
+    find_oldest();
+    serve_oldest();
     step_on_odd_words();
     use_zeroed_words();
     return 0;

@@ -86,7 +86,7 @@ static void set_marks(struct pane *pane)
         send(pane, frame, space_frame_write(frame, pane->party, fields, 3, 0));
 }
 
-/* Takes a mark and writes a finding for it, both in one transaction of four ticks. */
+/* Takes the oldest mark and writes a finding for it, both in one transaction of four ticks. */
 static void report(struct pane *pane)
 {
     uint8_t frame[SPACE_MAX_FRAME_BYTES];
@@ -107,7 +107,7 @@ static void report(struct pane *pane)
     send(pane, frame, length);
 }
 
-/* Takes findings as they come. */
+/* Takes findings, the oldest first. */
 static void show_findings(struct pane *pane)
 {
     uint8_t frame[SPACE_MAX_FRAME_BYTES];

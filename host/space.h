@@ -14,8 +14,9 @@
 extern "C" {
 #endif
 
-/* Raised with each change of what a host sees: functions, frames, records, numbers, limits, the layout of the words. */
-#define SPACE_VERSION 1
+/* Raised with each change of what a host sees: functions, frames, records, numbers, limits, the layout of the words.
+ * 2: of several available entries the one with the lowest number is found. */
+#define SPACE_VERSION 2
 
 #define SPACE_MAX_ENTRIES 64         /* entries stored at most */
 #define SPACE_MAX_TRANSACTIONS 8     /* transactions live at most */
@@ -69,6 +70,8 @@ enum space_operation {
 #define SPACE_RECORD_AT_ENTRY 8
 #define SPACE_RECORD_AT_FIELDS 12
 
+/* A found record has the available entry with the lowest entry number, at once as in service: the oldest. So the
+ * answer to every list of frames is fixed, to the last byte. */
 enum space_record_kind {
     SPACE_RECORD_WRITTEN = 1,
     SPACE_RECORD_FOUND = 2,
@@ -158,7 +161,8 @@ void space_empty(uint32_t space[SPACE_WORDS]);
  * On words made in any other way all of this holds too, with the answers that the rules give for the tables which
  * those words are read as: counts above the limits are read as the limits, a party, a mask and readers modulo 256, a
  * slot modulo 8. What does not hold there is what follows from a history of frames: that no number is given out
- * twice, that no look-up waits while an entry is available to it, and the like. */
+ * twice, that entries stand by number (found has the first available row), that no look-up waits while an entry is
+ * available to it, and the like. */
 uint64_t space_step(uint32_t space[SPACE_WORDS], const uint8_t *frame, size_t frame_len,
                     uint8_t *answers, size_t answers_len);
 

@@ -47,7 +47,8 @@ static inline size_t space_frame_write(uint8_t *frame, uint8_t party, const uint
     return length;
 }
 
-/* Read, take, readIfExists or takeIfExists. Fields whose bit in the mask is 0 are not looked at. */
+/* Read, take, readIfExists or takeIfExists. Fields whose bit in the mask is 0 are not looked at. Of several available
+ * entries the one with the lowest number is found. */
 static inline size_t space_frame_look_up(uint8_t *frame, uint8_t operation, uint8_t party, uint8_t mask,
                                          const uint32_t fields[4], uint32_t timeout, uint32_t transaction)
 {

@@ -1,11 +1,12 @@
 //! Seeded random frames and trays that make deep histories: several panes, few distinct kinds, short leases,
-//! ticks anywhere, full tables, garbled frames, damaged trays, answers areas of odd lengths.
+//! ticks anywhere, full tables, steps that set several entries free, garbled frames, damaged trays, answers areas of
+//! odd lengths.
 
 use crate::frames::{create_frame, ending_frame, long_frame, tick_frame};
 use crate::random::Random;
 use reference::answer::{RECORD, STEP};
 use reference::frame::{Fields, FOREVER, LAST_CLOCK, NONE};
-use reference::space::{oldest, End, Space};
+use reference::space::{End, Space};
 use reference::tray::{LONGEST_TRAY, MOST_FRAMES};
 use tray::bytes::tray_of;
 
@@ -18,6 +19,8 @@ struct Lean {
     /// Percentages.
     forever: usize,
     inside: usize,
+    /// Of writes, in some live transaction, so that a commit brings several entries at once.
+    gathered: usize,
     timeout_0: usize,
     if_exists: usize,
     takes: usize,
@@ -36,6 +39,7 @@ impl Lean {
             longest: random.pick(&[2, 5, 20]),
             forever: random.pick(&[0, 10, 40]),
             inside: random.pick(&[0, 40, 80]),
+            gathered: 0,
             timeout_0: random.pick(&[10, 40, 80]),
             if_exists: random.pick(&[20, 50, 90]),
             takes: random.pick(&[20, 50, 80]),
@@ -44,7 +48,7 @@ impl Lean {
             garbled: random.pick(&[0, 2, 15]),
             shares: [random.between(2, 8) as usize, random.between(2, 8) as usize, 2, 2, random.between(1, 4) as usize],
         };
-        match random.below(5) {
+        match random.below(6) {
             // many entries stored
             0 => Lean { forever: 80, takes: 15, timeout_0: 90, shares: [10, 4, 1, 1, 1], ..mixed },
             // many transactions live, with holds
@@ -53,6 +57,18 @@ impl Lean {
             2 => {
                 Lean { parties: 16, kinds: 4, forever: 60, timeout_0: 3, takes: 80, shares: [1, 10, 1, 1, 1], ..mixed }
             }
+            // several entries set free in one step, for look-ups that wait
+            3 => Lean {
+                parties: 16,
+                kinds: random.pick(&[1, 2]),
+                longest: 20,
+                forever: 10,
+                inside: random.pick(&[10, 40]),
+                gathered: 95,
+                timeout_0: 5,
+                shares: [8, 6, 1, 1, 2],
+                ..mixed
+            },
             _ => mixed,
         }
     }
@@ -97,7 +113,7 @@ impl Generator {
         }
         match operation {
             0 => {
-                let (transaction, lease) = (self.transaction(guide, party), self.duration(guide));
+                let ((party, transaction), lease) = (self.writer(guide, party), self.duration(guide));
                 long_frame(1, party, 0, transaction, lease, self.fields())
             }
             1 => self.look_up_frame(guide, party),
@@ -145,6 +161,18 @@ impl Generator {
             return None;
         }
         Some(self.random.pick(&free))
+    }
+
+    /// Who writes, and in which transaction: this party, or the owner of a live transaction who does not wait.
+    fn writer(&mut self, guide: &Space, party: u8) -> (u8, u32) {
+        let waits = |party: u8| guide.waiting.iter().any(|look_up| look_up.party == party);
+        let gathers = self.random.percent(self.lean.gathered);
+        let live = guide.transactions.iter().filter(|live| gathers && !waits(live.owner));
+        let live: Vec<(u8, u32)> = live.map(|live| (live.owner, live.number)).collect();
+        match live.len() {
+            0 => (party, self.transaction(guide, party)),
+            _ => self.random.pick(&live),
+        }
     }
 
     fn transaction(&mut self, guide: &Space, party: u8) -> u32 {
@@ -240,7 +268,7 @@ impl Generator {
             if bytes > LONGEST_TRAY {
                 break;
             }
-            guide.step(&frame, &mut scratch, oldest);
+            guide.step(&frame, &mut scratch);
             frames.push(frame);
         }
         if self.random.percent(80) {

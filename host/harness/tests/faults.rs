@@ -3,12 +3,13 @@
 use harness::compare::{compare, replay, Coverage, Discrepancy};
 use harness::subject::{Beginning, Subject};
 use reference::answer::{RECORD, STEP};
-use reference::frame::{Template, FOREVER};
-use reference::space::{oldest, End, Space};
+use reference::frame::{Template, FOREVER, LOOK_UPS};
+use reference::space::{End, Space};
 use reference::tray::{judge, run};
 use tray::text::parse;
 
-/// The mistakes that document 01 tells of students, and what its contracts exclude; then smaller ones.
+/// The mistakes that document 01 tells of students, and what its contracts exclude; then smaller ones; then the order
+/// that document 02 fixes.
 const LEASE_STOPS_UNDER_A_TAKE_HOLD: u8 = 0;
 const OWN_READ_BARS_OWN_TAKE: u8 = 1;
 const NOTHING_BEFORE_SERVICE: u8 = 2;
@@ -20,6 +21,8 @@ const BYTE_BEHIND_THE_LAST_RECORD: u8 = 7;
 const REFUSED_FRAME_COUNTS: u8 = 8;
 const RECORD_COUNT_INVENTED: u8 = 9;
 const LAST_NUMBER_GIVEN_OUT: u8 = 10;
+const NEWEST_FIRST_AT_ONCE: u8 = 11;
+const NEWEST_FIRST_IN_SERVICE: u8 = 12;
 
 /// The reference with a fault.
 #[derive(Clone, PartialEq)]
@@ -43,6 +46,11 @@ impl<const FAULT: u8> Wrong<FAULT> {
                 look_up.template = Template::new(15, [0x5eed; 4]);
             }
         }
+        // a look-up's own step serves nobody, and other steps find nothing at once
+        let at_once = frame.first().is_some_and(|operation| LOOK_UPS.contains(operation));
+        if FAULT == if at_once { NEWEST_FIRST_AT_ONCE } else { NEWEST_FIRST_IN_SERVICE } {
+            self.0.entries.reverse();
+        }
     }
 
     /// What it does behind one; gives what is returned.
@@ -50,6 +58,7 @@ impl<const FAULT: u8> Wrong<FAULT> {
         for entry in &mut self.0.entries {
             entry.read_by.retain(|&reader| reader != FOREVER);
         }
+        self.0.entries.sort_by_key(|entry| entry.number);
         let end = RECORD * (returned % 65536) as usize;
         match FAULT {
             BYTE_BEHIND_THE_LAST_RECORD if end < area.len() => area[end] = !area[end],
@@ -81,7 +90,7 @@ impl<const FAULT: u8> Subject for Wrong<FAULT> {
             frame[0] = 8;
         }
         self.before(&frame);
-        let outcome = self.0.step(&frame, area, oldest);
+        let outcome = self.0.step(&frame, area);
         if commit && outcome.number == 0 {
             area[0] = 6;
         }
@@ -89,7 +98,7 @@ impl<const FAULT: u8> Subject for Wrong<FAULT> {
     }
 
     fn run_tray(tray: &[u8], area: &mut [u8]) -> u64 {
-        let done = run(tray, area, oldest).packed();
+        let done = run(tray, area).packed();
         let invented = FAULT == RECORD_COUNT_INVENTED && done % 65536 > 100;
         done + if invented { 65536 } else { 0 }
     }
@@ -158,6 +167,13 @@ fn tables_and_areas_are_compared() {
     shows::<REFUSED_FRAME_COUNTS>();
 }
 
+/// Document 02: "for immediate and served look-ups alike".
+#[test]
+fn another_order_is_shown() {
+    shows::<NEWEST_FIRST_AT_ONCE>();
+    shows::<NEWEST_FIRST_IN_SERVICE>();
+}
+
 /// Only the tray's run is wrong: the text is the tray's, and a comment says what to run it with.
 #[test]
 fn a_trays_run_is_compared() {
@@ -165,7 +181,7 @@ fn a_trays_run_is_compared() {
     let tray = tray_of(&discrepancy);
     let (mut ours, mut theirs) = (vec![0; 300_000], vec![0; 300_000]);
     let returned = Wrong::<RECORD_COUNT_INVENTED>::run_tray(&tray, &mut ours);
-    assert_ne!(returned, run(&tray, &mut theirs, oldest).packed());
+    assert_ne!(returned, run(&tray, &mut theirs).packed());
     assert!(discrepancy.besides.starts_with("run as a whole tray, with an answers area of "));
 }
 

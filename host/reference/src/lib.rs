@@ -1,4 +1,5 @@
-//! Document 01 in ordinary Rust, written from the document and from nothing else of this repository.
+//! Document 01, with what document 02 has changed in it, in ordinary Rust: written from the documents and from nothing
+//! else of this repository. Of document 02 it has T-02, the oldest mark first.
 //!
 //! - `frame`: entries, templates, frame layout, refusals 2 to 5
 //! - `answer`: answer records

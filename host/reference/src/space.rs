@@ -107,15 +107,6 @@ pub struct Space {
     pub waiting: Vec<LookUp>,
 }
 
-/// Any available entry may be handed out. A choice tells, for the record with this place in the step,
-/// which entry number to hand out if that entry is available; otherwise the oldest is.
-pub trait Choice: Fn(usize) -> Option<u32> {}
-impl<F: Fn(usize) -> Option<u32>> Choice for F {}
-
-pub fn oldest(_record: usize) -> Option<u32> {
-    None
-}
-
 impl Default for Space {
     fn default() -> Space {
         Space::new()
@@ -134,12 +125,12 @@ impl Space {
         }
     }
 
-    pub fn step(&mut self, frame: &[u8], area: &mut [u8], choice: impl Choice) -> Outcome {
+    pub fn step(&mut self, frame: &[u8], area: &mut [u8]) -> Outcome {
         if area.len() < STEP {
             return Outcome { records: 0, number: Refusal::AreaTooSmall as u8 };
         }
         let mut answers = Answers::new(area);
-        let number = match decode(frame).and_then(|request| self.perform(request, &mut answers, choice)) {
+        let number = match decode(frame).and_then(|request| self.perform(request, &mut answers)) {
             Ok(()) => 0,
             Err(refusal) => {
                 let party = frame.get(1).copied().unwrap_or(0);
@@ -152,13 +143,13 @@ impl Space {
     }
 
     /// Carries out the request, or gives the first of refusals 6 to 14 that applies and changes nothing.
-    fn perform(&mut self, request: Request, answers: &mut Answers, choice: impl Choice) -> Result<(), Refusal> {
+    fn perform(&mut self, request: Request, answers: &mut Answers) -> Result<(), Refusal> {
         match request {
             Request::Write { party, transaction, lease, fields } => {
                 self.check_party(party)?;
                 self.check_transaction(party, transaction)?;
                 self.check_duration(lease)?;
-                self.write(party, transaction, lease, fields, answers, choice)?;
+                self.write(party, transaction, lease, fields, answers)?;
             }
             Request::LookUp { party, transaction, timeout, kind, template } => {
                 self.check_party(party)?;
@@ -166,7 +157,7 @@ impl Space {
                 self.check_duration(timeout)?;
                 let deadline = End::after(self.clock, timeout);
                 let look_up = LookUp { party, transaction, kind, template, deadline };
-                self.look_up(look_up, timeout, answers, choice)?;
+                self.look_up(look_up, timeout, answers)?;
             }
             Request::Create { party, lease } => {
                 self.check_party(party)?;
@@ -177,16 +168,16 @@ impl Space {
                 self.check_ending(party, transaction)?;
                 answers.put(Record::new(Kind::Committed, party, transaction));
                 self.commit(transaction);
-                self.serve(answers, choice);
+                self.serve(answers);
             }
             Request::Abort { party, transaction } => {
                 self.check_party(party)?;
                 self.check_ending(party, transaction)?;
                 answers.put(Record::new(Kind::Aborted, party, transaction));
                 self.abort(transaction);
-                self.serve(answers, choice);
+                self.serve(answers);
             }
-            Request::Tick => self.tick(answers, choice)?,
+            Request::Tick => self.tick(answers)?,
         }
         Ok(())
     }
@@ -231,7 +222,6 @@ impl Space {
         lease: u32,
         fields: Fields,
         answers: &mut Answers,
-        choice: impl Choice,
     ) -> Result<(), Refusal> {
         if lease != 0 && self.entries.len() >= MOST_ENTRIES {
             return Err(Refusal::EntriesFull);
@@ -248,19 +238,13 @@ impl Space {
         }
         answers.put(Record { entry: number, ..Record::new(Kind::Written, party, transaction) });
         if transaction == NONE {
-            self.serve(answers, choice);
+            self.serve(answers);
         }
         Ok(())
     }
 
-    fn look_up(
-        &mut self,
-        look_up: LookUp,
-        timeout: u32,
-        answers: &mut Answers,
-        choice: impl Choice,
-    ) -> Result<(), Refusal> {
-        if let Some(place) = self.choose(&look_up, choice(answers.records)) {
+    fn look_up(&mut self, look_up: LookUp, timeout: u32, answers: &mut Answers) -> Result<(), Refusal> {
+        if let Some(place) = self.oldest_available(&look_up) {
             self.hand_out(&look_up, place, answers);
             return Ok(());
         }
@@ -277,11 +261,11 @@ impl Space {
         Ok(())
     }
 
-    /// The place of an available entry: the wanted one if it is available, else the oldest.
-    fn choose(&self, look_up: &LookUp, wanted: Option<u32>) -> Option<usize> {
-        let chosen =
-            wanted.and_then(|number| self.entries.iter().position(|e| e.number == number && e.available(look_up)));
-        chosen.or_else(|| self.entries.iter().position(|e| e.available(look_up)))
+    /// The place of the entry that is handed out, if one is. Document 02: "Where several entries are available, found
+    /// now hands out the one with the lowest entry number", "for immediate and served look-ups alike". It stands first,
+    /// since entries are kept by number.
+    fn oldest_available(&self, look_up: &LookUp) -> Option<usize> {
+        self.entries.iter().position(|entry| entry.available(look_up))
     }
 
     /// Answers found with the entry at this place, and does to it what the look-up does.
@@ -346,10 +330,10 @@ impl Space {
     }
 
     /// The waiting look-ups once, in order of arrival; each with an available entry is answered found.
-    fn serve(&mut self, answers: &mut Answers, choice: impl Choice) {
+    fn serve(&mut self, answers: &mut Answers) {
         let mut at = 0;
         while at < self.waiting.len() {
-            match self.choose(&self.waiting[at], choice(answers.records)) {
+            match self.oldest_available(&self.waiting[at]) {
                 Some(place) => {
                     let look_up = self.waiting.remove(at);
                     self.hand_out(&look_up, place, answers);
@@ -359,7 +343,7 @@ impl Space {
         }
     }
 
-    fn tick(&mut self, answers: &mut Answers, choice: impl Choice) -> Result<(), Refusal> {
+    fn tick(&mut self, answers: &mut Answers) -> Result<(), Refusal> {
         if self.clock >= LAST_CLOCK {
             return Err(Refusal::TooLate);
         }
@@ -373,7 +357,7 @@ impl Space {
             answers.put(Record::new(Kind::Exception, ended.owner, ended.number));
         }
         self.entries.retain(|entry| !entry.end.reached(clock));
-        self.serve(answers, choice);
+        self.serve(answers);
         self.waiting.retain(|look_up| {
             let over = look_up.deadline.reached(clock);
             if over {

@@ -50,14 +50,9 @@ impl Done {
     }
 }
 
-/// Runs a tray from an empty space. `choice` is told the place of a record in the whole run, and `after` is
-/// called behind each frame with its place, the bytes of the records it wrote, and the space.
-pub fn run_watched(
-    tray: &[u8],
-    area: &mut [u8],
-    choice: impl Fn(usize) -> Option<u32>,
-    mut after: impl FnMut(usize, &[u8], &Space),
-) -> Done {
+/// Runs a tray from an empty space. `after` is called behind each frame with its place, the bytes of the records it
+/// wrote, and the space.
+pub fn run_watched(tray: &[u8], area: &mut [u8], mut after: impl FnMut(usize, &[u8], &Space)) -> Done {
     let frames = match judge(tray) {
         Ok(frames) => frames,
         Err(refusal) => return Done { frames: 0, records: 0, number: refusal as u8 },
@@ -69,14 +64,13 @@ pub fn run_watched(
         if rest.len() < STEP {
             return Done { frames: place, records, number: Refusal::AreaTooSmall as u8 };
         }
-        let first = records;
-        let written = space.step(&tray[frame.clone()], rest, |record| choice(first + record)).records;
+        let written = space.step(&tray[frame.clone()], rest).records;
         after(place, &rest[..RECORD * written], &space);
         records += written;
     }
     Done { frames: frames.len(), records, number: 0 }
 }
 
-pub fn run(tray: &[u8], area: &mut [u8], choice: impl Fn(usize) -> Option<u32>) -> Done {
-    run_watched(tray, area, choice, |_, _, _| {})
+pub fn run(tray: &[u8], area: &mut [u8]) -> Done {
+    run_watched(tray, area, |_, _, _| {})
 }

@@ -325,6 +325,24 @@ fn hues_are_dark_and_apart() {
     }
 }
 
+/// A look-up that has found one of several says so; one that had no other does not.
+#[test]
+fn the_oldest_of_several() {
+    let text = std::fs::read_to_string("../../examples/oldest-first.txt").unwrap();
+    let drawn = svg_file(&history(&text), ONE_ROW);
+    let told = |several: &str| drawn.matches(&format!(">{several}<")).count();
+    assert_eq!((told("oldest of 3"), told("oldest of 2"), told("oldest of 1")), (3, 3, 0));
+}
+
+/// So does one that has waited: of those at its turn.
+#[test]
+fn the_oldest_of_several_in_service() {
+    let text = std::fs::read_to_string("../../examples/oldest-first-served.txt").unwrap();
+    let drawn = svg_file(&history(&text), ONE_ROW);
+    let told = |several: &str| drawn.matches(&format!(">{several}<")).count();
+    assert_eq!((told("oldest of 3"), told("oldest of 2"), told("oldest of 1")), (1, 3, 0));
+}
+
 #[test]
 fn the_program_draws() {
     let folder = scratch("draw");

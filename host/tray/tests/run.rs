@@ -76,11 +76,12 @@ fn states_and_reasons() {
     }
 }
 
-/// What `standing` and `Matcher` say is what the space does: found exactly if an entry is available.
+/// What `standing` and `Matcher` say is what the space does: found exactly if an entry is available, and of several the
+/// one with the lowest number.
 #[test]
 fn reasons_are_those_of_the_space() {
     let mut matcher = Matcher::default();
-    let (mut found, mut barred) = (0, 0);
+    let (mut found, mut several, mut barred) = (0, 0, 0);
     for seed in 1..200 {
         let text = parse(&random_text(seed, 80)).unwrap();
         let history = History::of(text.frames().cloned());
@@ -91,11 +92,15 @@ fn reasons_are_those_of_the_space() {
             let available: Vec<u32> =
                 standings.iter().filter(|(_, s)| *s == Standing::Available).map(|(entry, _)| entry.number).collect();
             match step.records[0].kind {
-                FOUND => assert!(available.contains(&step.records[0].entry), "seed {seed}, frame {place}"),
+                FOUND => {
+                    let oldest = available.iter().copied().min();
+                    assert_eq!(oldest, Some(step.records[0].entry), "seed {seed}, frame {place}");
+                }
                 NOTHING | WAITING => assert!(available.is_empty(), "seed {seed}, frame {place}"),
                 _ => continue,
             }
             found += usize::from(!available.is_empty());
+            several += usize::from(available.len() > 1);
             barred += usize::from(available.is_empty() && !standings.is_empty());
         }
         for step in &history.steps {
@@ -105,7 +110,7 @@ fn reasons_are_those_of_the_space() {
             }
         }
     }
-    assert!(found > 500 && barred > 300, "{found} found, {barred} barred");
+    assert!(found > 500 && several > 300 && barred > 300, "{found} found, {several} of several, {barred} barred");
 }
 
 #[test]

@@ -1,7 +1,9 @@
 //! The space. What makes it fast:
 //!
+//! - Rows are by number: a write appends, removing moves rows down. So the first available row is the entry with the
+//!   lowest number, and no numbers are compared.
 //! - Between steps no waiting look-up has an available entry, so service looks only at the rows that the step has set
-//!   free (`fresh`, a mask of 64 rows).
+//!   free (`fresh`, a mask of 64 rows), the lowest bit first: of all available entries it meets the lowest number.
 //! - The least end is kept, so that a tick at which nothing ends is one comparison.
 //! - A bit tells whether a party waits, and whether a transaction has written, read or taken anything.
 //! - The four fields are compared as two words of 64 bits.
@@ -129,7 +131,7 @@ pub struct Space {
     entry_count: usize,
     /// By arrival.
     waits: [LookUp; WAITS],
-    /// By number.
+    /// By number, always.
     entries: [Entry; ENTRIES],
 }
 
@@ -372,7 +374,8 @@ impl Space {
         fresh
     }
 
-    /// The waiting look-ups once, in order of arrival; each with an available entry among the fresh is answered found.
+    /// The waiting look-ups once, in order of arrival; each with an available entry among the fresh is answered found,
+    /// with the lowest number of these. A hand-out makes no entry available, so no row becomes fresh on the way.
     fn serve(&mut self, mut fresh: u64, answers: &mut Answers) {
         if fresh == 0 {
             return;

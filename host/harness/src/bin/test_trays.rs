@@ -4,7 +4,6 @@
 //!     test_trays reference     the reference's run of the tray on standard input, printed as the program prints it
 
 use harness::generate::Generator;
-use reference::space::oldest;
 use std::io::{self, Read, Write};
 use std::process::ExitCode;
 use tray::boundary::{Done, PROGRAM_AREA};
@@ -13,7 +12,7 @@ use tray::run::raw;
 fn by_reference() -> io::Result<Vec<u8>> {
     let (mut tray, mut area) = (Vec::new(), vec![0; PROGRAM_AREA]);
     io::stdin().read_to_end(&mut tray)?;
-    let done = reference::tray::run(&tray, &mut area, oldest);
+    let done = reference::tray::run(&tray, &mut area);
     Ok(raw(&area, Done::of(done.packed())).into_bytes())
 }
 

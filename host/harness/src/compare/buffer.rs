@@ -2,7 +2,7 @@
 
 use crate::random::Random;
 use crate::subject::Subject;
-use reference::answer::{Kind, Record, RECORD};
+use reference::answer::{Record, RECORD};
 use std::ops::Range;
 use tray::frame::show;
 
@@ -39,12 +39,6 @@ impl Buffer {
     /// The records, a line each.
     pub fn lines(&self, range: Range<usize>) -> String {
         self.places(range).map(|bytes| format!("    {}\n", tray::record::Record::read(bytes).line())).collect()
-    }
-
-    /// The entry number of the found record at this place, if there is one.
-    pub fn found(&self, place: usize) -> Option<u32> {
-        let record = *self.records(place..place + 1).first()?;
-        record.is(Kind::Found).then_some(record.entry)
     }
 }
 

@@ -1,5 +1,6 @@
 //! How often each thing that can occur has occurred.
 
+use super::hand_outs::{hand_outs, HandOut, FOUNDS};
 use reference::answer::{Kind, Record};
 use reference::frame::{look_up_kind, LOOK_UPS, NONE};
 use reference::space::{Entry, Space, MOST_ENTRIES, MOST_TRANSACTIONS, MOST_WAITING};
@@ -37,6 +38,8 @@ pub struct Coverage {
     kinds: [u64; 16],
     refusals: [u64; 17],
     situations: BTreeMap<&'static str, u64>,
+    /// At once, and in service.
+    founds: [[u64; 2]; FOUNDS.len()],
 }
 
 impl Coverage {
@@ -66,6 +69,8 @@ impl Coverage {
         self.note("25 records in a step", usize::from(records.len() == 25));
         self.note("entry with three read holds", after.entries.iter().filter(|e| e.read_by.len() > 2).count());
 
+        hand_outs(before, frame, records).iter().for_each(|found| self.found(found));
+
         let later = &records[1..];
         let count = |kind| later.iter().filter(|record| record.is(kind)).count();
         self.note("found later", count(Kind::Found));
@@ -80,6 +85,12 @@ impl Coverage {
         }
         if LOOK_UPS.contains(&frame[0]) {
             self.look_up(before, frame, records[0]);
+        }
+    }
+
+    fn found(&mut self, found: &HandOut) {
+        for (times, (_, _, holds)) in self.founds.iter_mut().zip(FOUNDS) {
+            times[usize::from(found.served)] += u64::from(holds(found));
         }
     }
 
@@ -115,6 +126,10 @@ impl Coverage {
         let mut missing: Vec<String> = kinds.map(|kind| format!("record {}", kind.name)).collect();
         missing.extend(refusals.map(|number| format!("number {number}")));
         missing.extend(situations.map(|name| name.to_string()));
+        for ([at_once, served], (name, in_service, _)) in self.founds.iter().zip(FOUNDS) {
+            missing.extend((*at_once == 0).then(|| format!("found at once: {name}")));
+            missing.extend((in_service && *served == 0).then(|| format!("found in service: {name}")));
+        }
         missing
     }
 
@@ -131,6 +146,11 @@ impl Coverage {
         println!("situations:");
         for name in SITUATIONS {
             println!("  {name:<36} {:>10}", self.situations.get(name).copied().unwrap_or(0));
+        }
+        println!("founds:                                   at once in service");
+        for ([at_once, served], (name, in_service, _)) in self.founds.iter().zip(FOUNDS) {
+            let remark = if in_service { "" } else { "  cannot occur in service" };
+            println!("  {name:<36} {at_once:>10} {served:>10}{remark}");
         }
     }
 }

@@ -1,8 +1,10 @@
-//! A space and the reference, led through the same histories and trays; everything that can be seen is compared.
+//! A space and the reference, led through the same histories and trays; everything that can be seen is compared, byte
+//! for byte. The reference is told nothing of the space's answers.
 
 mod buffer;
 mod coverage;
 mod discrepancy;
+mod hand_outs;
 mod pair;
 mod steps;
 mod trays;

@@ -28,7 +28,7 @@ impl<S: Subject> Pair<S> {
         let (mut ours, mut theirs) = (area.clone(), area);
         let before = self.subject.clone();
         let returned = self.subject.step(frame, ours.area());
-        let Outcome { records, number } = self.space.step(frame, theirs.area(), |record| ours.found(record));
+        let Outcome { records, number } = self.space.step(frame, theirs.area());
         let wanted = records as u64 + 65536 * u64::from(number);
 
         let why = if returned != wanted {

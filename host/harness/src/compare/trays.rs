@@ -22,18 +22,13 @@ pub fn by_tray<S: Subject>(generator: &mut Generator, coverage: &mut Coverage) -
     let returned = S::run_tray(&tray, ours.area());
     let mut ranges: Vec<Range<usize>> = Vec::new();
     let mut before = Space::new();
-    let done = run_watched(
-        &tray,
-        &mut theirs.bytes[theirs.area.clone()],
-        |record| ours.found(record),
-        |place, written, after| {
-            let written: Vec<Record> = written.chunks_exact(RECORD).map(Record::read).collect();
-            coverage.step(&before, &tray[frames[place].clone()], &written, after);
-            before = after.clone();
-            let first = ranges.last().map_or(0, |range| range.end);
-            ranges.push(first..first + written.len());
-        },
-    );
+    let done = run_watched(&tray, theirs.area(), |place, written, after| {
+        let written: Vec<Record> = written.chunks_exact(RECORD).map(Record::read).collect();
+        coverage.step(&before, &tray[frames[place].clone()], &written, after);
+        before = after.clone();
+        let first = ranges.last().map_or(0, |range| range.end);
+        ranges.push(first..first + written.len());
+    });
     coverage.trays += 1;
     coverage.number(done.number);
 

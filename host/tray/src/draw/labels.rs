@@ -1,6 +1,6 @@
 //! What stands above and below a mark: the request; the record's word, and one reason or effect.
 
-use super::lives::{EntryLife, Gone, Hold, Lives, Mark, Moment};
+use super::lives::{entries_by_slot, EntryLife, Gone, Hold, Lives, Mark, Moment};
 use super::metrics::width;
 use crate::frame::{duration_text, end_text, plain_fields, template_slots, template_text, Class, Part, Request};
 use crate::history::History;
@@ -8,7 +8,7 @@ use crate::oracle::{Matcher, Sought, Standing};
 use crate::record::{
     kind_of, refusal_label, ABORTED, COMMITTED, CREATED, EXCEPTION, FOUND, NOTHING, REFUSED, WAITING, WRITTEN,
 };
-use crate::words::{End, Template};
+use crate::words::{End, Tables, Template};
 
 /// A template longer than this is shown by slots.
 const LONG: f64 = 104.0;
@@ -142,15 +142,23 @@ fn effects(lives: &Lives, mark: &Mark) -> String {
     }
 }
 
-/// How many entries were available to a look-up that found one at once.
-fn choice(history: &History, mark: &Mark, matcher: &mut Matcher) -> String {
-    if !mark.own {
-        return String::new();
+/// The entries at a look-up's turn: those before its own frame, or in service those that the slot before it left.
+fn at_turn(history: &History, at: Moment) -> Tables {
+    match at.slot {
+        0 => history.before(at.frame).clone(),
+        slot => {
+            let entries = entries_by_slot(history, at.frame).swap_remove(slot - 1);
+            Tables { entries, ..history.steps[at.frame].after.clone() }
+        }
     }
-    let sought = history.sought(mark.at.frame, mark.place);
-    let standings = sought.map(|sought| sought.standings(history.before(mark.at.frame), matcher));
-    let available = |(_, standing): &(_, Standing)| *standing == Standing::Available;
-    match standings.unwrap_or_default().into_iter().filter(available).count() {
+}
+
+/// Of how many available entries a look-up has found the oldest.
+fn oldest_of(history: &History, mark: &Mark, matcher: &mut Matcher) -> String {
+    let Some(sought) = history.sought(mark.at.frame, mark.place) else { return String::new() };
+    let tables = at_turn(history, mark.at);
+    let standings = sought.standings(&tables, matcher);
+    match standings.iter().filter(|(_, standing)| *standing == Standing::Available).count() {
         0 | 1 => String::new(),
         several => format!("oldest of {several}"),
     }
@@ -185,7 +193,7 @@ pub fn labels(history: &History, lives: &Lives, mark: &Mark, matcher: &mut Match
             let transaction = request.map_or(0, |request| request.transaction);
             (refusal_label(mark.record.refusal, transaction), Vec::new())
         }
-        FOUND => (choice(history, mark, matcher), Vec::new()),
+        FOUND => (oldest_of(history, mark, matcher), Vec::new()),
         _ => (String::new(), Vec::new()),
     };
     let below = [word(mark, history), second].into_iter().filter(|line| !line.is_empty()).collect();

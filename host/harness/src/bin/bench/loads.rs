@@ -3,7 +3,7 @@
 use harness::frames::{create_frame, ending_frame, long_frame, tick_frame};
 use harness::random::Random;
 use reference::frame::{Fields, FOREVER, NONE};
-use reference::space::{oldest, Space};
+use reference::space::Space;
 
 /// How full the tables are kept. With sixteen look-ups waiting every party waits, and only ticks are carried out.
 struct Fill {
@@ -124,7 +124,7 @@ fn mix(fill: &Fill) -> Load {
     let (mut setup, mut frames) = (Vec::new(), Vec::new());
     while frames.len() < 1400 {
         let frame = mixed_frame(&mut random, &space, fill);
-        space.step(&frame, &mut scratch, oldest);
+        space.step(&frame, &mut scratch);
         if setup.len() < 300 {
             setup.push(frame);
         } else {

@@ -7,7 +7,6 @@ mod loads;
 mod table;
 
 use loads::{all_loads, Load};
-use reference::space::oldest;
 use std::process::{Command, ExitCode, Stdio};
 use std::time::Instant;
 use table::Row;
@@ -23,7 +22,7 @@ const TURNS: usize = 61;
 type Run = fn(&[u8], &mut [u8]) -> u64;
 
 fn plain(tray: &[u8], area: &mut [u8]) -> u64 {
-    reference::tray::run(tray, area, oldest).packed()
+    reference::tray::run(tray, area).packed()
 }
 
 /// The proved space first.

@@ -1,0 +1,94 @@
+//! The founds of a step, each with the entries that were there at its turn.
+
+use reference::answer::{Kind, Record, STEP};
+use reference::frame::{decode, Request, NONE};
+use reference::space::{End, Entry, LookUp, Space};
+
+/// An entry handed out, at once or in service.
+pub struct HandOut {
+    pub served: bool,
+    look_up: LookUp,
+    number: u32,
+    /// The entries at the look-up's turn.
+    entries: Vec<Entry>,
+}
+
+/// What a found can be, whether it can be that in service, and whether it is that.
+type Situation = (&'static str, bool, fn(&HandOut) -> bool);
+
+/// The situations of founds. A transaction's own private entry is available to its look-ups at once, and its owner
+/// writes nothing while waiting: in service there is none.
+pub const FOUNDS: [Situation; 9] = [
+    ("read, of several", true, |it| it.of_several(false, false)),
+    ("take, of several", true, |it| it.of_several(true, false)),
+    ("readIfExists, of several", true, |it| it.of_several(false, true)),
+    ("takeIfExists, of several", true, |it| it.of_several(true, true)),
+    ("inside a transaction, of several", true, |it| it.look_up.transaction != NONE && it.newer().next().is_some()),
+    ("an older match is held", true, |it| it.passed_over().any(|e| e.private_to == NONE)),
+    ("an older match is another's private", true, |it| it.passed_over().any(|e| e.private_to != NONE)),
+    ("committed, an own private is newer", false, |it| !it.own_private() && it.newer().any(|e| e.private_to != NONE)),
+    ("own private, a committed is newer", false, |it| it.own_private() && it.newer().any(|e| e.private_to == NONE)),
+];
+
+impl HandOut {
+    fn of_several(&self, takes: bool, if_exists: bool) -> bool {
+        let kind = self.look_up.kind;
+        kind.takes == takes && kind.if_exists == if_exists && self.newer().next().is_some()
+    }
+
+    fn available(&self) -> impl Iterator<Item = &Entry> {
+        self.entries.iter().filter(|e| e.available(&self.look_up))
+    }
+
+    /// The available entries that were not handed out.
+    fn newer(&self) -> impl Iterator<Item = &Entry> {
+        self.available().filter(|e| e.number > self.number)
+    }
+
+    /// The matching entries with a lower number.
+    fn passed_over(&self) -> impl Iterator<Item = &Entry> {
+        self.entries.iter().filter(|e| e.number < self.number && self.look_up.template.matches(&e.fields))
+    }
+
+    fn own_private(&self) -> bool {
+        self.entries.iter().any(|e| e.number == self.number && e.private_to != NONE)
+    }
+}
+
+/// The founds of a step that was not refused, as the reference wrote them. Each has the lowest number of those
+/// available at its turn: so the reference keeps to the number, wherever it may store an entry.
+pub fn hand_outs(before: &Space, frame: &[u8], records: &[Record]) -> Vec<HandOut> {
+    let founds = records.iter().enumerate().filter(|(_, record)| record.is(Kind::Found));
+    let hand_outs = founds.filter_map(|(place, found)| hand_out(before, frame, place > 0, found));
+    hand_outs.inspect(|it| assert_eq!(it.available().map(|e| e.number).min(), Some(it.number))).collect()
+}
+
+fn hand_out(before: &Space, frame: &[u8], served: bool, found: &Record) -> Option<HandOut> {
+    let number = found.entry;
+    if !served {
+        let look_up = look_up_of(frame)?;
+        return Some(HandOut { served, look_up, number, entries: before.entries.clone() });
+    }
+    let place = before.waiting.iter().position(|look_up| look_up.party == found.party)?;
+    let look_up = before.waiting[place].clone();
+    Some(HandOut { served, look_up, number, entries: at_turn(before, frame, place).entries })
+}
+
+/// The look-up that a frame asks for; its deadline does not matter here.
+fn look_up_of(frame: &[u8]) -> Option<LookUp> {
+    match decode(frame) {
+        Ok(Request::LookUp { party, transaction, kind, template, .. }) => {
+            Some(LookUp { party, transaction, kind, template, deadline: End::Never })
+        }
+        _ => None,
+    }
+}
+
+/// The space at the turn of the waiting look-up with this place: what the frame makes of the space before, if only
+/// those wait that arrived earlier.
+fn at_turn(before: &Space, frame: &[u8], place: usize) -> Space {
+    let mut space = before.clone();
+    space.waiting.truncate(place);
+    space.step(frame, &mut [0; STEP]);
+    space
+}
