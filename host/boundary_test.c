@@ -189,7 +189,7 @@ static void serve_oldest(void)
     }
 }
 
-/* Words that frames did not make are read modulo 256 and 8, and up to the limits, as host/space.h tells. */
+/* Words that frames did not make are read as host/space.h tells. */
 static void step_on_odd_words(void)
 {
     static uint32_t odd[SPACE_WORDS];
@@ -199,13 +199,18 @@ static void step_on_odd_words(void)
         step(space_frame_write(frame, 1, mark, SPACE_FOREVER, 0));
     step(space_frame_create(frame, 2, SPACE_FOREVER));
     step(space_frame_look_up(frame, SPACE_OP_READ, 2, 0, mark, 0, 1));
-    step(space_frame_look_up(frame, SPACE_OP_TAKE, 3, SPACE_MASK_SIDE, (uint32_t[4]){0, 2, 0, 0}, SPACE_FOREVER, 0));
+    for (uint8_t party = 4; party >= 3; party--) /* parties 4, 3: read, take */
+        step(space_frame_look_up(frame, party == 4 ? SPACE_OP_READ : SPACE_OP_TAKE, party, SPACE_MASK_SIDE,
+                                 (uint32_t[4]){0, 2, 0, 0}, SPACE_FOREVER, 0));
     memcpy(odd, space, sizeof odd);
     odd[SPACE_WORD_ENTRY_COUNT] += 1000;
     odd[SPACE_TRANSACTIONS_AT + SPACE_TRANSACTION_OWNER] += 256;
     odd[SPACE_TRANSACTIONS_AT + SPACE_TRANSACTION_SLOT] += 8;
-    odd[SPACE_WAITING_AT + SPACE_WAITING_PARTY] += 256;
-    odd[SPACE_WAITING_AT + SPACE_WAITING_MASK] += 256;
+    odd[SPACE_WAITING_AT + SPACE_WAITING_OPERATION] += 256;
+    for (uint32_t row = 0; row < 2; row++) {
+        odd[SPACE_WAITING_AT + SPACE_WAITING_WORDS * row + SPACE_WAITING_PARTY] += 256;
+        odd[SPACE_WAITING_AT + SPACE_WAITING_WORDS * row + SPACE_WAITING_MASK] += 256;
+    }
     for (uint32_t row = 0; row < SPACE_MAX_ENTRIES; row++)
         odd[SPACE_ENTRIES_AT + SPACE_ENTRY_WORDS * row + SPACE_ENTRY_READERS] += 256;
     for (int i = 0; i < 6; i++) {
@@ -214,13 +219,13 @@ static void step_on_odd_words(void)
                         : i == 2 ? space_frame_commit(frame, 1, 1)                 /* 8 */
                         : i == 3 ? space_frame_look_up(frame, SPACE_OP_TAKE, 2, 0, mark, 0, 1)
                         : i == 4 ? space_frame_commit(frame, 2, 1)
-                                 : space_frame_write(frame, 1, (uint32_t[4]){7, 2, 0, 0}, 1, 0); /* serves party 3 */
+                                 : space_frame_write(frame, 1, (uint32_t[4]){7, 2, 0, 0}, 1, 0); /* serves both */
         memset(answers, 0xa5, SPACE_STEP_BYTES);
         memset(odd_answers, 0xa5, SPACE_STEP_BYTES);
         uint64_t returned = space_step(space, frame, length, answers, SPACE_STEP_BYTES);
         check(space_step(odd, frame, length, odd_answers, SPACE_STEP_BYTES) == returned, "odd words: returned");
         check(memcmp(answers, odd_answers, sizeof odd_answers) == 0, "odd words: the answers");
-        check(returned == (i == 0 ? 1 + 65536 * 11 : i == 1 ? 1 + 65536 * 6 : i == 2 ? 1 + 65536 * 8 : i == 5 ? 2 : 1),
+        check(returned == (i == 0 ? 1 + 65536 * 11 : i == 1 ? 1 + 65536 * 6 : i == 2 ? 1 + 65536 * 8 : i == 5 ? 3 : 1),
               "odd words: what each frame gives");
     }
 }

@@ -128,9 +128,29 @@ says() { # WHAT: on standard error, in one line
     [ "$(cat "$out/program.error")" = "viewer: $1" ] || fail "the program does not say: $1"
 }
 
+# The program's output is a pipe: full and not blocking, or closed by its reader while the caller ignores SIGPIPE.
+into_pipe() { # full|closed TRAY
+    python3 - "$program" "$@" 2> "$out/program.error" <<'END'
+import os, subprocess, sys
+program, pipe, tray = sys.argv[1:]
+reader, writer = os.pipe()
+if pipe == "full":
+    os.set_blocking(writer, False)
+    try:
+        while True:
+            os.write(writer, bytes(4096))
+    except BlockingIOError:
+        pass
+else:
+    os.close(reader)
+with open(tray, "rb") as frames:
+    subprocess.run([os.path.abspath(program)], stdin=frames, stdout=writer, restore_signals=False, check=True)
+END
+}
+
 # The program has no exit status: it says on standard error what it could not read or write.
 check_program() {
-    local tray=crates/viewer/stdin
+    local pipe tray=crates/viewer/stdin
     "$program" < "$tray" > "$out/program.out" 2> "$out/program.error"
     [ ! -s "$out/program.error" ] || fail "the program speaks on standard error"
     "$program" < host > "$out/program.out" 2> "$out/program.error" # a folder
@@ -143,6 +163,10 @@ check_program() {
     says "cannot write all of standard output"
     "$program" < "$tray" > /dev/full 2> "$out/program.error"
     says "cannot write all of standard output"
+    for pipe in full closed; do
+        into_pipe $pipe "$tray" || fail "the program into a $pipe pipe: $(cat "$out/program.error")"
+        says "cannot write all of standard output"
+    done
     echo "ok: the program says what it cannot read or write"
 }
 

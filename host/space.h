@@ -160,9 +160,9 @@ void space_empty(uint32_t space[SPACE_WORDS]);
  * read.
  * On words made in any other way all of this holds too, with the answers that the rules give for the tables which
  * those words are read as: counts above the limits are read as the limits, a party, a mask and readers modulo 256, a
- * slot modulo 8. What does not hold there is what follows from a history of frames: that no number is given out
- * twice, that entries stand by number (found has the first available row), that no look-up waits while an entry is
- * available to it, and the like. */
+ * slot modulo 8, a waiting look-up's operation that is not 2 to 5 as 2. What does not hold there is what follows from a
+ * history of frames: that no number is given out twice, that entries stand by number (found has the first available
+ * row), that no look-up waits while an entry is available to it, and the like. */
 uint64_t space_step(uint32_t space[SPACE_WORDS], const uint8_t *frame, size_t frame_len,
                     uint8_t *answers, size_t answers_len);
 

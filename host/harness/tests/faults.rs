@@ -9,7 +9,7 @@ use reference::tray::{judge, run};
 use tray::text::parse;
 
 /// The mistakes that document 01 tells of students, and what its contracts exclude; then smaller ones; then the order
-/// that document 02 fixes.
+/// that document 02 fixes; then one that only some areas show.
 const LEASE_STOPS_UNDER_A_TAKE_HOLD: u8 = 0;
 const OWN_READ_BARS_OWN_TAKE: u8 = 1;
 const NOTHING_BEFORE_SERVICE: u8 = 2;
@@ -23,6 +23,7 @@ const RECORD_COUNT_INVENTED: u8 = 9;
 const LAST_NUMBER_GIVEN_OUT: u8 = 10;
 const NEWEST_FIRST_AT_ONCE: u8 = 11;
 const NEWEST_FIRST_IN_SERVICE: u8 = 12;
+const LONGER_AREA_TOUCHED: u8 = 13;
 
 /// The reference with a fault.
 #[derive(Clone, PartialEq)]
@@ -64,6 +65,7 @@ impl<const FAULT: u8> Wrong<FAULT> {
             BYTE_BEHIND_THE_LAST_RECORD if end < area.len() => area[end] = !area[end],
             REFUSED_FRAME_COUNTS if returned == 1 + 65536 * 7 => self.0.next_entry += 1,
             LAST_NUMBER_GIVEN_OUT if self.0.next_entry == FOREVER => self.0.next_entry -= 1,
+            LONGER_AREA_TOUCHED if area.len() > STEP => area[STEP] = !area[STEP],
             _ => {}
         }
         returned
@@ -192,4 +194,22 @@ fn a_beginning_that_no_text_has_is_told() {
     let frames = frames_of(&discrepancy);
     assert!(!frames.is_empty() && replay::<Wrong<LAST_NUMBER_GIVEN_OUT>>(Beginning::EMPTY, &frames).is_ok());
     assert!(discrepancy.to_string().contains("\n# This text does not say: the history begins at clock "));
+}
+
+/// Nor an area: the frames are shortened all the same, and a comment tells the last one's.
+#[test]
+fn an_area_that_no_text_has_is_told() {
+    let discrepancy = found::<LONGER_AREA_TOUCHED>(false);
+    assert_eq!(frames_of(&discrepancy).len(), 1, "{discrepancy}");
+    assert!(discrepancy.besides.contains("the last frame gets an answers area of "), "{discrepancy}");
+}
+
+/// Frames that got too small an area have changed nothing, and stand in no text.
+#[test]
+fn frames_refused_with_1_are_left_out() {
+    let mut coverage = Coverage::default();
+    let all = (1..80).filter_map(|seed| compare::<Wrong<READ_HOLD_NOT_IN_THE_TABLE>>(seed, &mut coverage).err());
+    let all: Vec<Discrepancy> = all.collect();
+    assert!(all.len() > 20, "{} discrepancies", all.len());
+    assert!(all.iter().all(|discrepancy| !discrepancy.besides.contains("answers area")));
 }

@@ -63,11 +63,6 @@ impl Record {
     }
 }
 
-/// The first `count` records of an answers area.
-pub fn records(area: &[u8], count: usize) -> impl Iterator<Item = Record> + '_ {
-    area.chunks_exact(RECORD).take(count).map(Record::read)
-}
-
 /// What a step's records are written to.
 pub struct Answers<'a> {
     area: &'a mut [u8],

@@ -74,7 +74,7 @@ pub fn look_up_kind(operation: u8) -> LookUpKind {
 }
 
 /// The length of a frame of this operation; none if the operation is not 1-9.
-pub fn length_of(operation: u8) -> Option<usize> {
+fn length_of(operation: u8) -> Option<usize> {
     match operation {
         1..=5 => Some(28),
         6 => Some(12),

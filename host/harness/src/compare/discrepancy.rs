@@ -1,7 +1,8 @@
 //! A discrepancy, as a text that can be run.
 
-use super::pair::replay;
+use super::pair::replay_to;
 use crate::subject::{Beginning, Subject};
+use reference::answer::STEP;
 use reference::tray::judge;
 use std::fmt;
 use tray::bytes::{show_all, show_tray};
@@ -18,27 +19,30 @@ pub struct Discrepancy {
 impl Discrepancy {
     /// Of a history, whose last frame got an answers area of this length.
     pub fn of_frames<S: Subject>(at: Beginning, frames: &[Vec<u8>], length: usize, why: String) -> Discrepancy {
-        let Some((why, fewer)) = shortened::<S>(at, frames) else {
-            let besides = format!("{}the last frame gets an answers area of {length} bytes", before(at));
-            return Discrepancy { why, besides, text: show_all(frames.iter().map(Vec::as_slice)) };
-        };
-        Discrepancy { why, besides: before(at), text: show_all(fewer.iter().map(Vec::as_slice)) }
+        for begin in [Beginning::EMPTY, at] {
+            if let Some((why, fewer)) = shortened::<S>(begin, frames, STEP) {
+                return Discrepancy { why, besides: before(begin), text: shown(&fewer) };
+            }
+        }
+        let (why, fewer) = shortened::<S>(at, frames, length).unwrap_or((why, frames.to_vec()));
+        let besides = format!("{}the last frame gets an answers area of {length} bytes", before(at));
+        Discrepancy { why, besides, text: shown(&fewer) }
     }
 
     /// Of a tray, run with an answers area of this length.
     pub fn of_tray<S: Subject>(tray: &[u8], length: usize, why: String) -> Discrepancy {
         let frames = judge(tray).unwrap_or_default();
         let frames: Vec<Vec<u8>> = frames.into_iter().map(|frame| tray[frame].to_vec()).collect();
-        match shortened::<S>(Beginning::EMPTY, &frames) {
-            Some((why, fewer)) => {
-                Discrepancy { why, besides: String::new(), text: show_all(fewer.iter().map(Vec::as_slice)) }
-            }
-            None => {
-                let besides = format!("run as a whole tray, with an answers area of {length} bytes");
-                Discrepancy { why, besides, text: show_tray(tray) }
-            }
+        if let Some((why, fewer)) = shortened::<S>(Beginning::EMPTY, &frames, STEP) {
+            return Discrepancy { why, besides: String::new(), text: shown(&fewer) };
         }
+        let besides = format!("run as a whole tray, with an answers area of {length} bytes");
+        Discrepancy { why, besides, text: show_tray(tray) }
     }
+}
+
+fn shown(frames: &[Vec<u8>]) -> String {
+    show_all(frames.iter().map(Vec::as_slice))
 }
 
 fn before(at: Beginning) -> String {
@@ -49,9 +53,10 @@ fn before(at: Beginning) -> String {
     format!("the history begins at clock {clock}, next entry {next_entry}, next transaction {next_transaction}; ")
 }
 
-/// Fewer frames, each of them needed, that show a discrepancy; none if these frames show none.
-fn shortened<S: Subject>(at: Beginning, frames: &[Vec<u8>]) -> Option<(String, Vec<Vec<u8>>)> {
-    let mut why = replay::<S>(at, frames).err()?;
+/// Fewer frames, each of them needed, that show a discrepancy, if the last gets an answers area of this length; none if
+/// these frames show none.
+fn shortened<S: Subject>(at: Beginning, frames: &[Vec<u8>], length: usize) -> Option<(String, Vec<Vec<u8>>)> {
+    let mut why = replay_to::<S>(at, frames, length).err()?;
     let mut frames = frames.to_vec();
     let mut chunk = frames.len();
     while chunk > 0 {
@@ -60,7 +65,7 @@ fn shortened<S: Subject>(at: Beginning, frames: &[Vec<u8>]) -> Option<(String, V
         while begin < frames.len() {
             let mut fewer = frames.clone();
             fewer.drain(begin..frames.len().min(begin + chunk));
-            match replay::<S>(at, &fewer) {
+            match replay_to::<S>(at, &fewer, length) {
                 Err(shorter) => (why, frames) = (shorter, fewer),
                 Ok(()) => begin += chunk,
             }

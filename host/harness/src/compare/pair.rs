@@ -86,10 +86,16 @@ fn in_order(space: &Space) -> Space {
 
 /// Leads both through these frames, each with an answers area of 700 bytes; what differs first.
 pub fn replay<S: Subject>(at: Beginning, frames: &[Vec<u8>]) -> Result<(), String> {
+    replay_to::<S>(at, frames, STEP)
+}
+
+/// The same, but the last frame gets an answers area of this length.
+pub fn replay_to<S: Subject>(at: Beginning, frames: &[Vec<u8>], length: usize) -> Result<(), String> {
     let mut random = Random::new(0);
     let mut pair = Pair::<S>::begin(at)?;
     for (place, frame) in frames.iter().enumerate() {
-        let area = Buffer::new(&mut random, STEP);
+        let last = place + 1 == frames.len();
+        let area = Buffer::new(&mut random, if last { length } else { STEP });
         pair.step(frame, area).map_err(|why| format!("frame {}: {why}", place + 1))?;
     }
     pair.finish()

@@ -27,10 +27,11 @@ pub fn by_frames<S: Subject>(generator: &mut Generator, coverage: &mut Coverage)
         let frame = &frames[frames.len() - 1];
         let (answered, number) =
             pair.step(frame, area).map_err(|why| Discrepancy::of_frames::<S>(at, &frames, length, why))?;
+        coverage.step(&before, frame, &answered, &pair.space);
         if answered.is_empty() {
             coverage.number(number);
+            frames.pop(); // refused with 1: a text has no areas, and without the frame the history is the same
         }
-        coverage.step(&before, frame, &answered, &pair.space);
     }
     coverage.histories += 1;
     pair.finish().map_err(|why| Discrepancy::of_frames::<S>(at, &frames, STEP, why))
