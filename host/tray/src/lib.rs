@@ -16,6 +16,7 @@ pub mod panes;
 pub mod prose;
 pub mod record;
 pub mod run;
+pub mod tell;
 pub mod text;
 pub mod typed;
 pub mod words;

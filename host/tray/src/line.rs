@@ -91,14 +91,12 @@ impl<'a> Line<'a> {
     }
 
     pub fn number<N: std::str::FromStr>(&mut self, what: &str) -> Result<N, Fault> {
-        let number = self.peek().and_then(|word| word.parse().ok());
-        let number = number.ok_or_else(|| self.expected(what))?;
-        self.next += 1;
-        Ok(number)
+        self.number_if_any().ok_or_else(|| self.expected(what))
     }
 
-    pub fn number_if_any(&mut self) -> Option<u32> {
-        let number = self.peek()?.parse().ok()?;
+    pub fn number_if_any<N: std::str::FromStr>(&mut self) -> Option<N> {
+        let digits = self.peek().filter(|word| word.bytes().all(|byte| byte.is_ascii_digit()))?;
+        let number = digits.parse().ok()?;
         self.next += 1;
         Some(number)
     }

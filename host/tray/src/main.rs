@@ -3,8 +3,9 @@
 use std::io::{IsTerminal, Read, Write};
 use std::process::ExitCode;
 use tray::explore::analysis::analyse;
-use tray::explore::{report, Bounds};
+use tray::explore::{report, Bounds, Explored};
 use tray::line::Fault;
+use tray::tell::tell;
 use tray::typed::{self, Typed};
 use tray::{bytes, draw, history, panes, run, text};
 
@@ -121,6 +122,9 @@ impl Arguments {
         let mut arguments = Arguments { verb, flags: Vec::new(), values: Vec::new(), files: Vec::new() };
         let mut words = words.iter();
         while let Some(word) = words.next() {
+            if arguments.has(word) {
+                return Err(Failed::usage(format!("expected {word} only once")));
+            }
             if verb.values.contains(&word.as_str()) {
                 let value = words.next().ok_or_else(|| Failed::usage(format!("expected a value behind {word}")))?;
                 arguments.values.push((word.clone(), value.clone()));
@@ -133,6 +137,10 @@ impl Arguments {
             }
         }
         Ok(arguments)
+    }
+
+    fn has(&self, option: &str) -> bool {
+        self.flag(option) || self.value(option).is_some()
     }
 
     fn flag(&self, name: &str) -> bool {
@@ -170,7 +178,13 @@ impl Arguments {
 
     fn text(&self) -> Result<String, Failed> {
         let file = self.file()?;
-        String::from_utf8(self.bytes()?).map_err(|_| Failed::usage(format!("{file}: expected a text in UTF-8")))
+        let text = String::from_utf8(self.bytes()?);
+        let text = text.map_err(|_| Failed::usage(format!("{file}: expected a text in UTF-8")))?;
+        // Some editors put a mark of the byte order before the text.
+        Ok(match text.strip_prefix('\u{feff}') {
+            Some(rest) => rest.to_string(),
+            None => text,
+        })
     }
 
     /// The file's text, its tray, and the file's name.
@@ -187,7 +201,14 @@ fn print(bytes: &[u8]) -> Result<(), Failed> {
     out.write_all(bytes).and_then(|()| out.flush()).map_err(|error| Failed::io("standard output", error))
 }
 
+fn complain(why: &str) {
+    tell(&format!("tray: {why}"));
+}
+
 fn run_verb(arguments: &Arguments) -> Ended {
+    if arguments.flag("--raw") && arguments.flag("--state") {
+        return Err(Failed::usage("expected --state or --raw, found both"));
+    }
     let (text, tray) = arguments.tray()?;
     let outcome = history::run(&text, &tray);
     let printed = match arguments.flag("--raw") {
@@ -197,7 +218,7 @@ fn run_verb(arguments: &Arguments) -> Ended {
     print(printed.as_bytes())?;
     let failures = run::failures(&outcome.history);
     for failure in &failures {
-        eprintln!("tray: {}", Fault::new(failure.line, &failure.why).in_file(arguments.file()?));
+        complain(&Fault::new(failure.line, &failure.why).in_file(arguments.file()?));
     }
     Ok(match outcome.done.number {
         0 if failures.is_empty() => Status::Done,
@@ -220,11 +241,7 @@ fn draw_verb(arguments: &Arguments) -> Ended {
         let why = format!("{file}: the tray is {}", tray::prose::refusal_words(outcome.done.number));
         return Err(Failed { status: Status::TrayRefused, why });
     }
-    let drawn = match to.rsplit('.').next() {
-        Some("html") => draw::page::page(&outcome.history, &file_name(file)),
-        Some("svg") => draw::svg_file(&outcome.history, width),
-        _ => return Err(Failed::usage(format!("expected a file that ends with .html or .svg, found `{to}`"))),
-    };
+    let drawn = draw::for_file(to, &outcome.history, &file_name(file), width).map_err(Failed::usage)?;
     write(to, drawn.as_bytes())?;
     Ok(if outcome.done.number == 0 { Status::Done } else { Status::TrayRefused })
 }
@@ -235,9 +252,7 @@ fn file_name(file: &str) -> String {
     stem.map_or(file.to_string(), |stem| stem.to_string_lossy().into_owned())
 }
 
-fn explore_verb(arguments: &Arguments) -> Ended {
-    let file = arguments.file()?;
-    let mut script = panes::parse(&arguments.text()?).map_err(|fault| Failed::text(file, &fault))?;
+fn bounds(arguments: &Arguments) -> Result<Bounds, Failed> {
     let mut bounds = Bounds::default();
     if let Some(situations) = arguments.number("--situations")? {
         bounds.situations = situations;
@@ -245,6 +260,13 @@ fn explore_verb(arguments: &Arguments) -> Ended {
     if let Some(memory) = arguments.number::<usize>("--memory")? {
         bounds.memory = memory.saturating_mul(1 << 20);
     }
+    Ok(bounds)
+}
+
+/// The script, as the options change it.
+fn script(arguments: &Arguments) -> Result<panes::Script, Failed> {
+    let file = arguments.file()?;
+    let mut script = panes::parse(&arguments.text()?).map_err(|fault| Failed::text(file, &fault))?;
     if let Some(ticks) = arguments.number("--ticks")? {
         script.ticks = ticks;
     }
@@ -255,18 +277,37 @@ fn explore_verb(arguments: &Arguments) -> Ended {
             .ok_or_else(|| Failed::usage(format!("{file}: expected a claim from 1 to {claims}, found {claim}")))?;
         script.claims = vec![script.claims.swap_remove(place)];
     }
+    Ok(script)
+}
+
+/// The file for the report. What cannot be written is told before a long run, not after it.
+fn report_file(arguments: &Arguments) -> Result<Option<&str>, Failed> {
+    let Some(to) = arguments.value("-o") else { return Ok(None) };
+    if !to.ends_with(".html") {
+        return Err(Failed::usage(format!("expected a file that ends with .html, found `{to}`")));
+    }
+    let opened = std::fs::OpenOptions::new().append(true).create(true).open(to);
+    opened.map(|_| Some(to)).map_err(|error| Failed::io(to, error))
+}
+
+fn tell_speed(explored: &Explored) {
+    let (steps, seconds) = (explored.store.edges.len(), explored.elapsed.as_secs_f64());
+    let memory = report::peak_memory().map_or(String::new(), |memory| format!(", {memory} MB at most"));
+    tell(&format!("{steps} steps in {seconds:.2} s, {:.0} a second{memory}", steps as f64 / seconds));
+}
+
+fn explore_verb(arguments: &Arguments) -> Ended {
+    let (script, bounds) = (script(arguments)?, bounds(arguments)?);
+    let to = report_file(arguments)?;
     let analysis = analyse(&script, bounds);
-    if let Some(to) = arguments.value("-o") {
+    if let Some(to) = to {
         write(to, draw::report::report(&script, &analysis, bounds).as_bytes())?;
     }
     print(report::words(&script, &analysis).as_bytes())?;
-    let steps = analysis.explored.store.edges.len();
-    let speed = steps as f64 / analysis.explored.elapsed.as_secs_f64();
-    let memory = report::peak_memory().map_or(String::new(), |memory| format!(", {memory} MB at most"));
-    eprintln!("{steps} steps in {:.2} s, {speed:.0} a second{memory}", analysis.explored.elapsed.as_secs_f64());
+    tell_speed(&analysis.explored);
     let failures = report::failures(&script, &analysis);
     for (line, why) in &failures {
-        eprintln!("tray: {}", Fault::new(*line, why).in_file(file));
+        complain(&Fault::new(*line, why).in_file(arguments.file()?));
     }
     Ok(if failures.is_empty() { Status::Done } else { Status::NotAsExpected })
 }
@@ -325,12 +366,11 @@ fn dispatch(words: &[String]) -> Ended {
 }
 
 fn main() -> ExitCode {
-    let words: Vec<String> = std::env::args().skip(1).collect();
-    match dispatch(&words) {
-        Ok(status) => ExitCode::from(status as u8),
-        Err(Failed { status, why }) => {
-            eprintln!("tray: {why}");
-            ExitCode::from(status as u8)
-        }
-    }
+    let words: Result<Vec<String>, _> = std::env::args_os().skip(1).map(|word| word.into_string()).collect();
+    let words = words.map_err(|word| Failed::usage(format!("expected words in UTF-8, found {word:?}")));
+    let status = words.and_then(|words| dispatch(&words)).unwrap_or_else(|Failed { status, why }| {
+        complain(&why);
+        status
+    });
+    ExitCode::from(status as u8)
 }

@@ -1,10 +1,10 @@
 //! Panes as small scripts: starting frames, what each pane sends and does after its answers, ticks, claims.
 
 use crate::claim::{self, Claim};
-use crate::frame::Request;
+use crate::frame::{Class, Request};
 use crate::line::{Fault, Line};
 use crate::record::{EXCEPTION, FOUND, NOTHING, REFUSED};
-use crate::text::{expectation, frame_line, head, Asked};
+use crate::text::{expectation, frame_line, head, raw_frame, Asked};
 
 /// Parties are 1 to 16, and a pane is a party.
 pub const MOST_PANES: usize = 16;
@@ -30,7 +30,10 @@ pub type Reactions = [Option<Action>; EVENTS.len()];
 #[derive(Clone, Debug)]
 pub struct Sent {
     pub label: Option<String>,
-    pub request: Request,
+    /// With the transaction's number left out, if it is given by a name.
+    pub frame: Vec<u8>,
+    /// What it asks for; none of bytes that no request gives.
+    pub request: Option<Request>,
     /// The name of the transaction it is inside, or ends: its place in the pane's names.
     pub inside: Option<usize>,
     /// The name that a created transaction gets.
@@ -116,6 +119,19 @@ fn place_of(names: &mut Vec<String>, name: &str) -> usize {
     })
 }
 
+/// A pane's frame, with the name of its transaction if that is given by one.
+fn sent_frame(line: &mut Line, party: u8) -> Result<(Vec<u8>, Option<String>), Fault> {
+    if line.peek() != Some("bytes") {
+        let (request, inside) = line.request(party)?;
+        return Ok((request.frame(), inside));
+    }
+    let frame = raw_frame(line, &["after", "then"])?;
+    if Request::of(&frame).is_some_and(|request| request.operation.class == Class::Tick) {
+        return Err(Fault::new(line.number, "expected a frame that is no tick: `ticks at most N` is for these"));
+    }
+    Ok((frame, None))
+}
+
 impl Parser {
     fn pane(&mut self, line: &mut Line) -> Result<(), Fault> {
         line.want("pane")?;
@@ -169,8 +185,9 @@ impl Parser {
             line.word("a label")?;
         }
         let begin = line.rest();
-        let (request, inside) = line.request(self.script.panes[place].party)?;
-        let creates = request.operation.class == crate::frame::Class::Create;
+        let (frame, inside) = sent_frame(line, self.script.panes[place].party)?;
+        let request = Request::of(&frame);
+        let creates = request.is_some_and(|request| request.operation.class == Class::Create);
         let named = if creates && line.passes("as") { Some(name(line, "a name for it")?) } else { None };
         let text = begin.strip_suffix(&line.rest()).unwrap_or(&begin).trim().to_string();
         let at = self.script.panes[place].sent.len();
@@ -186,7 +203,7 @@ impl Parser {
         }
         let inside = inside.map(|name| place_of(&mut pane.names, &name));
         let names = named.map(|name| place_of(&mut pane.names, &name));
-        pane.sent.push(Sent { label, request, inside, names, reactions, then, text, line: line.number });
+        pane.sent.push(Sent { label, frame, request, inside, names, reactions, then, text, line: line.number });
         Ok(())
     }
 

@@ -112,10 +112,14 @@ pub fn head(text: &str) -> (String, String) {
     }
 }
 
-fn raw_frame(line: &mut Line) -> Result<Vec<u8>, Fault> {
+/// `bytes 01 02 ff`, up to the end of the line or one of these words.
+pub fn raw_frame(line: &mut Line, until: &[&str]) -> Result<Vec<u8>, Fault> {
+    line.want("bytes")?;
     let mut frame = Vec::new();
-    while let Some(word) = line.peek() {
-        let byte = u8::from_str_radix(word, 16).map_err(|_| line.expected("a byte in base 16"))?;
+    while let Some(word) = line.peek().filter(|word| !until.contains(word)) {
+        let digits = word.chars().all(|digit| digit.is_ascii_hexdigit());
+        let byte = u8::from_str_radix(word, 16).ok().filter(|_| digits);
+        let byte = byte.ok_or_else(|| line.expected("a byte in base 16"))?;
         line.word("a byte")?;
         frame.push(byte);
     }
@@ -138,10 +142,7 @@ pub fn frame_line(line: &mut Line) -> Result<Option<Vec<u8>>, Fault> {
             line.want("tick")?;
             tick_frame()
         }
-        Some("bytes") => {
-            line.want("bytes")?;
-            raw_frame(line)?
-        }
+        Some("bytes") => raw_frame(line, &[])?,
         _ => return Ok(None),
     }))
 }

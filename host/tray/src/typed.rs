@@ -6,6 +6,7 @@ use crate::line::{Fault, Line};
 use crate::oracle::Matcher;
 use crate::prose::state_lines;
 use crate::run::step_words;
+use crate::tell::tell;
 use crate::text::{expectation, frame_line, Asked};
 use std::io::{BufRead, Write};
 
@@ -81,11 +82,12 @@ impl Typed {
         }
     }
 
-    /// The frames and expectations as a text.
+    /// The frames with their remarks and expectations, as a text.
     pub fn text(&self) -> String {
         let mut text = String::new();
         for asked in &self.frames {
-            text += &format!("{}\n", asked.text);
+            let remark = if asked.remark.is_empty() { String::new() } else { format!("  # {}", asked.remark) };
+            text += &format!("{}{remark}\n", asked.text);
             text.extend(asked.expectations.iter().map(|expected| format!("expect {}\n", expected.text)));
         }
         text
@@ -99,14 +101,11 @@ impl Typed {
     }
 
     fn draw(&self, file: &str) -> Reply {
-        let drawn = match file.rsplit('.').next() {
-            Some("html") => draw::page::page(&self.history(), "try"),
-            Some("svg") => draw::svg_file(&self.history(), draw::default_width()),
-            _ => return Reply::Wrong(format!("expected a file that ends with .html or .svg, found `{file}`")),
-        };
-        match std::fs::write(file, drawn) {
-            Ok(()) => Reply::Say(format!("drawn in {file}\n")),
-            Err(error) => cannot(file, error),
+        let drawn = draw::for_file(file, &self.history(), "try", draw::default_width());
+        match drawn.map(|drawn| std::fs::write(file, drawn)) {
+            Ok(Ok(())) => Reply::Say(format!("drawn in {file}\n")),
+            Ok(Err(error)) => cannot(file, error),
+            Err(why) => Reply::Wrong(why),
         }
     }
 
@@ -140,15 +139,15 @@ impl Typed {
     }
 
     fn answer(&mut self, line: &mut Line) -> Result<Reply, Fault> {
-        let alone = |line: &Line| line.clone().word("").is_ok() && line.text.split_whitespace().count() == 1;
+        let alone = line.text.split_whitespace().count() == 1;
         Ok(match line.peek() {
             None => Reply::Say(String::new()),
-            Some("undo") if alone(line) => self.undo(),
-            Some("redo") if alone(line) => self.redo(),
-            Some("state") if alone(line) => Reply::Say(self.state()),
-            Some("history") if alone(line) => Reply::Say(self.tell()),
-            Some("help") if alone(line) => Reply::Say(HELP.to_string()),
-            Some("quit") if alone(line) => Reply::Quit,
+            Some("undo") if alone => self.undo(),
+            Some("redo") if alone => self.redo(),
+            Some("state") if alone => Reply::Say(self.state()),
+            Some("history") if alone => Reply::Say(self.tell()),
+            Some("help") if alone => Reply::Say(HELP.to_string()),
+            Some("quit") if alone => Reply::Quit,
             Some("save") => self.save(Typed::file(line)?),
             Some("draw") => self.draw(Typed::file(line)?),
             Some("expect") => self.expect(line)?,
@@ -169,7 +168,7 @@ pub fn talk(typed: &mut Typed, input: impl BufRead, output: &mut impl Write, sig
     for line in input.lines() {
         match typed.line(&line?) {
             Reply::Say(text) => write!(output, "{text}")?,
-            Reply::Wrong(why) => eprintln!("{why}"),
+            Reply::Wrong(why) => tell(&why),
             Reply::Quit => return Ok(()),
         }
         write!(output, "{sign}")?;

@@ -6,19 +6,20 @@ use std::collections::{BTreeMap, BTreeSet};
 use tray::draw::lives::{entries_by_slot, slots};
 use tray::draw::{page, svg_file};
 use tray::history::{run, History};
-use tray::record::{kind_of, Record, FOUND, NOTHING, TICKED, WAITING, WRITTEN};
+use tray::oracle::Matcher;
+use tray::record::{kind_of, FOUND, NOTHING, TICKED, WAITING, WRITTEN};
 use tray::text;
-use tray::words::{Entry, Tables};
+use tray::words::Entry;
 
-const ONE_ROW: f64 = 1e9;
-const SLOT: f64 = 27.0;
+pub const ONE_ROW: f64 = 1e9;
+pub const SLOT: f64 = 27.0;
 
-fn history(text: &str) -> History {
+pub fn history(text: &str) -> History {
     let text = text::parse(text).unwrap();
     run(&text, &text.tray().unwrap()).history
 }
 
-fn histories() -> Vec<History> {
+pub fn histories() -> Vec<History> {
     let examples = files("examples", ".txt");
     let mut texts: Vec<String> = examples.iter().map(|file| std::fs::read_to_string(file).unwrap()).collect();
     texts.extend((1..40).map(|seed| random_text(seed, 10 + 2 * seed as usize)));
@@ -28,13 +29,13 @@ fn histories() -> Vec<History> {
     histories.filter(|history| !history.steps.is_empty() && history.steps.len() < 300).collect()
 }
 
-fn svg(history: &History, room: f64) -> Element {
+pub fn svg(history: &History, room: f64) -> Element {
     let text = svg_file(history, room);
     parse_xml(&text).unwrap_or_else(|why| panic!("{}: {why}", history.title))
 }
 
 /// "3.1": frame 3, slot 1.
-fn moment(text: &str) -> (usize, usize) {
+pub fn moment(text: &str) -> (usize, usize) {
     match text.split_once('.') {
         Some((frame, slot)) => (frame.parse().unwrap(), slot.parse().unwrap()),
         None => (usize::MAX, 0),
@@ -42,7 +43,7 @@ fn moment(text: &str) -> (usize, usize) {
 }
 
 /// Where each frame's column is, read off the ruler.
-fn columns(svg: &Element) -> BTreeMap<usize, f64> {
+pub fn columns(svg: &Element) -> BTreeMap<usize, f64> {
     let mut columns = BTreeMap::new();
     for pill in svg.with_class("column") {
         let rect = pill.child("rect");
@@ -54,7 +55,7 @@ fn columns(svg: &Element) -> BTreeMap<usize, f64> {
     columns
 }
 
-fn near(a: f64, b: f64) -> bool {
+pub fn near(a: f64, b: f64) -> bool {
     (a - b).abs() < 0.2
 }
 
@@ -149,7 +150,7 @@ fn marks_are_the_records() {
     }
 }
 
-fn hold(entry: &Entry) -> &'static str {
+pub fn hold(entry: &Entry) -> &'static str {
     match entry {
         Entry { taken_by, .. } if *taken_by != 0 => "taken",
         Entry { private_to, .. } if *private_to != 0 => "private",
@@ -159,102 +160,50 @@ fn hold(entry: &Entry) -> &'static str {
 }
 
 /// Bars whose span has this moment in it.
-fn at<'a>(bars: &[&'a Element], now: (usize, usize)) -> Vec<&'a Element> {
+pub fn at<'a>(bars: &[&'a Element], now: (usize, usize)) -> Vec<&'a Element> {
     let covers = |bar: &&Element| moment(bar.get("data-from")) <= now && now < moment(bar.get("data-to"));
     bars.iter().copied().filter(covers).collect()
 }
 
-/// After every frame the bars are the tables: entries by how they are held, transactions, waiting look-ups.
-#[test]
-fn bars_are_the_tables() {
-    for history in histories() {
-        let drawn = svg(&history, ONE_ROW);
-        let (entries, transactions, waits) =
-            (drawn.with_class("entry"), drawn.with_class("transaction"), drawn.with_class("wait"));
-        for (place, step) in history.steps.iter().enumerate() {
-            let now = (place + 1, slots(step).into_iter().max().unwrap_or(0));
-            let Tables { entries: stored, transactions: live, look_ups, .. } = &step.after;
-            let mut shown: Vec<(u32, String)> = Vec::new();
-            for bar in at(&entries, now) {
-                // Of a run of equal writes only those that have been written by now.
-                for number in bar.number("data-entry") as u32..=bar.number("data-last") as u32 {
-                    if number < step.after.next_entry {
-                        shown.push((number, bar.get("class").replace("entry ", "")));
-                    }
-                }
-            }
-            shown.sort();
-            let wanted: Vec<(u32, String)> = stored.iter().map(|e| (e.number, hold(e).to_string())).collect();
-            assert_eq!(shown, wanted, "{} after frame {}", history.title, place + 1);
-            let shown: BTreeSet<u32> =
-                at(&transactions, now).iter().map(|b| b.number("data-transaction") as u32).collect();
-            assert_eq!(shown, live.iter().map(|t| t.number).collect(), "{} after frame {}", history.title, place + 1);
-            let shown: BTreeSet<u8> = at(&waits, now).iter().map(|b| b.number("data-party") as u8).collect();
-            assert_eq!(
-                shown,
-                look_ups.iter().map(|l| l.party).collect(),
-                "{} after frame {}",
-                history.title,
-                place + 1
-            );
-        }
-    }
-}
-
-/// Every bar begins and ends where its moments are.
-#[test]
-fn bars_reach_from_moment_to_moment() {
-    for history in histories() {
-        let drawn = svg(&history, ONE_ROW);
-        let columns = columns(&drawn);
-        let x = |(frame, slot): (usize, usize)| columns.get(&frame).map(|x| x + SLOT * slot as f64);
-        let mut checked = 0;
-        for bar in drawn.with_class("entry").iter().chain(&drawn.with_class("transaction")) {
-            let rect = bar.child("rect");
-            let (left, right) = (rect.number("x"), rect.number("x") + rect.number("width"));
-            assert!(near(left, x(moment(bar.get("data-from"))).unwrap()), "{}", history.title);
-            if let Some(end) = x(moment(bar.get("data-to"))) {
-                assert!(near(right, end), "{}", history.title);
-                checked += 1;
-            }
-        }
-        for wait in drawn.with_class("wait") {
-            let line = wait.child("line");
-            assert!(near(line.number("x1"), x(moment(wait.get("data-from"))).unwrap()), "{}", history.title);
-            if let Some(end) = x(moment(wait.get("data-to"))) {
-                assert!(near(line.number("x2"), end), "{}", history.title);
-                checked += 1;
-            }
-        }
-        let ended = history.steps.iter().flat_map(|step| &step.records).any(|r| r.kind == tray::record::COMMITTED);
-        assert!(!ended || checked > 0, "{}", history.title);
-    }
-}
-
-/// What is handed out, written or barred has its line; what nothing matches has none.
+/// What is handed out or written has its line, and so has each matching entry that is not handed out; nothing else has.
 #[test]
 fn connectors() {
+    let (mut matcher, mut barred) = (Matcher::default(), 0);
     for history in histories() {
         let drawn = svg(&history, ONE_ROW);
-        let pairs = |class: &str| -> BTreeSet<(usize, u32)> {
-            let lines = drawn.with_class(class).into_iter();
-            lines.map(|line| (line.number("data-frame") as usize, line.number("data-entry") as u32)).collect()
+        let bars = drawn.with_class("entry");
+        // Of entries drawn as one bar the first stands for all.
+        let first_of = |number: u32| {
+            let mut spans = bars.iter().map(|bar| (bar.number("data-entry") as u32, bar.number("data-last") as u32));
+            spans.find(|(first, last)| (*first..=*last).contains(&number)).map_or(number, |(first, _)| first)
         };
-        let of = |kind: u8| -> BTreeSet<(usize, u32)> {
-            let named = |(place, step): (usize, &tray::history::Step)| {
-                let records = step.records.iter().filter(|record| record.kind == kind);
-                records.map(|record| (place + 1, record.entry)).collect::<Vec<_>>()
-            };
-            history.steps.iter().enumerate().flat_map(named).collect()
-        };
-        assert_eq!(pairs("handed"), of(FOUND), "{}", history.title);
-        assert!(pairs("wrote").is_subset(&of(WRITTEN)), "{}", history.title);
-        let unanswered = |record: &Record| matches!(record.kind, NOTHING | WAITING);
-        for (frame, entry) in pairs("barred") {
+        let mut wanted: BTreeSet<(&str, usize, u32)> = BTreeSet::new();
+        for pill in drawn.with_class("column") {
+            let frame = pill.number("data-frame") as usize;
             let step = &history.steps[frame - 1];
-            assert!(step.records.iter().any(unanswered) && step.after.entry(entry).is_some(), "{}", history.title);
+            for (place, record) in step.records.iter().enumerate() {
+                match record.kind {
+                    WRITTEN => wanted.extend([("wrote", frame, record.entry)]),
+                    FOUND => wanted.extend([("handed", frame, record.entry)]),
+                    NOTHING | WAITING => {
+                        let sought = history.sought(frame - 1, place).unwrap();
+                        let matching = matcher.matching(&sought.template, &step.after);
+                        wanted.extend(matching.iter().map(|entry| ("barred", frame, first_of(entry.number))));
+                    }
+                    _ => {}
+                }
+            }
         }
+        let mut lines = BTreeSet::new();
+        for class in ["wrote", "handed", "barred"] {
+            for line in drawn.with_class(class) {
+                lines.insert((class, line.number("data-frame") as usize, line.number("data-entry") as u32));
+            }
+        }
+        barred += lines.iter().filter(|line| line.0 == "barred").count();
+        assert_eq!(lines, wanted, "{}", history.title);
     }
+    assert!(barred > 50, "{barred}");
 }
 
 /// Labels of the same lane do not run into each other: their boxes, by the same widths, are apart.
@@ -355,6 +304,7 @@ fn the_program_draws() {
     }
     assert_eq!(tray(&["draw", file], "").status, 2);
     assert_eq!(tray(&["draw", file, "-o", "a.png"], "").status, 2);
+    assert_eq!(tray(&["draw", file, "-o", "a.svg", "-o", "a.svg"], "").status, 2);
     assert_eq!(tray(&["draw", file, "-o", "/no/such/folder/a.svg"], "").status, 1);
     assert_eq!(tray(&["draw", "-", "-o", svg.to_str().unwrap()], "frob").status, 2);
     assert_eq!(tray(&["draw", "-", "-o", svg.to_str().unwrap()], "tick\ncount 9").status, 3);

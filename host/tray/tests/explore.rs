@@ -8,7 +8,7 @@ use tray::explore::model::Model;
 use tray::explore::shares::{needed, shares, Answer};
 use tray::explore::situation::Situation;
 use tray::explore::store::TICK;
-use tray::explore::Bounds;
+use tray::explore::{Bounds, Cut};
 use tray::panes::{parse, Script};
 use tray::record::FOUND;
 
@@ -300,6 +300,43 @@ fn waiting_beside_a_pane_that_goes_round() {
         waits("forever")
     );
     assert_eq!(verdicts(&held), [Verdict::Open]);
+    // That is no doubt about the pane that does not wait.
+    let of_a = held.replace("nobody waits", "A never waits");
+    assert_eq!(verdicts(&of_a), [Verdict::Kept]);
+}
+
+/// A claim about the end is kept by the histories that end, and that is said.
+#[test]
+fn the_end_of_what_goes_round() {
+    let text =
+        "pane A party 1\nread any timeout 0 after nothing start over\npane B party 2\nwrite 1 0 0 0 lease forever\n\
+                claim at the end exactly 1 committed entry matches any\n";
+    let out = tray(&["explore", "-"], text).out;
+    assert!(out.contains("KEPT") && out.contains("by all histories that end; some never do"), "{out}");
+}
+
+/// Bytes are sent as they are: refused with a number, answered as what they are, or waiting in another's name.
+#[test]
+fn bytes_of_a_pane() {
+    let text = "pane A party 1\nbytes 01 02 ff after refusal go on\nx: bytes after refusal go on at last\n\
+                write 1 0 0 0 lease forever\nlast: write 2 0 0 0 lease forever\n\
+                pane B party 2\ntake kind 2 timeout forever\nticks at most 1\n\
+                claim A always gets refused 3\nclaim A always gets refused 2 at x\nclaim B never gets refused\n\
+                claim B always gets found\nclaim nobody waits for ever\nclaim at the end no stored entry matches any\n";
+    let (script, analysis) = analysed(text);
+    assert!(analysis.findings.iter().all(|finding| finding.verdict == Verdict::Kept));
+    // Four frames of A's and B's and a tick: 5! / 3!.
+    assert_eq!(analysis.histories.as_ref().unwrap().to_string(), "20");
+    let refused = shares(&script, &analysis).unwrap();
+    assert_eq!(refused[&(0, 0)].keys().collect::<Vec<_>>(), [&Answer::Refused(3)]);
+    // A take of any, with timeout 1: of its own party it makes the pane wait, of another's not.
+    let take = |party: u8| format!("bytes 03 0{party} 00 00 00 00 00 00 01 00 00 00{}", " 00".repeat(16));
+    let sends =
+        |party| format!("pane A party 1\n{}\nwrite 1 0 0 0 lease 0\nclaim A always gets written\n", take(party));
+    assert_eq!(verdicts(&sends(1)), [Verdict::Refuted]);
+    assert_eq!(verdicts(&sends(2)), [Verdict::Kept]);
+    let report = scratch("explore").join("bytes.html");
+    assert_eq!(tray(&["explore", "-", "-o", report.to_str().unwrap()], &sends(1)).status, 0);
 }
 
 /// An answer to a look-up of the starting frames moves no pane; and what is expected of them is checked.
@@ -350,6 +387,12 @@ fn bounds_leave_claims_open() {
         assert!(answer.out.contains(&format!("the bound on {word} was reached")), "{}", answer.out);
         assert!(answer.out.contains("histories: not counted"), "{}", answer.out);
     }
+    // As many as there are is no bound.
+    let (_, analysis) = analysed(SIX);
+    let situations = analysis.explored.store.len();
+    let cut = |most: usize| analyse(&parse(SIX).unwrap(), Bounds { situations: most, ..Bounds::default() }).explored;
+    assert!(cut(situations).cut.is_none());
+    assert_eq!((cut(situations - 1).cut, cut(10).store.looked_at()), (Some(Cut::Situations), 10));
 }
 
 #[test]
@@ -384,6 +427,9 @@ fn bad_scripts() {
         ("pane A party 1\ntake any timeout 0 after lunch stop", 2, "an answer (found, nothing, exception, refusal)"),
         ("pane A party 1\ntake any timeout 0 after nothing sleep", 2, "what to do"),
         ("pane A party 1\nx: tick", 2, "an operation"),
+        ("pane A party 1\nbytes 01 0x", 2, "a byte in base 16, found `0x`"),
+        ("pane A party 1\nbytes 01 then sleep", 2, "what to do"),
+        ("pane A party 1\nbytes 09 00 00 00", 2, "a frame that is no tick"),
         ("pane A party 1\nx: take any timeout 0\nx: take any timeout 0", 3, "a label that the pane does not have yet"),
         ("pane A party 1\nrounds 0", 2, "how often"),
         ("rounds 1", 1, "a `pane` before this line"),
@@ -408,4 +454,8 @@ fn bad_scripts() {
     }
     assert_eq!(tray(&["explore", "-", "--ticks", "x"], SIX).status, 2);
     assert_eq!(tray(&["explore", "-", "--memory"], SIX).status, 2);
+    assert_eq!(tray(&["explore", "-", "--ticks", "1", "--ticks", "2"], SIX).status, 2);
+    assert_eq!(tray(&["explore", "-", "-o", "report.svg"], SIX).status, 2);
+    let nowhere = tray(&["explore", "-", "-o", "/no/such/folder/a.html"], SIX);
+    assert_eq!((nowhere.status, nowhere.out.as_str()), (1, ""));
 }

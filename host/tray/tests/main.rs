@@ -1,5 +1,6 @@
 //! The tool's own tests, in one program.
 
+mod bars;
 mod common;
 mod draw;
 mod explore;

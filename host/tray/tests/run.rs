@@ -1,6 +1,10 @@
 //! `tray run`: every example as the program prints it, words, reasons, expectations, bad texts.
 
 use crate::common::{files, random_text, scratch, tray};
+use std::ffi::OsStr;
+use std::fs::File;
+use std::os::unix::ffi::OsStrExt;
+use std::process::{Command, Stdio};
 use tray::boundary::Space;
 use tray::bytes::frames_of;
 use tray::frame::{show, Class, Request};
@@ -155,6 +159,7 @@ fn bad_texts() {
         ("party 1 write 7 1 40 lease 5", 1, "a number for place, found `lease`"),
         ("tick\nparty x create lease 1", 2, "a party's number, 1 to 16, found `x`"),
         ("party 300 create lease 1", 1, "a party's number"),
+        ("party +1 create lease 1", 1, "a party's number, 1 to 16, found `+1`"),
         ("party 1 creat lease 1", 1, "an operation (write, read, take,"),
         ("party 1 tick", 1, "an operation"),
         ("party 1 create lease 4294967296", 1, "a lease (a number of ticks"),
@@ -164,6 +169,7 @@ fn bad_texts() {
         ("party 1 commit T", 1, "a transaction's number, found `T`"),
         ("party 1 commit 1 2", 1, "the end of the line, found `2`"),
         ("bytes 01 1ff", 1, "a byte in base 16, found `1ff`"),
+        ("bytes +1", 1, "a byte in base 16, found `+1`"),
         ("expect nothing", 1, "a frame before `expect`"),
         ("tick\nexpect everything", 2, "an answer (written, found,"),
         ("repeat 2\ntick", 1, "an `end` for this `repeat`"),
@@ -197,7 +203,10 @@ fn bad_texts() {
 
 #[test]
 fn bad_usage_and_files() {
-    for arguments in [&[][..], &["frob"], &["run"], &["run", "a", "b"], &["run", "--frob", "-"], &["show"]] {
+    let both = &["run", "-", "--raw", "--state"];
+    let twice = &["run", "-", "--raw", "--raw"];
+    for arguments in [&[][..], &["frob"], &["run"], &["run", "a", "b"], &["run", "--frob", "-"], &["show"], both, twice]
+    {
         let answer = tray(arguments, "");
         assert_eq!((answer.status, answer.out.as_str()), (2, ""), "{arguments:?}");
         assert!(answer.err.contains("expected"), "{}", answer.err);
@@ -208,6 +217,24 @@ fn bad_usage_and_files() {
     let binary = scratch("run").join("binary");
     std::fs::write(&binary, [0xff, 0xfe]).unwrap();
     assert_eq!(tray(&["run", binary.to_str().unwrap()], "").status, 2);
+    assert_eq!(tray(&["run", "-"], "\u{feff}tick\n").out, tray(&["run", "-"], "tick\n").out);
+}
+
+/// Whatever the words, and wherever the output goes, the program ends with a status of its own.
+#[test]
+fn odd_surroundings() {
+    let run = |arguments: &[&OsStr], out: Stdio, err: Stdio| {
+        let mut program = Command::new(env!("CARGO_BIN_EXE_tray"));
+        program.args(arguments).stdin(Stdio::null()).stdout(out).stderr(err).status().unwrap().code()
+    };
+    let full = || Stdio::from(File::options().write(true).open("/dev/full").unwrap());
+    let (verb, file, odd) =
+        (OsStr::new("run"), OsStr::new("../../examples/sample.txt"), OsStr::from_bytes(&[0xff, 0xfe]));
+    assert_eq!(run(&[verb, odd], Stdio::null(), Stdio::null()), Some(2));
+    assert_eq!(run(&[verb, file], full(), Stdio::null()), Some(1));
+    assert_eq!(run(&[verb, file], full(), full()), Some(1));
+    assert_eq!(run(&[verb, OsStr::new("no/such/file")], Stdio::null(), full()), Some(1));
+    assert_eq!(run(&[OsStr::new("--help")], full(), full()), Some(1));
 }
 
 #[test]

@@ -22,7 +22,8 @@ fn frames_undo_redo_save_draw() {
     // A new frame forgets what was undone; a bad line changes nothing.
     assert!(answer.err.contains("expected a frame to redo") && answer.err.contains("found `frob`"), "{}", answer.err);
     let saved = std::fs::read_to_string(&text).unwrap();
-    let wanted = "party 1 write 7 1 40 9 lease 2\nexpect written 1\nparty 2 read kind 7 timeout 0\nexpect found 1\n";
+    let wanted =
+        "party 1 write 7 1 40 9 lease 2\nexpect written 1\nparty 2 read kind 7 timeout 0  # looks\nexpect found 1\n";
     assert_eq!(saved, wanted);
     assert_eq!(tray(&["run", text.to_str().unwrap()], "").status, 0);
     assert!(crate::xml::parse(&std::fs::read_to_string(&page).unwrap()).is_ok());

@@ -2,7 +2,7 @@
 
 use super::labels::{labels, Labels};
 use super::lives::{EntryLife, Gone, Lives, Mark, Moment, TransactionLife};
-use super::metrics::{bold_width, width, COLUMN, GUTTER, MARK, PAD, SLOT};
+use super::metrics::{bold_width, width, AHEAD, COLUMN, GUTTER, MARK, PAD, SLOT};
 use crate::frame::plain_fields;
 use crate::history::History;
 use crate::oracle::Matcher;
@@ -21,8 +21,13 @@ const APART: f64 = 10.0;
 const CLEAR: f64 = 5.0;
 const MOST_STRETCH: f64 = 1.35;
 const MOST_DIVIDED: usize = 6;
-/// The word beside a tick's number reaches so far.
+/// The word beside a tick's number reaches so far; the clock above it so much farther than its words are wide.
 const TICK_WORD: f64 = 40.0;
+const CLOCK_ROOM: f64 = 12.0;
+/// Before the first column of a row but the first: the names of bars that go on begin there.
+const NAMES_AGAIN: f64 = 20.0;
+/// No label reaches farther to the left of its mark.
+const FARTHEST_LEFT: f64 = 400.0;
 /// A row with more of its width empty than this looks lost.
 const SCANTY: f64 = 0.55;
 
@@ -35,8 +40,10 @@ pub struct Column {
     pub clock: u32,
     /// Of the mark's place in slot 0, from that of the first column.
     pub x: f64,
+    /// As far left as labels of this column reach.
+    left: f64,
     /// As far right as labels of this column and of those before it reach.
-    pub right: f64,
+    right: f64,
 }
 
 /// A mark with its labels, in a line of a lane.
@@ -90,18 +97,16 @@ pub struct Layout {
 #[derive(Clone, Debug)]
 pub struct System {
     pub columns: RangeInclusive<usize>,
-    /// Before the first column, for the names of bars that go on.
+    /// Before the first column, for the names of bars that go on, and labels that end at their marks.
     pub indent: f64,
     pub stretch: f64,
+    /// Behind the last column, for ends that lie ahead.
+    pub ahead: f64,
     pub width: f64,
 }
 
-fn indent(first: usize) -> f64 {
-    if first == 0 {
-        0.0
-    } else {
-        20.0
-    }
+pub fn clock_label(clock: u32) -> String {
+    format!("clock {clock}")
 }
 
 fn quiet_tick(history: &History, lives: &Lives, frame: usize) -> bool {
@@ -154,7 +159,7 @@ fn columns(history: &History, lives: &Lives) -> Vec<Column> {
         let step = &history.steps[last];
         let tick = step.records.first().is_some_and(|record| record.kind == TICKED);
         let (slots, clock) = (lives.slots[frame], step.after.clock);
-        columns.push(Column { frames: frame..=last, tick, slots, clock, x: 0.0, right: 0.0 });
+        columns.push(Column { frames: frame..=last, tick, slots, clock, x: 0.0, left: 0.0, right: 0.0 });
         frame = last + 1;
     }
     columns
@@ -393,6 +398,7 @@ impl Layout {
             }
             let of = &mut self.columns[place];
             of.x = x;
+            of.left = boxes.iter().fold(x, |far, (_, left, _)| far.min(x + left));
             tick = if of.tick { x } else { tick };
             farthest = farthest.max(x + SLOT * (of.slots - 1) as f64 + 12.0);
             for (zone, _, right) in boxes {
@@ -403,7 +409,8 @@ impl Layout {
             let begin = self.bars.iter().filter(|bar| self.column(bar.life.begin) == place);
             reach = begin.fold(reach, |far, bar| far.max(x + bar.name_width()));
             if self.columns[place].tick {
-                reach = reach.max(x + TICK_WORD);
+                let clock = bold_width(&clock_label(self.columns[place].clock));
+                reach = reach.max(x + TICK_WORD).max(x + clock + CLOCK_ROOM);
             }
             self.columns[place].right = reach + 4.0;
         }
@@ -438,8 +445,37 @@ impl Layout {
         (begin - 8.0, end.max(begin + bar.name_width()) + 8.0)
     }
 
+    fn indent(&self, from: usize, to: usize) -> f64 {
+        let begin = self.columns[from].x;
+        let near = self.columns[from..=to].iter().take_while(|column| column.x - begin < FARTHEST_LEFT);
+        let names = if from == 0 { 0.0 } else { NAMES_AGAIN };
+        near.map(|column| begin - column.left - MARK + CLEAR).fold(names, f64::max)
+    }
+
+    /// Ends of leases, and deadlines, that the history does not reach.
+    fn ends_ahead(&self) -> impl Iterator<Item = End> + '_ {
+        let entries = self.lives.entries.iter().filter(|life| life.is_stored() && life.end.is_none());
+        let transactions = self.lives.transactions.iter().filter(|life| life.end.is_none());
+        let waits = self.lives.waits.iter().filter(|wait| wait.end.is_none());
+        let leases = entries.map(|life| life.lease).chain(transactions.map(|life| life.lease));
+        leases.chain(waits.map(|wait| wait.look_up.deadline))
+    }
+
+    /// The room behind a column for what lies ahead: none but behind the last.
+    fn ahead(&self, column: usize) -> f64 {
+        if column + 1 < self.columns.len() {
+            return 0.0;
+        }
+        let width = |end: End| match end {
+            End::At(clock) => AHEAD + width(&clock_label(clock)),
+            End::Never => 0.0,
+        };
+        self.ends_ahead().map(width).fold(0.0, f64::max)
+    }
+
     fn natural_width(&self, from: usize, to: usize) -> f64 {
-        GUTTER + indent(from) + MARK + (self.columns[to].right - self.columns[from].x).max(0.0) + PAD
+        let columns = (self.columns[to].right - self.columns[from].x).max(0.0);
+        GUTTER + self.indent(from, to) + MARK + columns + self.ahead(to) + PAD
     }
 
     /// What it costs to cut before this column: bars divided, and the cut not before a tick.
@@ -493,9 +529,9 @@ impl Layout {
     fn system(&self, from: usize, to: usize, room: f64) -> System {
         let span = self.columns[to].x - self.columns[from].x;
         let tail = self.columns[to].right - self.columns[to].x;
-        let indent = indent(from);
-        let fixed = GUTTER + indent + MARK + tail + PAD;
+        let (indent, ahead) = (self.indent(from, to), self.ahead(to));
+        let fixed = GUTTER + indent + MARK + tail + ahead + PAD;
         let stretch = if span > 0.0 { ((room - fixed) / span).clamp(1.0, MOST_STRETCH) } else { 1.0 };
-        System { columns: from..=to, indent, stretch, width: fixed + span * stretch }
+        System { columns: from..=to, indent, stretch, ahead, width: fixed + span * stretch }
     }
 }

@@ -4,7 +4,7 @@ use super::glyphs;
 use super::hatches;
 use super::lives::Hold;
 use super::metrics::{hue, COMMITTED_FILL, GREY, INK};
-use super::svg::{line, path, rect};
+use super::svg::{line, path, rect, text};
 
 fn sign(width: u32, height: u32, inner: &str) -> String {
     format!("<svg xmlns=\"http://www.w3.org/2000/svg\" class=\"hist\" width=\"{width}\" height=\"{height}\" viewBox=\"0 0 {width} {height}\" aria-hidden=\"true\">{inner}</svg>")
@@ -44,6 +44,10 @@ fn entries() -> String {
     let removed = line(3.0, 4.0, 3.0, 24.0, &ink("1.2")) + &glyphs::cross(13.0, 14.0, 9.0, INK);
     let dotted = format!("stroke=\"{GREY}\" stroke-width=\"1.6\" stroke-dasharray=\"1.5 4\"");
     let lease = line(2.0, 10.0, 50.0, 10.0, &dotted) + &glyphs::hourglass(54.0, 10.0, "#fff", GREY);
+    let ahead = rect(1.0, 2.0, 24.0, 20.0, &format!("fill=\"{COMMITTED_FILL}\""))
+        + &glyphs::chevron(25.0, 12.0, INK)
+        + &glyphs::hourglass(33.0, 12.0, "#fff", GREY)
+        + &text(42.0, 16.0, "dim", "", "clock 9");
     [
         head("Entries, in the space"),
         item(&bar(&Hold::Committed), "committed: all can find it"),
@@ -55,6 +59,7 @@ fn entries() -> String {
         item(&sign(20, 28, &removed), "ends: removed with its transaction"),
         item(&sign(22, 24, &glyphs::never_stored(11.0, 12.0)), "lease 0: never stored"),
         item(&sign(62, 20, &lease), "lease that would have run on"),
+        item(&sign(86, 24, &ahead), "goes on; its lease ends at that clock"),
     ]
     .concat()
 }

@@ -10,6 +10,8 @@ pub const COLUMN: f64 = 62.0;
 pub const RULER: f64 = 44.0;
 pub const BAND: f64 = 21.0;
 pub const LINE: f64 = 13.0;
+/// From the last column's edge to the clock of an end that lies ahead, with its sign between.
+pub const AHEAD: f64 = 17.0;
 
 pub const NARROW: f64 = 852.0;
 pub const WIDE: f64 = 1548.0;

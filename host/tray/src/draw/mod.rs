@@ -90,6 +90,15 @@ pub fn svg_file(history: &History, room: f64) -> String {
     )
 }
 
+/// What a file with this name is to have: a page or a picture, as it ends; or what was expected.
+pub fn for_file(file: &str, history: &History, source: &str, width: f64) -> Result<String, String> {
+    match file.rsplit('.').next() {
+        Some("html") => Ok(page::page(history, source)),
+        Some("svg") => Ok(svg_file(history, width)),
+        _ => Err(format!("expected a file that ends with .html or .svg, found `{file}`")),
+    }
+}
+
 pub fn default_width() -> f64 {
     NARROW
 }

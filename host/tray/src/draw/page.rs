@@ -20,33 +20,57 @@ pub fn html(title: &str, more_css: &str, body: &str) -> String {
     )
 }
 
-/// A line of the tables: what it is of, its short and its full words.
+/// A line of the tables: what it is of, how that is held in short, and all about it.
 #[derive(Clone, PartialEq, Eq)]
 struct Row {
-    key: String,
+    /// "E", "T" or "party "
+    of: &'static str,
+    number: u32,
     short: String,
     full: String,
 }
 
+impl Row {
+    fn name(&self) -> String {
+        format!("{}{}", self.of, self.number)
+    }
+}
+
+/// "E1-E4, E6": three or more in a row are named by the first and the last.
+fn names(rows: &[&Row]) -> String {
+    let runs = rows.chunk_by(|one, other| one.number + 1 == other.number);
+    let names = runs.map(|run| match run {
+        [first, _, .., last] => format!("{}-{}", first.name(), last.name()),
+        _ => run.iter().map(|row| row.name()).collect::<Vec<_>>().join(", "),
+    });
+    names.collect::<Vec<_>>().join(", ")
+}
+
+/// The rows in short words, those that are held alike together: "E1-E4, E6 committed".
+fn in_short<'a>(rows: impl Iterator<Item = &'a Row>) -> Vec<String> {
+    let rows: Vec<&Row> = rows.collect();
+    let alike = rows.chunk_by(|one, other| one.of == other.of && one.short == other.short);
+    alike.map(|rows| escape(format!("{} {}", names(rows), rows[0].short).trim_end())).collect()
+}
+
 fn entry_row(entry: &Entry, tables: &Tables) -> Row {
     let holds = holds_words(entry, tables);
-    Row {
-        key: format!("E{}", entry.number),
-        short: format!("E{} {holds}", entry.number),
-        full: format!("{}, {holds}, {}", plain_fields(&entry.fields), lease_words(entry.end)),
-    }
+    let full = format!("{}, {holds}, {}", plain_fields(&entry.fields), lease_words(entry.end));
+    Row { of: "E", number: entry.number, short: holds, full }
 }
 
 fn state_rows(tables: &Tables) -> Vec<Row> {
     let mut rows: Vec<Row> = tables.entries.iter().map(|entry| entry_row(entry, tables)).collect();
     rows.extend(tables.transactions.iter().map(|transaction| Row {
-        key: format!("T{}", transaction.number),
-        short: format!("T{}", transaction.number),
+        of: "T",
+        number: transaction.number,
+        short: String::new(),
         full: format!("of party {}, {}", transaction.owner, lease_words(transaction.end)),
     }));
     rows.extend(tables.look_ups.iter().map(|look_up| Row {
-        key: format!("party {}", look_up.party),
-        short: format!("party {} waits", look_up.party),
+        of: "party ",
+        number: u32::from(look_up.party),
+        short: "waiting".to_string(),
         full: look_up_words(look_up).replacen(&format!("party {} ", look_up.party), "", 1),
     }));
     rows
@@ -57,17 +81,14 @@ fn state_cell(before: &Tables, after: &Tables) -> String {
     let (old, new) = (state_rows(before), state_rows(after));
     let mut cell = String::new();
     for row in new.iter().filter(|row| !old.contains(row)) {
-        cell += &format!("<li class=\"new\"><b>{}</b> {}</li>", row.key, escape(&row.full));
+        cell += &format!("<li class=\"new\"><b>{}</b> {}</li>", row.name(), escape(&row.full));
     }
-    let gone: Vec<String> = old
-        .iter()
-        .filter(|row| !new.iter().any(|other| other.key == row.key))
-        .map(|row| format!("<s>{}</s>", escape(&row.short)))
-        .collect();
+    let gone = in_short(old.iter().filter(|row| !new.iter().any(|other| other.name() == row.name())));
     if !gone.is_empty() {
-        cell += &format!("<li class=\"gone\">{}</li>", gone.join(", "));
+        let struck: Vec<String> = gone.iter().map(|words| format!("<s>{words}</s>")).collect();
+        cell += &format!("<li class=\"gone\">{}</li>", struck.join(", "));
     }
-    let same: Vec<String> = new.iter().filter(|row| old.contains(row)).map(|row| escape(&row.short)).collect();
+    let same = in_short(new.iter().filter(|row| old.contains(row)));
     match (same.is_empty(), new.is_empty()) {
         (false, _) => cell += &format!("<li class=\"same\">{}</li>", same.join("; ")),
         (true, true) => cell += "<li class=\"same\">empty</li>",

@@ -2,7 +2,7 @@
 
 use super::glyphs;
 use super::labels::look_up;
-use super::layout::{Bar, Layout, Placed, System};
+use super::layout::{clock_label, Bar, Layout, Placed, System};
 use super::lives::{Gone, Hold, Moment, TransactionLife, Wait};
 use super::metrics::*;
 use super::svg::{attributes, group, line, n, path, rect, text};
@@ -125,7 +125,7 @@ fn track_title(life: &TransactionLife) -> String {
 impl<'a> Painter<'a> {
     pub fn new(history: &'a History, layout: &'a Layout, system: &'a System, style: &'a Style<'a>) -> Painter<'a> {
         let layers = Default::default();
-        let right = system.width - PAD;
+        let right = system.width - PAD - system.ahead;
         let mut painter = Painter {
             history,
             layout,
@@ -334,9 +334,9 @@ impl<'a> Painter<'a> {
         let fill = if odd { "#37474f" } else { "#5d6d75" };
         let more = format!("fill=\"{fill}\" class=\"clock\" data-clock=\"{clock}\"");
         self.add(GROUND, &rect(left, 0.0, right - left, BAND, &more));
-        let label = format!("clock {clock}");
-        if bold_width(&label) + 10.0 < right - left {
-            self.add(TEXT, &text(left + 6.0, 15.0, "b", "style=\"fill:#fff\"", &label));
+        let labels = [clock_label(clock), clock.to_string()];
+        if let Some(label) = labels.iter().find(|label| bold_width(label) + 10.0 < right - left) {
+            self.add(TEXT, &text(left + 6.0, 15.0, "b", "style=\"fill:#fff\"", label));
         }
     }
 
@@ -400,6 +400,9 @@ impl<'a> Painter<'a> {
             let (name, colour) = (format!("T{}", life.number), hue(life.party, 1.0));
             self.left_over_lease(&name, "transaction", life.number, (life.lease, end), zone + 13.0, &colour);
             let Some((left, right, begins, ends)) = self.reach(life.begin, end) else { continue };
+            if end.is_none() {
+                self.ahead("transaction", life.number, life.lease, zone + 6.0, &colour);
+            }
             let bar = track_bar(life.party, zone, left, right, begins, ends);
             let (from, to) = (moment_words(life.begin), end.map_or("open".to_string(), moment_words));
             let about = attributes(&[
@@ -452,6 +455,23 @@ impl<'a> Painter<'a> {
         }
     }
 
+    /// Behind the last column, when something that is still there will end.
+    fn ahead(&mut self, class: &str, number: u32, end: End, y: f64, colour: &str) {
+        let End::At(clock) = end else { return };
+        if self.last() + 1 < self.layout.columns.len() {
+            return;
+        }
+        let x = self.right + 8.0;
+        let glyph = match class {
+            "party" => glyphs::deadline(x, y),
+            _ => glyphs::hourglass(x, y, "#fff", colour),
+        };
+        let (data, label) = (format!("data-{class}"), clock_label(clock));
+        let about = attributes(&[("class", &"ahead"), (data.as_str(), &number), ("data-clock", &clock)]);
+        self.add(MARKS, &group(&about, &format!("ends at {label}, which this history does not reach"), &glyph));
+        self.add(TEXT, &text(self.right + AHEAD, y + 4.0, "dim", "", &label));
+    }
+
     fn party_of(&self, transaction: u32) -> u8 {
         self.layout.lives.transaction(transaction).map_or(1, |life| life.party)
     }
@@ -464,6 +484,9 @@ impl<'a> Painter<'a> {
             let word = format!("{}, {}", bar.name(), bar.end_word());
             self.left_over_lease(&word, "entry", bar.life.number, (bar.life.lease, end), y + height / 2.0, GREY);
             self.segments(bar, y, height);
+            if bar.life.is_stored() && end.is_none() {
+                self.ahead("entry", bar.life.number, bar.life.lease, y + height / 2.0, GREY);
+            }
             self.entry_end(bar, y, height);
             self.entry_name(bar, y, height);
         }
@@ -637,6 +660,11 @@ impl<'a> Painter<'a> {
                 ("data-to", &to),
             ]);
             self.add(BARS, &group(&about, &title, &inner));
+            if end.is_none() {
+                // Below the mark of the transaction on whose bar it stands.
+                let down = if wait.look_up.transaction == 0 { 0.0 } else { 10.0 };
+                self.ahead("party", wait.look_up.party.into(), wait.look_up.deadline, y + down, INK);
+            }
             if let Some(column) = self.deadline(wait) {
                 let x = self.column_x(column);
                 let about = attributes(&[("class", &"deadline"), ("data-party", &wait.look_up.party)]);

@@ -72,7 +72,6 @@ fn verdict_box(claim: &Claim, finding: &Finding, analysis: &Analysis) -> String 
         (Some(refuting), Some(all)) if finding.verdict == Verdict::Refuted => {
             format!("by {refuting} of {all} histories ({:.1} %)", refuting.percent_of(all))
         }
-        _ if finding.verdict == Verdict::Kept => "by all histories".to_string(),
         _ => finding.why.clone(),
     };
     let remark = if claim.remark.is_empty() { String::new() } else { format!(" \u{b7} {}", claim.remark) };
@@ -86,7 +85,9 @@ fn verdict_box(claim: &Claim, finding: &Finding, analysis: &Analysis) -> String 
 }
 
 fn line_words(script: &Script, (pane, line): (usize, usize)) -> String {
-    format!("{}'s {}", script.panes[pane].name, script.panes[pane].sent[line].request.operation.name)
+    let Pane { name, sent, .. } = &script.panes[pane];
+    let operation = sent[line].request.map_or("bytes", |request| request.operation.name);
+    format!("{name}'s {operation}")
 }
 
 fn needed_words(script: &Script, needed: &Needed) -> String {
@@ -119,11 +120,12 @@ fn claim_part(script: &Script, analysis: &Analysis, place: usize) -> String {
     let (claim, finding) = (&script.claims[place], &analysis.findings[place]);
     let mut part = verdict_box(claim, finding, analysis);
     let Some(mut history) = shortest(script, finding).filter(|history| !history.steps.is_empty()) else { return part };
-    history.title = format!("Shortest history that refutes claim {}", place + 1);
+    history.title = format!("History that refutes claim {}", place + 1);
     let last = history.steps.len() - 1;
     let failing = claim.failing(&script.panes, counted(claim, &history.steps[last].after));
     let pointed = Pointed { frame: last, caption: format!("the claim fails here: {failing}") };
-    part += &format!("<h2>The shortest history that refutes it: {} frames</h2>\n", history.steps.len());
+    let which = if finding.why.is_empty() { "The shortest" } else { "A" };
+    part += &format!("<h2>{which} history that refutes it: {} frames</h2>\n", history.steps.len());
     let names: Vec<(u8, String)> = script.panes.iter().map(|pane| (pane.party, pane.name.clone())).collect();
     let prefix = format!("c{place}");
     let style = Style { prefix: &prefix, links: false, names: &names, pointed: Some(&pointed) };
@@ -217,6 +219,12 @@ fn scope_row(name: &str, analysis: &Analysis, this: bool) -> String {
         histories_words(analysis),
         verdict_word(finding.verdict)
     )
+}
+
+/// What the bounds leave beside an exploration; an eighth of the memory at least.
+fn left(bounds: Bounds, analysis: &Analysis) -> Bounds {
+    let memory = bounds.memory.saturating_sub(analysis.explored.store.memory());
+    Bounds { memory: memory.max(bounds.memory / 8), ..bounds }
 }
 
 /// The same claim with the panes concerned alone, and without ticks.
@@ -315,7 +323,7 @@ pub fn report(script: &Script, analysis: &Analysis, bounds: Bounds) -> String {
         // A claim that is kept by all is kept by fewer.
         let refuted = |place: &usize| analysis.findings[*place].verdict == Verdict::Refuted;
         for place in (0..script.claims.len()).filter(refuted) {
-            scopes += &scopes_part(script, analysis, place, bounds);
+            scopes += &scopes_part(script, analysis, place, left(bounds, analysis));
         }
     }
     body += &format!("<div class=\"two\"><div>{scopes}</div><div>{}</div></div>\n", programs_part(script, analysis));

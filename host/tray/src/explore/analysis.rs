@@ -2,26 +2,18 @@
 
 use super::count::{order, sum, ways_to};
 use super::model::Model;
-use super::situation::Situation;
-use super::store::{Edge, TICK};
+use super::waits::{hopes, Hopes};
 use super::{explore, Bounds, Cut, Explored};
 use crate::big::Natural;
 use crate::claim::{Claim, Form, Scope, Verdict};
 use crate::panes::Script;
 use crate::text::Asked;
-use crate::words::{
-    Words, ENTRIES, ENTRY_END, FOREVER, LOOK_UPS, TRANSACTIONS, TRANSACTION_END, TRANSACTION_NUMBER, WAITING_DEADLINE,
-    WAITING_PARTY, WAITING_TRANSACTION, WORD_CLOCK,
-};
-use std::collections::HashMap;
-
-/// How many situations are looked at beyond the last tick, to see whether a waiting pane is answered after all.
-const BEYOND: usize = 100_000;
+use std::cell::OnceCell;
 
 /// What was found of a claim.
 pub struct Finding {
     pub verdict: Verdict,
-    /// Why it is open.
+    /// By which histories it is kept, or why it is open. Of a refuted one, why a shorter history may refute it too.
     pub why: String,
     /// The senders of the shortest refuting history.
     pub shortest: Option<Vec<usize>>,
@@ -39,8 +31,9 @@ pub struct Analysis {
 }
 
 impl Finding {
-    fn kept() -> Finding {
-        Finding { verdict: Verdict::Kept, why: String::new(), shortest: None, refuting: Some(Natural::default()) }
+    fn kept(why: &str) -> Finding {
+        let refuting = Some(Natural::default());
+        Finding { verdict: Verdict::Kept, why: why.to_string(), shortest: None, refuting }
     }
 
     fn open(why: &str) -> Finding {
@@ -50,7 +43,15 @@ impl Finding {
     fn refuted(shortest: Vec<usize>, refuting: Option<Natural>) -> Finding {
         Finding { verdict: Verdict::Refuted, why: String::new(), shortest: Some(shortest), refuting }
     }
+
+    /// Not everything was looked at: a shorter history may refute it too.
+    fn doubted(self, why: Option<&str>) -> Finding {
+        Finding { why: why.unwrap_or_default().to_string(), ..self }
+    }
 }
+
+const BY_ALL: &str = "by all histories";
+const NOT_ALL_BEYOND: &str = "what comes after the last tick was not all looked at";
 
 pub fn cut_words(cut: Cut) -> &'static str {
     match cut {
@@ -72,11 +73,13 @@ struct Judge<'a> {
     explored: &'a Explored,
     order: Option<&'a [u32]>,
     histories: Option<&'a Natural>,
+    /// For claims that nobody waits for ever.
+    hopes: OnceCell<Hopes>,
 }
 
 impl Judge<'_> {
-    fn if_kept(&self) -> Finding {
-        self.explored.cut.map_or_else(Finding::kept, |cut| Finding::open(cut_words(cut)))
+    fn if_kept(&self, by: &str) -> Finding {
+        self.explored.cut.map_or_else(|| Finding::kept(by), |cut| Finding::open(cut_words(cut)))
     }
 
     /// Histories that never pass a step which the claim is concerned with.
@@ -99,12 +102,13 @@ impl Judge<'_> {
             let refuting = self.histories.zip(self.avoiding(claim)).map(|(all, good)| all.minus(&good));
             return Finding::refuted(way, refuting);
         }
-        self.if_kept()
+        self.if_kept(BY_ALL)
     }
 
     fn at_the_end(&self, claim: usize) -> Finding {
         let bad = || self.explored.ends.iter().filter(|(_, failing)| failing >> claim & 1 == 1).map(|end| end.0);
-        let Some(first) = bad().next() else { return self.if_kept() };
+        let by = if self.order.is_some() { BY_ALL } else { "by all histories that end; some never do" };
+        let Some(first) = bad().next() else { return self.if_kept(by) };
         let refuting = self.order.filter(|_| self.histories.is_some()).map(|order| {
             let ways = ways_to(&self.explored.store, order, |_| true);
             sum(&ways, bad())
@@ -128,7 +132,7 @@ impl Judge<'_> {
                     at = parent;
                 }
                 way.reverse();
-                return Finding::refuted(way, self.avoiding(claim));
+                return Finding::refuted(way, self.avoiding(claim)).doubted(self.explored.cut.map(cut_words));
             }
             for edge in store.steps(situation as usize).iter().filter(|edge| !edge.concerns(claim)) {
                 if edge.to != 0 && from[edge.to as usize].is_none() {
@@ -139,141 +143,7 @@ impl Judge<'_> {
         }
         match self.order {
             None if self.explored.cut.is_none() => Finding::open("some histories never end: the panes can go round"),
-            _ => self.if_kept(),
-        }
-    }
-}
-
-/// Whether anything finite lies ahead, so that further ticks can change something.
-fn time_matters(words: &Words) -> bool {
-    let ahead = |table: crate::words::Table, at: usize| {
-        let mut rows = words[table.used(words)].chunks_exact(table.width);
-        rows.any(|row| row[at] != FOREVER && row[at] > words[WORD_CLOCK])
-    };
-    ahead(ENTRIES, ENTRY_END) || ahead(TRANSACTIONS, TRANSACTION_END) || ahead(LOOK_UPS, WAITING_DEADLINE)
-}
-
-/// Whether the party's look-up is closed by time alone: by its deadline, or its transaction's lease.
-fn closes_in_time(words: &Words, party: u8) -> bool {
-    let mut rows = words[LOOK_UPS.used(words)].chunks_exact(LOOK_UPS.width);
-    let Some(row) = rows.find(|row| row[WAITING_PARTY] == u32::from(party)) else { return true };
-    let mut live = words[TRANSACTIONS.used(words)].chunks_exact(TRANSACTIONS.width);
-    let inside = live.find(|live| live[TRANSACTION_NUMBER] == row[WAITING_TRANSACTION]);
-    row[WAITING_DEADLINE] != FOREVER || inside.is_some_and(|live| live[TRANSACTION_END] != FOREVER)
-}
-
-/// Answers to "can this waiting pane still be answered, if time goes on?".
-#[derive(Clone, Copy, PartialEq, Eq)]
-enum Hope {
-    Answered,
-    Never,
-    Unknown,
-}
-
-/// Looks beyond the last tick, from a situation in which nothing more can happen within the bound.
-struct Beyond<'a> {
-    model: Model<'a>,
-    known: HashMap<(Vec<u8>, usize), Hope>,
-}
-
-impl Beyond<'_> {
-    fn hope(&mut self, situation: &Situation, pane: usize) -> Hope {
-        if closes_in_time(&situation.words, self.model.script.panes[pane].party) {
-            return Hope::Answered;
-        }
-        if !time_matters(&situation.words) {
-            return Hope::Never;
-        }
-        let mut bytes = Vec::new();
-        situation.encode(&mut bytes);
-        let key = (bytes, pane);
-        if let Some(&hope) = self.known.get(&key) {
-            return hope;
-        }
-        let hope = self.search(situation, pane);
-        self.known.insert(key, hope);
-        hope
-    }
-
-    fn search(&mut self, beginning: &Situation, pane: usize) -> Hope {
-        let mut store = super::store::Store::default();
-        let (mut here, mut next) = (beginning.clone(), beginning.clone());
-        let mut bytes = Vec::new();
-        beginning.encode(&mut bytes);
-        store.insert(&bytes, (0, 0), 0);
-        let mut place = 0;
-        while place < store.len() {
-            if store.len() > BEYOND {
-                return Hope::Unknown;
-            }
-            here.decode(store.bytes(place));
-            let panes = (0..self.model.script.panes.len()).filter(|&pane| here.can_send(pane));
-            let senders: Vec<usize> = panes.chain(time_matters(&here.words).then_some(TICK)).collect();
-            for sender in senders {
-                next.copy_from(&here);
-                self.model.step(&here, sender, &mut next);
-                if !next.waits(pane) {
-                    return Hope::Answered;
-                }
-                next.encode(&mut bytes);
-                store.insert(&bytes, (place as u32, sender as u8), 0);
-            }
-            place += 1;
-        }
-        Hope::Never
-    }
-}
-
-/// Where the panes can go round for ever after the last tick, they never come to an end: whether time would answer a
-/// waiting pane is then told for each situation without ticks left, as far as it can be told at once.
-fn hopes_going_round(script: &Script, explored: &Explored, hopes: &mut [u16]) -> bool {
-    let mut situation = Model::new(script).blank();
-    let mut all_known = true;
-    for (place, hope) in hopes.iter_mut().enumerate() {
-        situation.decode(explored.store.bytes(place));
-        for pane in (0..script.panes.len()).filter(|&pane| situation.ticks >= script.ticks && situation.waits(pane)) {
-            let closes = closes_in_time(&situation.words, script.panes[pane].party);
-            let matters = time_matters(&situation.words);
-            all_known &= closes || !matters;
-            *hope |= u16::from(closes || matters) << pane;
-        }
-    }
-    all_known
-}
-
-/// For each situation the waiting panes that can still be answered; and whether that is known of all.
-fn hopes(script: &Script, explored: &Explored, goes_round: bool) -> (Vec<u16>, bool) {
-    let store = &explored.store;
-    let mut beyond = Beyond { model: Model::new(script), known: HashMap::new() };
-    let mut situation = beyond.model.blank();
-    let mut hopes = vec![0u16; store.len()];
-    let mut all_known = true;
-    for &(end, _) in &explored.ends {
-        situation.decode(store.bytes(end as usize));
-        for pane in (0..script.panes.len()).filter(|&pane| situation.waits(pane)) {
-            let hope = beyond.hope(&situation, pane);
-            all_known &= hope != Hope::Unknown;
-            hopes[end as usize] |= u16::from(hope != Hope::Never) << pane;
-        }
-    }
-    if goes_round {
-        all_known &= hopes_going_round(script, explored, &mut hopes);
-    }
-    // Backwards over the steps, until nothing changes: once, unless the panes can go round.
-    loop {
-        let mut changed = false;
-        for place in (0..store.looked_at()).rev() {
-            let waiting = store.waiting[place];
-            let through = |edge: &Edge| {
-                let to = edge.to as usize;
-                waiting & !store.waiting[to] | waiting & store.waiting[to] & hopes[to]
-            };
-            let hope = store.steps(place).iter().fold(hopes[place], |hope, edge| hope | through(edge));
-            changed |= hope != hopes[place];
-            hopes[place] = hope;
-        }
-        if !changed {
-            return (hopes, all_known);
+            _ => self.if_kept(BY_ALL),
         }
     }
 }
@@ -283,22 +153,21 @@ impl Judge<'_> {
         if let Some(cut) = self.explored.cut {
             return Finding::open(cut_words(cut));
         }
-        let (hopes, all_known) = hopes(self.script, self.explored, self.order.is_none());
+        let Hopes { of: hopes, unknown } =
+            self.hopes.get_or_init(|| hopes(self.script, self.explored, self.order.is_none()));
         let mask = panes.iter().fold(0u16, |mask, pane| mask | 1 << pane);
         let store = &self.explored.store;
         let dead = |place: usize| store.waiting[place] & mask & !hopes[place] != 0;
+        let unknown = Some(NOT_ALL_BEYOND).filter(|_| unknown & mask != 0);
         let Some(first) = (0..store.len()).find(|&place| dead(place)) else {
-            return match all_known {
-                true => Finding::kept(),
-                false => Finding::open("what comes after the last tick was not all looked at: allow more ticks"),
-            };
+            return unknown.map_or_else(|| Finding::kept(BY_ALL), Finding::open);
         };
-        let refuting = self.order.filter(|_| self.histories.is_some()).map(|order| {
+        let refuting = self.order.filter(|_| unknown.is_none()).map(|order| {
             let ways = ways_to(store, order, |_| true);
             let ends = self.explored.ends.iter().map(|end| end.0);
             sum(&ways, ends.filter(|&end| dead(end as usize)))
         });
-        Finding::refuted(store.way(first), refuting)
+        Finding::refuted(store.way(first), refuting).doubted(unknown)
     }
 
     fn finding(&self, place: usize, claim: &Claim) -> Finding {
@@ -319,7 +188,13 @@ pub fn analyse(script: &Script, bounds: Bounds) -> Analysis {
         let ways = ways_to(&explored.store, order, |_| true);
         sum(&ways, explored.ends.iter().map(|end| end.0))
     });
-    let judge = Judge { script, explored: &explored, order: order.as_deref(), histories: histories.as_ref() };
+    let judge = Judge {
+        script,
+        explored: &explored,
+        order: order.as_deref(),
+        histories: histories.as_ref(),
+        hopes: OnceCell::new(),
+    };
     let findings = script.claims.iter().enumerate().map(|(place, claim)| judge.finding(place, claim)).collect();
     Analysis { explored, histories, order, findings }
 }

@@ -10,6 +10,9 @@ pub fn order(store: &Store) -> Option<Vec<u32>> {
     for edge in &store.edges {
         before[edge.to as usize] += 1;
     }
+    if before.first() != Some(&0) {
+        return None; // a step leads back to the beginning
+    }
     let mut order = Vec::with_capacity(store.len());
     order.push(0);
     let mut next = 0;
@@ -22,7 +25,7 @@ pub fn order(store: &Store) -> Option<Vec<u32>> {
             }
         }
     }
-    (order.len() == store.len() && before[0] == 0).then_some(order)
+    (order.len() == store.len()).then_some(order)
 }
 
 /// A number for each situation, of so many limbs each.

@@ -8,8 +8,10 @@ pub mod report;
 pub mod shares;
 pub mod situation;
 pub mod store;
+pub mod waits;
 
 use crate::panes::Script;
+use crate::tell::{tell, Progress};
 use model::Model;
 use situation::Situation;
 use std::time::{Duration, Instant};
@@ -47,6 +49,8 @@ pub struct Explored {
     pub elapsed: Duration,
 }
 
+/// Situations have numbers of 32 bits; a step of each sender may still be met.
+const MOST_SITUATIONS: usize = u32::MAX as usize - 64;
 /// Counting takes memory besides: this much for a situation.
 const COUNTING: usize = 32;
 /// Situations looked at between two measurements of memory, and between two words about progress.
@@ -58,13 +62,13 @@ struct Explorer<'a> {
     explored: Explored,
     bounds: Bounds,
     begun: Instant,
-    told: Instant,
+    progress: Progress,
 }
 
 impl Explorer<'_> {
     fn out_of_bounds(&self, place: usize) -> Option<Cut> {
         let store = &self.explored.store;
-        if store.len() >= self.bounds.situations.min(u32::MAX as usize - 1) {
+        if place >= self.bounds.situations || store.len() >= MOST_SITUATIONS {
             return Some(Cut::Situations);
         }
         if !place.is_multiple_of(BETWEEN_MEASUREMENTS) {
@@ -75,15 +79,15 @@ impl Explorer<'_> {
     }
 
     fn tell(&mut self, place: usize) {
-        if self.told.elapsed() < Duration::from_secs(2) {
+        if !self.progress.is_due() {
             return;
         }
-        self.told = Instant::now();
         let store = &self.explored.store;
         let (steps, memory) = (store.edges.len(), store.memory() >> 20);
         let speed = steps as f64 / self.begun.elapsed().as_secs_f64();
         let left = store.len() - place;
-        eprintln!("{} situations, {left} to look at, {steps} steps, {speed:.0} steps/s, {memory} MB", store.len());
+        let found = store.len();
+        tell(&format!("{found} situations, {left} to look at, {steps} steps, {speed:.0} steps/s, {memory} MB"));
     }
 
     /// All steps from one situation.
@@ -146,8 +150,8 @@ pub fn explore(script: &Script, bounds: Bounds) -> Explored {
     let scopes = [crate::claim::Scope::Always, crate::claim::Scope::Stopped];
     let at_once = failing(&mut model, &beginning, &scopes);
     let empty = Explored { store: Store::default(), ends: vec![], cut: None, at_once, elapsed: Duration::ZERO };
-    let now = Instant::now();
-    let mut explorer = Explorer { model, explored: empty, bounds, begun: now, told: now };
+    let begun = Instant::now();
+    let mut explorer = Explorer { model, explored: empty, bounds, begun, progress: Progress::default() };
     explorer.run(&beginning);
     explorer.explored
 }

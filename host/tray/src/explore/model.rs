@@ -50,7 +50,7 @@ impl<'a> Model<'a> {
         for (place, pane) in script.panes.iter().enumerate() {
             pane_of[usize::from(pane.party)] = Some(place);
         }
-        let frames = |pane: &Pane| pane.sent.iter().map(|sent| sent.request.frame()).collect();
+        let frames = |pane: &Pane| pane.sent.iter().map(|sent| sent.frame.clone()).collect();
         Model {
             script,
             pane_of,
@@ -87,7 +87,7 @@ impl<'a> Model<'a> {
     fn transaction(&self, situation: &Situation, pane: usize, line: usize) -> u32 {
         let sent = &self.script.panes[pane].sent[line];
         match sent.inside.map(|name| situation.pane(pane)[NAMES + name]) {
-            None => sent.request.transaction,
+            None => sent.request.map_or(0, |request| request.transaction),
             Some(0) => NO_TRANSACTION,
             Some(number) => number,
         }
@@ -158,7 +158,8 @@ impl<'a> Model<'a> {
             }
             return;
         }
-        if record.kind == WAITING {
+        // Bytes may name another party, whose look-up then waits.
+        if record.kind == WAITING && record.party == script.party {
             situation.pane_mut(pane)[PLACE] = place(line, true);
             return;
         }

@@ -10,20 +10,11 @@ use crate::panes::Script;
 use crate::record::{ABORTED, COMMITTED, EXCEPTION, FOUND, NOTHING};
 use crate::words::{
     tables, Fields, Template, Words, ENTRIES, ENTRY_END, ENTRY_FIELDS, ENTRY_NUMBER, ENTRY_PRIVATE_TO, ENTRY_READERS,
-    ENTRY_TAKEN_BY, ENTRY_WORDS, TRANSACTIONS, TRANSACTION_NUMBER, TRANSACTION_OWNER, TRANSACTION_SLOT,
-    TRANSACTION_WORDS, WORD_CLOCK,
+    ENTRY_TAKEN_BY, TRANSACTIONS, TRANSACTION_NUMBER, TRANSACTION_OWNER, TRANSACTION_SLOT, WORD_CLOCK,
 };
 
-fn entry_rows(words: &Words) -> impl Iterator<Item = &[u32]> {
-    words[ENTRIES.used(words)].chunks_exact(ENTRY_WORDS)
-}
-
-fn transaction_rows(words: &Words) -> impl Iterator<Item = &[u32]> {
-    words[TRANSACTIONS.used(words)].chunks_exact(TRANSACTION_WORDS)
-}
-
 fn entry_row(words: &Words, number: u32) -> Option<&[u32]> {
-    entry_rows(words).find(|row| row[ENTRY_NUMBER] == number)
+    ENTRIES.rows(words).find(|row| row[ENTRY_NUMBER] == number)
 }
 
 /// The parties whose transactions hold the entry, a bit for each.
@@ -32,7 +23,7 @@ fn holders(words: &Words, entry: &[u32]) -> u32 {
         entry[ENTRY_TAKEN_BY] == row[TRANSACTION_NUMBER]
             || entry[ENTRY_READERS] >> (row[TRANSACTION_SLOT] % 32) & 1 == 1
     };
-    transaction_rows(words).filter(holds).fold(0, |mask, row| mask | 1 << (row[TRANSACTION_OWNER] % 32))
+    TRANSACTIONS.rows(words).filter(holds).fold(0, |mask, row| mask | 1 << (row[TRANSACTION_OWNER] % 32))
 }
 
 #[derive(Default)]
@@ -48,7 +39,7 @@ fn remember(memory: &mut Vec<u32>, value: u32) {
 
 impl Monitors {
     pub fn count(&mut self, words: &Words, committed: bool, template: &Template) -> usize {
-        let counted = entry_rows(words).filter(|row| !committed || row[ENTRY_PRIVATE_TO] == 0);
+        let counted = ENTRIES.rows(words).filter(|row| !committed || row[ENTRY_PRIVATE_TO] == 0);
         let fields = counted.map(|row| -> Fields { std::array::from_fn(|i| row[ENTRY_FIELDS + i]) });
         fields.filter(|fields| self.matcher.matches(template, fields)).count()
     }
@@ -98,7 +89,7 @@ impl Monitors {
             Form::Count { .. } => self.fails_here(form, &[Scope::Always, Scope::Stopped], situation),
             Form::NotBoth { panes, sharing: Sharing::Hold } => {
                 let both = panes.iter().fold(0, |mask, &pane| mask | 1 << script.panes[pane].party);
-                entry_rows(&situation.words).any(|row| holders(&situation.words, row) & both == both)
+                ENTRIES.rows(&situation.words).any(|row| holders(&situation.words, row) & both == both)
             }
             Form::NotBoth { panes, sharing } => share(script, panes, *sharing, got, memory),
             Form::NoEndlessWait { .. } => false,
@@ -113,7 +104,8 @@ impl Monitors {
         let nothings = got.iter().filter(|got| got.pane == pane && got.record.kind == NOTHING);
         for got in nothings {
             let Some(line) = got.line else { continue };
-            let Some(sought) = Sought::of_request(&script.panes[pane].sent[line].request) else { continue };
+            let request = script.panes[pane].sent[line].request;
+            let Some(sought) = request.as_ref().and_then(Sought::of_request) else { continue };
             let sought = Sought { transaction: got.record.transaction, ..sought };
             let tables = tables(&situation.words);
             let standings = sought.standings(&tables, &mut self.matcher);
@@ -126,8 +118,8 @@ impl Monitors {
 }
 
 fn takes(script: &Script, got: &Got) -> bool {
-    let sent = got.line.map(|line| &script.panes[got.pane].sent[line]);
-    sent.is_some_and(|sent| matches!(sent.request.operation.class, Class::LookUp { takes: true, .. }))
+    let request = got.line.and_then(|line| script.panes[got.pane].sent[line].request);
+    request.is_some_and(|request| matches!(request.operation.class, Class::LookUp { takes: true, .. }))
 }
 
 /// Memory: twice the entries that either pane has found, plus which of the two.

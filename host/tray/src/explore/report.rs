@@ -30,8 +30,8 @@ pub fn shortest(script: &Script, finding: &Finding) -> Option<History> {
     finding.shortest.as_ref().map(|senders| History::of(frames(script, senders)))
 }
 
-/// "882,180 of them refute it (3.1 %)"
-pub fn refuting_words(analysis: &Analysis, finding: &Finding) -> String {
+/// "882,180 of 28,828,800 histories refute it (3.1 %)"
+fn refuting_words(analysis: &Analysis, finding: &Finding) -> String {
     match (&finding.refuting, &analysis.histories) {
         (Some(refuting), Some(all)) => {
             format!("{refuting} of {all} histories refute it ({:.1} %)", refuting.percent_of(all))
@@ -65,14 +65,12 @@ fn claim_words(text: &mut String, script: &Script, analysis: &Analysis, place: u
         let _ = writeln!(text, "  {}", claim.remark);
     }
     match finding.verdict {
-        Verdict::Kept => {
-            let _ = writeln!(text, "  by all histories");
-        }
-        Verdict::Open => {
+        Verdict::Kept | Verdict::Open => {
             let _ = writeln!(text, "  {}", finding.why);
         }
         Verdict::Refuted => {
-            let _ = writeln!(text, "  {}; the shortest:", refuting_words(analysis, finding));
+            let which = if finding.why.is_empty() { "the shortest" } else { &format!("{}; one of them", finding.why) };
+            let _ = writeln!(text, "  {}; {which}:", refuting_words(analysis, finding));
             let history = shortest(script, finding).unwrap_or_default();
             let mut matcher = Matcher::default();
             for place in 0..history.steps.len() {

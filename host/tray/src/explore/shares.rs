@@ -6,6 +6,7 @@ use super::model::{Got, Model};
 use super::situation::Situation;
 use super::store::{Store, TICK};
 use crate::big::Natural;
+use crate::frame::Request;
 use crate::oracle::Sought;
 use crate::panes::Script;
 use crate::record::{kind_of, EXCEPTION, FOUND, NOTHING, REFUSED, WAITING};
@@ -72,7 +73,7 @@ impl Counter<'_> {
     }
 
     fn answer(&mut self, got: &Got, own: bool, after: &Situation) -> Option<Answer> {
-        let line = got.line?;
+        let request = self.script.panes[got.pane].sent[got.line?].request;
         Some(match (got.record.kind, own) {
             (WAITING, _) => return None,
             (REFUSED, _) => Answer::Refused(got.record.refusal),
@@ -80,12 +81,10 @@ impl Counter<'_> {
             (NOTHING, false) => Answer::WaitsThenNothing,
             (EXCEPTION, _) => {
                 // Only one that closes a look-up answers a request.
-                let request = &self.script.panes[got.pane].sent[line].request;
-                return request.looks_up().then_some(Answer::WaitsThenException);
+                return request.filter(Request::looks_up).map(|_| Answer::WaitsThenException);
             }
             (NOTHING, true) => {
-                let request = &self.script.panes[got.pane].sent[line].request;
-                let sought = Sought::of_request(request)?;
+                let sought = request.as_ref().and_then(Sought::of_request)?;
                 let stored = self.model.monitors.matcher.matching(&sought.template, &tables(&after.words)).len();
                 if stored > 0 {
                     Answer::NothingThoughStored
