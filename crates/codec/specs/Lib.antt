@@ -1,2 +1,3 @@
 -- What the functions over bytes do, by definitions that their contracts cite.
 pub mod Area
+pub mod Lengths

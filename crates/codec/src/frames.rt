@@ -9,6 +9,7 @@ use crate::bytes::byte_at;
 use crate::bytes::fields_at;
 use crate::bytes::number_at;
 use crate::places::FIELDS_AT;
+use crate::places::FIELDS_END;
 use crate::places::LEASE_AT;
 use crate::places::MASK_AT;
 use crate::places::PARTY_AT;
@@ -33,9 +34,6 @@ use rules::numbers::OP_TICK;
 use rules::numbers::OP_WRITE;
 use rules::numbers::OPERATION_REFUSED;
 use rules::numbers::PARTY_REFUSED;
-
-// The length of a frame, by its operation.
-const LENGTHS: [usize; 10] = [0, 28, 28, 28, 28, 28, 12, 8, 8, 4];
 
 // The party that a frame names; 0 if it has none.
 pub(crate) fn party_of(frame: &[u8]) -> u8
@@ -84,13 +82,24 @@ fn is_wrong_party(frame: &[u8], op: u8) -> bool
     }
 }
 
-// The length of an operation's frames.
+// The length of an operation's frames, worked out from the operation: a frame ends where the first part would begin
+// that its operation's frames do not have (fields, lease or timeout, transaction); 0 if it is no operation.
 pub(crate) fn length_of(op: u8) -> usize
-    requires { ⌜ op ≤ opTick ⌝ }
     ensures { λ r. ⌜ r ≡ frameLength op ⌝ }
 {
-    let at = op as usize;
-    LENGTHS[at]
+    if (op == 0) | (OP_TICK < op) {
+        return 0;
+    }
+    if op <= OP_TAKE_IF_EXISTS {
+        return FIELDS_END;
+    }
+    if op <= OP_CREATE {
+        return FIELDS_AT;
+    }
+    if op <= OP_ABORT {
+        return LEASE_AT;
+    }
+    TXN_AT
 }
 
 // The first of the refusals 3 to 5 that applies to a frame with an operation; 0: none.
