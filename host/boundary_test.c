@@ -1,6 +1,6 @@
 /* Document 01's sample tray through the C boundary, byte by byte, and its printed lines to standard output; null
- * pointers; what each function leaves in its buffers; the headers' builders, names and layout of the words; the oldest
- * entry first. */
+ * pointers; what each function leaves in its buffers; the headers' builders, names and layout of the words; the lengths
+ * of frames; the oldest entry first. */
 #include <stdlib.h>
 #include "lines.h"
 #include "space_frames.h"
@@ -103,6 +103,23 @@ static void build_frames(void)
         check((strcmp(space_refusal_meaning((uint32_t)operation), "?") != 0) == (operation >= 1 && operation <= 16),
               "the refusals' meanings");
     }
+}
+
+/* Document 01's table of lengths, for every operation byte and every length up to 64. */
+static void judge_lengths(void)
+{
+    static const size_t lengths[] = {0, 28, 28, 28, 28, 28, 12, 8, 8, 4};
+    uint8_t any[64] = {0};
+    for (unsigned operation = 0; operation < 256; operation++)
+        for (size_t length = 1; length <= sizeof any; length++) {
+            int there_is = operation >= 1 && operation <= 9;
+            any[0] = (uint8_t)operation;
+            any[1] = operation == SPACE_OP_TICK ? 0 : 1;
+            space_empty(space);
+            uint32_t number = space_step_number(space_step(space, any, length, answers, SPACE_STEP_BYTES));
+            check((number == SPACE_REFUSAL_BAD_OPERATION) == !there_is, "2, by the operation byte");
+            check((number == SPACE_REFUSAL_BAD_LENGTH) == (there_is && length != lengths[operation]), "3, by the table");
+        }
 }
 
 static struct space_record step(size_t length)
@@ -253,6 +270,7 @@ int main(void)
     step_sample();
     pass_nulls();
     build_frames();
+    judge_lengths();
     read_words();
     find_oldest();
     serve_oldest();

@@ -9,6 +9,7 @@ TUNED_FRAMES=300000    # of the tuned peer
 FENCED_TRAYS=20000     # damaged trays with guard pages
 CHECKED_TRAYS=400      # damaged trays under valgrind or the address sanitizer
 RANDOM_TRAYS=60        # given to the program and to host/run_tray.c
+READ_ONLY_BYTES=140    # of the archive's data: two tables of jumps, two constants
 
 fail() {
     echo "FAILED: $*"
@@ -46,6 +47,14 @@ check_builds() {
     ! has clang || clang -std=c99 -fsyntax-only "${strict[@]}" host/*.c || fail "clang on host/*.c"
     ! has g++ || g++ -x c++ -fsyntax-only "${strict[@]}" host/space_frames.h || fail "g++ on the headers"
     echo "ok: built, and the harness finds wrong spaces"
+}
+
+# Read-only memory is full (document 02, T-06): what the archive keeps there is known, and no table of lengths is in it.
+check_read_only() {
+    local bytes
+    bytes=$(size -A "$archive" | awk '/^\.(rodata|data\.rel\.ro)/ { sum += $2 } END { print sum + 0 }')
+    [ "$bytes" -eq "$READ_ONLY_BYTES" ] || fail "$bytes bytes of read-only data in the archive, not $READ_ONLY_BYTES"
+    echo "ok: $bytes bytes of read-only data in the archive"
 }
 
 check_hosts() {
@@ -205,6 +214,7 @@ check_differ() { # NAME FRAMES
 }
 
 check_builds
+check_read_only
 check_hosts
 check_installed
 check_examples

@@ -2,7 +2,7 @@
 use Prim.Native.Nat.{ℕ, _<_}
 use mathlib.Core.Bool.{Bool, true, not, _&&_, true≢false}
 use mathlib.Core.Path.{_≡_, refl, sym, ap}
-use mathlib.Core.List.{List, [], _∷_, map, List·Memᴰ·head, List·Memᴰ·not-nil}
+use mathlib.Core.List.{List, [], _∷_, _++_, map, List·Memᴰ·head, List·Memᴰ·not-nil}
 use native.Mathlib.Omega.{arith}
 use borrow.Author.Tests.{ltb-true, leb-false, not-true}
 use lib.Dec.{leb, ltb}
@@ -12,7 +12,7 @@ use Rattle.rules.specs.declared.Record.{Record}
 use Rattle.rules.specs.declared.Until.the-variants.{Tick}
 use Rattle.rules.specs.Lists.{anyb}
 use Rattle.rules.specs.State.{Model, empty}
-use Rattle.rules.specs.Frame.{decode}
+use Rattle.rules.specs.Frame.{decode, fourBytes}
 use Rattle.rules.specs.Refusals.{refusal}
 use Rattle.rules.specs.Step.{step, carriedOut}
 use Rattle.rules.specs.Allowed.{Answered}
@@ -23,13 +23,13 @@ use Rattle.demands.specs.Machine.{Handed, Stepper, StepsBy, answeredBy, 
 use Rattle.demands.specs.History.{History, begun, handed, Made}
 use Rattle.demands.specs.Told.{Told, readsNumber, whoTakes, whoReads, committedTold, privateTold, told}
 use Rattle.demands.specs.Bounds.{Ascending}
-use Rattle.demands.specs.Demands.{Demand2, Demand3}
+use Rattle.demands.specs.Demands.{Demand1, Demand2, Demand3}
 use Rattle.demands.specs.Frames.{E, write-by, read-by, take-by, create-by, commit-by, abort-by, a-tick}
 use Rattle.demands.specs.RuledOut.{saysNothing, saysWaiting, refusesAll, sameRecord, storesNothing}
 use Rattle.demands.specs.RuledOut.{firstFrameOnly, oneMore, losesCommit, putsBackLate, ownReadBars, nothingFirst}
 use Rattle.demands.specs.RuledOut.{showsPrivate, ignoresWrites, writesTwice, ticksAtWrites, neverExpires}
 use Rattle.demands.specs.RuledOut.{lastExceptionFirst, lastServedFirst, servesEnded, newestFirst}
-use Rattle.demands.specs.RuledOut.{newestInService, RuledOut}
+use Rattle.demands.specs.RuledOut.{newestInService, takesLongCommits, RuledOut}
 use Rattle.rules.proofs.ListLaws.{none-mem}
 use Rattle.rules.proofs.BoolLaws.{and-left, and-right}
 use Rattle.demands.proofs.AllLaws.{all-none, all-cons, all-map}
@@ -127,6 +127,14 @@ module _ (does : Stepper) (d : Demand2 (spaceOf does)) (fs : List (List ℕ)) (f
       (d .said (logOf does empty fs) before (does before f 700 .model) (handIn f) (answerTo does before f)
       (from-empty does fs) (one-step does before f) n) (ordered _ _ e)))
 
+-- a frame in the empty space has the number that the rules give
+by-judged : (does : Stepper) → Demand1 (spaceOf does) → (f : List ℕ)
+    → does empty f 700 .number ≡ refusal empty f 700
+unfolding answeredBy
+by-judged does d f =
+    d .judged [] empty (does empty f 700 .model) (handIn f) (answerTo does empty f)
+    (empty, refl, begun empty) (one-step does empty f) .first-row
+
 -- demand 3 of what some frames make
 by-serial : (does : Stepper) → Demand3 (spaceOf does) → (fs : List (List ℕ))
     → Serial (serialRun (logOf does empty fs)) (lastOf does empty fs)
@@ -137,6 +145,7 @@ pub each-ruled-out : RuledOut
 unfolding all-rules all-told lastOf logOf answeredBy orderedb saysNothing saysWaiting refusesAll sameRecord
     storesNothing firstFrameOnly losesCommit putsBackLate ownReadBars nothingFirst showsPrivate ignoresWrites
     writesTwice ticksAtWrites neverExpires lastExceptionFirst lastServedFirst servesEnded newestFirst newestInService
+    takesLongCommits
 each-ruled-out =
     record {
       says-nothing = λ d.
@@ -208,5 +217,8 @@ each-ruled-out =
       newest-in-service = λ d.
           by-said newestInService d (take-by 2 0 9 7 ∷ create-by 1 9 ∷ write-by 1 1 9 E ∷ write-by 1 1 9 E ∷ [])
           (commit-by 1 1) refl refl (entryAt 1) (λ (q : 1 ≡ 2). omega arith);
+      -- refused with 7 where its length is wrong
+      takes-long-commits = λ d.
+          let q : _≡_ {A = ℕ} 7 3 = by-judged takesLongCommits d (commit-by 1 1 ++ fourBytes 0) in omega arith;
       answers-none = λ d. d .answers [] empty (empty, refl, begun empty) (handIn a-tick) .2;
     }

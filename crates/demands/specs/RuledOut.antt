@@ -1,20 +1,21 @@
 -- What the demands rule out: a small wrong space for each of document 01's Contracts c, for each mistake that students
--- make, for silence, order and time, and for the newest mark first; and the statement that the demand named for it
--- fails. (`Determined` says that no wrong space is left.)
+-- make, for silence, order and time, for the newest mark first, and for frames of another length; and the statement
+-- that the demand named for it fails. (`Determined` says that no wrong space is left.)
 use Prim.Native.Nat.{suc, _+_}
 use mathlib.Core.Bool.{Bool, not, cond, _&&_, _||_}
 use mathlib.Core.Path.{_≡_}
 use mathlib.Core.List.{List, [], _∷_, _++_, map, reverse}
 use lib.Dec.{eqb}
+use lib.ListN.{length, take}
 use Rattle.rules.specs.declared.Entry.{Entry}
 use Rattle.rules.specs.declared.LookUp.{LookUp}
-use Rattle.rules.specs.Numbers.{operationRefused}
+use Rattle.rules.specs.Numbers.{opCreate, opCommit, operationRefused}
 use Rattle.rules.specs.Lists.{filterb, findb}
 use Rattle.rules.specs.Time.{reached}
 use Rattle.rules.specs.State.{Model, withEntries, withWaits, withClock, withNextEntry}
 use Rattle.rules.specs.Template.{matches}
 use Rattle.rules.specs.Holds.{visible, oldest}
-use Rattle.rules.specs.Frame.{Frame, decode, isWrite, isLookUp, isCommit, isTick, serves}
+use Rattle.rules.specs.Frame.{Frame, byteAt, decode, frameLength, isWrite, isLookUp, isCommit, isTick, serves}
 use Rattle.rules.specs.Records.{written, found, committed, exception, ticked}
 use Rattle.rules.specs.Done.{Carried, Done, after, quiet}
 use Rattle.rules.specs.LookUp.{lookUpOf, handOut, answer, answerNothing, answerWaiting}
@@ -209,6 +210,14 @@ newestInService =
     let others = after (c .own) (newestServed (c .model)) in
     cond (isTick (f .op)) (tickWith dropEnded (then newestServed closeWaits) m) others)
 
+-- "Every frame is judged as before" (document 02, T-06)
+
+-- takes a commit that is as long as a create, by its front
+unfoldable pub takesLongCommits : Stepper
+takesLongCommits m bs area =
+    cond (isCommit (byteAt bs 0) && eqb (length bs) (frameLength opCreate))
+    (step m (take (frameLength opCommit) bs) area) (step m bs area)
+
 -- answers no frame at all
 abbrev pub mute : Machine
 mute = record { State = Model; view = λ m. m; Empty = theRules .Empty; Steps = λ m h n a. ⊥ }
@@ -236,4 +245,5 @@ pub record RuledOut : Type 0 where
   pub serves-ended : Demand2 (spaceOf servesEnded) → ⊥
   pub newest-first : Demand2 (spaceOf newestFirst) → ⊥
   pub newest-in-service : Demand2 (spaceOf newestInService) → ⊥
+  pub takes-long-commits : Demand1 (spaceOf takesLongCommits) → ⊥
   pub answers-none : Demand1 mute → ⊥
