@@ -118,7 +118,8 @@ static void judge_lengths(void)
             space_empty(space);
             uint32_t number = space_step_number(space_step(space, any, length, answers, SPACE_STEP_BYTES));
             check((number == SPACE_REFUSAL_BAD_OPERATION) == !there_is, "2, by the operation byte");
-            check((number == SPACE_REFUSAL_BAD_LENGTH) == (there_is && length != lengths[operation]), "3, by the table");
+            check((number == SPACE_REFUSAL_BAD_LENGTH) == (there_is && length != lengths[operation]),
+                "3, by the table");
         }
 }
 
