@@ -1,28 +1,34 @@
 -- The length that is worked out is the table's.
 use Prim.Native.Nat.{ℕ, zero, suc}
-use mathlib.Core.Bool.{Bool, cond, _||_, or-true}
-use mathlib.Core.Path.{_≡_, refl}
+use mathlib.Core.Bool.{Bool, true, false, cond, _||_, or-true}
+use mathlib.Core.Logic.{⊎-elim}
+use mathlib.Core.Path.{_≡_, refl, sym, ap}
 use native.Mathlib.Omega.{arith}
 use lib.Dec.{eqb, leb, ltb}
-use borrow.Author.Tests.{lt-ltb}
+use lib.ListN.{List·getD-eq-default}
+use borrow.Author.Tests.{ltb-true, ltb-false}
 use Rattle.rules.specs.Numbers.{opTakeIfExists, opCreate, opAbort, opTick}
-use Rattle.rules.specs.Frame.{frameLength, layoutOf}
+use Rattle.rules.specs.Frame.{Layout, layouts, layoutOf, frameLength}
+use Rattle.rules.proofs.BoolLaws.{bool-cases}
+use Rattle.rules.proofs.OperationLaws.{op-cases}
 use Rattle.codec.specs.Lengths.{lengthByRule, LengthsAsBefore}
+use Rattle.codec.proofs.FormLaws.{is-operation}
 
+-- for each operation, and for what is none
 pub lengths-as-before : LengthsAsBefore
 unfolding lengthByRule frameLength layoutOf
 lengths-as-before zero = refl
-lengths-as-before (suc zero) = refl
-lengths-as-before (suc (suc zero)) = refl
-lengths-as-before (suc (suc (suc zero))) = refl
-lengths-as-before (suc (suc (suc (suc zero)))) = refl
-lengths-as-before (suc (suc (suc (suc (suc zero))))) = refl
-lengths-as-before (suc (suc (suc (suc (suc (suc zero)))))) = refl
-lengths-as-before (suc (suc (suc (suc (suc (suc (suc zero))))))) = refl
-lengths-as-before (suc (suc (suc (suc (suc (suc (suc (suc zero)))))))) = refl
-lengths-as-before (suc (suc (suc (suc (suc (suc (suc (suc (suc zero))))))))) = refl
-lengths-as-before (suc (suc (suc (suc (suc (suc (suc (suc (suc (suc n)))))))))) =
-    rw (lt-ltb opTick (suc (suc (suc (suc (suc (suc (suc (suc (suc (suc n)))))))))) (omega arith), or-true)
+lengths-as-before (suc n) = ⊎-elim none one (bool-cases (ltb opTick (suc n)))
+  where
+    none : ltb opTick (suc n) ≡ true → lengthByRule (suc n) ≡ frameLength (suc n)
+    none t =
+        let past = List·getD-eq-default layouts (layoutOf 0) (ltb-true opTick (suc n) t) in
+        rw (t, or-true) (sym (ap (λ (l : Layout). l .size) past))
+
+    one : ltb opTick (suc n) ≡ false → lengthByRule (suc n) ≡ frameLength (suc n)
+    one t =
+        op-cases (λ op. lengthByRule op ≡ frameLength op) (suc n)
+        (is-operation (suc n) (omega arith) (ltb-false opTick (suc n) t)) refl refl refl refl refl refl refl refl refl
 
 -- by the tests on the way to it
 pub length-is : (op : ℕ) {no-op fields lease txn : Bool} → (eqb op 0 || ltb opTick op) ≡ no-op
