@@ -17,22 +17,24 @@ use Rattle.rules.specs.Lists.{filterb}
 use Rattle.rules.specs.Numbers.{maxEntries, maxTxns, maxWaits, stepRecords, areaRefused}
 use Rattle.rules.specs.Time.{reached}
 use Rattle.rules.specs.State.{Model, Bounded}
-use Rattle.rules.specs.Holds.{available, oldest, someAvailable}
-use Rattle.rules.specs.Frame.{Frame, decode, isWrite, isLookUp, isCreate, isTick, serves}
+use Rattle.rules.specs.Holds.{oldest}
+use Rattle.rules.specs.Frame.{Frame, decode, isWrite, isCreate, isTick, serves}
 use Rattle.rules.specs.Records.{exception, nothing}
 use Rattle.rules.specs.Done.{Carried, Done, quiet}
 use Rattle.rules.specs.Write.{newEntry, stored, write}
-use Rattle.rules.specs.LookUp.{lookUpOf, givesNothing, mustWait, answer, answerFound, answerNothing, answerWaiting, lookUp}
+use Rattle.rules.specs.LookUp.{lookUpOf, givesNothing, answer, answerFound, answerNothing, answerWaiting, lookUp}
 use Rattle.rules.specs.Transactions.{create, released, withoutTxn, commit, abort}
 use Rattle.rules.specs.Service.{service}
 use Rattle.rules.specs.Tick.{tick, endedTxns, abortAll, dropEnded, lapsed, closeWaits}
-use Rattle.rules.specs.Refusals.{entriesFull, txnsFull, waitsFull}
+use Rattle.rules.specs.Refusals.{entriesFull, txnsFull}
+use Rattle.rules.specs.Sound.{Sound}
 use Rattle.rules.specs.Step.{Outcome, commitFrame, abortFrame, ownPart, finish, carriedOut, step, accepted, refusedWith}
-use Rattle.rules.proofs.ListLaws.{length-filter, none-any}
+use Rattle.rules.proofs.ListLaws.{length-filter}
 use Rattle.rules.proofs.BoolLaws.{and-false-right, cond-cases}
 use Rattle.rules.proofs.StepCases.{step-cases, own-cases}
 use Rattle.rules.proofs.ServeLength.{handOut-length, serve-length}
 use Rattle.rules.proofs.RefusalLaws.{Clear, clear, is-one}
+use Rattle.rules.proofs.SoundLaws.{room-left}
 
 stored-fits : (m : Model) (f : Frame) → isWrite (f .op) ≡ true → entriesFull m f ≡ false → Bounded m
     → Bounded (stored m f)
@@ -46,31 +48,22 @@ stored-fits m f t e b = record { entries-fit = room; txns-fit = b .txns-fit; wai
         (and-false-right (isWrite (f .op) && not (eqb (f .leaseOrTimeout) 0)) _ (ap₂ (λ x y. x && not y) t q) e) in
         omega (arith, free, length-append (m .entries) (newEntry m f ∷ [])))
 
-answer-fits : (m : Model) (f : Frame) → isLookUp (f .op) ≡ true → waitsFull m f ≡ false → Bounded m → (o : Option Entry)
-    → oldest (m .txns) (lookUpOf m f) (m .entries) ≡ o → Bounded (answer m (lookUpOf m f) (f .leaseOrTimeout) o .model)
-unfolding answer answerFound answerNothing answerWaiting waitsFull mustWait
-answer-fits m f t full b (some e) q =
+answer-fits : (m : Model) (f : Frame) → length (m .waits) < maxWaits → Bounded m → (o : Option Entry)
+    → Bounded (answer m (lookUpOf m f) (f .leaseOrTimeout) o .model)
+unfolding answer answerFound answerNothing answerWaiting
+answer-fits m f free b (some e) =
     record {
       entries-fit = omega (arith, handOut-length (m .txns) (lookUpOf m f) e (m .entries), b .entries-fit);
       txns-fit = b .txns-fit;
       waits-fit = b .waits-fit;
     }
-answer-fits m f t full b none q =
-    cond-cases (λ (c : Carried). Bounded (c .model)) (givesNothing m w (f .leaseOrTimeout)) (λ n. b)
+answer-fits m f free b none =
+    cond-cases (λ (c : Carried). Bounded (c .model)) (givesNothing m (lookUpOf m f) (f .leaseOrTimeout)) (λ n. b)
     (λ n. record {
       entries-fit = b .entries-fit;
       txns-fit = b .txns-fit;
-      waits-fit = omega (arith, free n, length-append (m .waits) (w ∷ []));
+      waits-fit = omega (arith, length-append (m .waits) (lookUpOf m f ∷ []));
     })
-  where
-    w : LookUp
-    w = lookUpOf m f
-
-    free : givesNothing m w (f .leaseOrTimeout) ≡ false → length (m .waits) < maxWaits
-    free n =
-        leb-false maxWaits (length (m .waits))
-        (and-false-right (isLookUp (f .op) && (not (someAvailable (m .txns) w (m .entries)) && not (givesNothing m w (f .leaseOrTimeout)))) _
-        (ap₂ (λ x y. x && y) t (ap₂ (λ x y. not x && not y) (none-any (available (m .txns) w) (m .entries) q) n)) full)
 
 create-fits : (m : Model) (f : Frame) → isCreate (f .op) ≡ true → txnsFull m f ≡ false → Bounded m
     → Bounded (create m f .model)
@@ -109,15 +102,14 @@ unfolding abortAll
 abortAll-fits [] m b = b
 abortAll-fits (t ∷ ts) m b = abortAll-fits ts (abort (t .id .0) m) (abort-fits (t .id .0) m b)
 
-own-fits : (m : Model) (bs : List ℕ) (area : ℕ) → Clear m bs area → Bounded m
+own-fits : (m : Model) (bs : List ℕ) (area : ℕ) → Clear m bs area → Sound m → Bounded m
     → Bounded (ownPart m (decode bs) .model)
 unfolding write lookUp commitFrame abortFrame tick
-own-fits m bs area c b =
+own-fits m bs area c s b =
     let f = decode bs in
-    let w = lookUpOf m f in
     own-cases (λ (d : Carried). Bounded (d .model)) m f (is-one bs (c .operation))
     (λ t. stored-fits m f t (c .entry-room) b)
-    (λ t. answer-fits m f t (c .wait-room) b (oldest (m .txns) w (m .entries)) refl)
+    (λ t. answer-fits m f (room-left m f t (c .party) (c .free) s) b (oldest (m .txns) (lookUpOf m f) (m .entries)))
     (λ t. create-fits m f t (c .txn-room) b)
     (λ t. commit-fits (f .txn) m b)
     (λ t. abort-fits (f .txn) m b)
@@ -208,15 +200,15 @@ finish-fits f m b = record { model-fits = closed-fits .model-fits; records-fit =
     few = simp length-append (omega (arith, ended-fits .records-fit, served-fits .1, closed-fits .records-fit))
 
 -- capacities are kept, and a step writes at most 25 records
-pub step-fits : (m : Model) (bs : List ℕ) (area : ℕ) → Bounded m
+pub step-fits : (m : Model) (bs : List ℕ) (area : ℕ) → Sound m → Bounded m
     → Bounded (step m bs area .model) × (length (step m bs area .records) ≤ stepRecords)
 unfolding refusedWith accepted carriedOut
-step-fits m bs area b =
+step-fits m bs area s b =
     step-cases (λ (o : Outcome). Bounded (o .model) × (length (o .records) ≤ stepRecords)) m bs area
     (λ n. (
       b,
       cond-cases (λ (l : List Record). length l ≤ stepRecords) (eqb n areaRefused) (λ q. omega arith)
           (λ q. omega arith),
     ))
-    (λ e. let r = finish-fits (decode bs) (ownPart m (decode bs) .model) (own-fits m bs area (clear m bs area e) b) in
+    (λ e. let r = finish-fits (decode bs) (ownPart m (decode bs) .model) (own-fits m bs area (clear m bs area e) s b) in
     (r .model-fits, omega (arith, r .records-fit)))

@@ -11,7 +11,7 @@ use Rattle.rules.specs.Numbers.{stepArea, areaRefused}
 use Rattle.rules.specs.State.{Model}
 use Rattle.rules.specs.Frame.{Frame, decode, isOperation}
 use Rattle.rules.specs.Refusals.{noOperation, wrongLength, malformed, wrongParty, partyWaits, notLive, notOwn}
-use Rattle.rules.specs.Refusals.{noLease, tooLate, entriesFull, txnsFull, noNumber, waitsFull, refusal, formRows, admissionRows, roomRows, waitRows}
+use Rattle.rules.specs.Refusals.{noLease, tooLate, entriesFull, txnsFull, noNumber, rows, refusal, formRows, admissionRows, roomRows}
 use Rattle.rules.specs.Requests.{formRefusal, spaceRefusal}
 use Rattle.rules.proofs.BoolLaws.{cond-cases, and-left, and-right, or-right}
 
@@ -52,15 +52,11 @@ pub record Clear (m : Model) (bs : List ℕ) (area : ℕ) : Type 0 where
   pub entry-room : entriesFull m (decode bs) ≡ false
   pub txn-room : txnsFull m (decode bs) ≡ false
   pub numbers : noNumber m (decode bs) ≡ false
-  pub wait-room : waitsFull m (decode bs) ≡ false
 
 pub clear : (m : Model) (bs : List ℕ) (area : ℕ) → refusal m bs area ≡ 0 → Clear m bs area
 unfolding refusal
 clear m bs area e =
-    let f = decode bs in
-    let r =
-    none-applies ((ltb area stepArea, areaRefused) ∷ formRows bs f ++ admissionRows m f ++ roomRows m f ++ waitRows m f) refl
-    e in
+    let r = none-applies (rows m bs area) refl e in
     record {
       room = r 0;
       operation = r 1;
@@ -75,7 +71,6 @@ clear m bs area e =
       entry-room = r 10;
       txn-room = r 11;
       numbers = r 12;
-      wait-room = r 13;
     }
 
 -- ---- the table in parts
@@ -104,7 +99,7 @@ pub refusal-parts : (m : Model) (bs : List ℕ) (area : ℕ)
 unfolding refusal formRefusal spaceRefusal
 refusal-parts m bs area =
     let f = decode bs in
-    ap (λ n. cond (ltb area stepArea) areaRefused n) (first-append (formRows bs f) (admissionRows m f ++ roomRows m f ++ waitRows m f) refl)
+    ap (λ n. cond (ltb area stepArea) areaRefused n) (first-append (formRows bs f) (admissionRows m f ++ roomRows m f) refl)
 
 -- no frame's bytes, and no frame against the space, are refused with 1
 pub form-not-area : (bs : List ℕ) → eqb (formRefusal bs) areaRefused ≡ false
@@ -113,7 +108,7 @@ form-not-area bs = first-without areaRefused (formRows bs (decode bs)) refl refl
 
 pub space-not-area : (m : Model) (f : Frame) → eqb (spaceRefusal m f) areaRefused ≡ false
 unfolding spaceRefusal
-space-not-area m f = first-without areaRefused (admissionRows m f ++ roomRows m f ++ waitRows m f) refl refl
+space-not-area m f = first-without areaRefused (admissionRows m f ++ roomRows m f) refl refl
 
 -- a frame that 2 lets pass has an operation
 pub is-one : (bs : List ℕ) → noOperation bs (decode bs) ≡ false → isOperation (decode bs .op) ≡ true

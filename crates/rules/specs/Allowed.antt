@@ -6,6 +6,7 @@ use lib.ListN.{length}
 use Rattle.rules.specs.declared.Record.{Record}
 use Rattle.rules.specs.Words.{view}
 use Rattle.rules.specs.Records.{areaAfter}
+use Rattle.rules.specs.Sound.{Sound}
 use Rattle.rules.specs.Step.{step}
 use Rattle.rules.specs.Tray.{runTray, hostNumber}
 
@@ -17,11 +18,16 @@ pub record Answered : Type 0 where
   pub number : ℕ
   pub area : List ℕ
 
+-- "A frame's statement covers every space that frames can make of the empty one": what is said of a frame that is
+-- carried out is said of sound spaces. Of a refused one it is said of any words.
+abbrev pub Covered : List ℕ → ℕ → Type 0
+Covered before number = number ≡ 0 → Sound (view before)
+
 -- The words of a space, a frame and an answers area are allowed to become the words `after` and what is answered:
 -- exactly what the rules give. A refused frame gives the very same words back.
 pub record Allowed (before frame area after : List ℕ) (a : Answered) : Type 0 where
-  pub space : view after ≡ step (view before) frame (length area) .model
-  pub records : a .records ≡ step (view before) frame (length area) .records
+  pub space : Covered before (a .number) → view after ≡ step (view before) frame (length area) .model
+  pub records : Covered before (a .number) → a .records ≡ step (view before) frame (length area) .records
   pub count : a .count ≡ length (a .records)
   pub number : a .number ≡ step (view before) frame (length area) .number
   pub bytes : a .area ≡ areaAfter (a .records) area

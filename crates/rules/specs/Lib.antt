@@ -23,6 +23,7 @@ pub mod Tick
 -- Refused frames, a step
 pub mod Refusals
 pub mod Step
+pub mod Sound
 -- The serial run
 pub mod SerialRun
 -- Trays, what is printed

@@ -151,13 +151,9 @@ entriesRefused = 11
 abbrev pub txnsRefused : ℕ
 txnsRefused = 12
 
--- no next number
+-- no next number. (14 is never given out: document 02, T-04.)
 abbrev pub numberRefused : ℕ
 numberRefused = 13
-
--- a look-up must wait and 16 wait already
-abbrev pub waitsRefused : ℕ
-waitsRefused = 14
 
 -- Refusals of a tray
 

@@ -1,5 +1,5 @@
 -- "Refused frames": the table, row by row. "Checked in this order; the first that applies is given, and none
--- otherwise."
+-- otherwise." Its row of 14 is gone (document 02, T-04): no frame comes to it on a space that frames made.
 use Prim.Native.Nat.{ℕ, _+_}
 use mathlib.Core.Bool.{Bool, false, not, cond, _&&_, _||_}
 use mathlib.Core.List.{List, [], _∷_, _++_}
@@ -9,16 +9,15 @@ use lib.ListN.{length}
 use Rattle.rules.specs.declared.Txn.{Txn}
 use Rattle.rules.specs.declared.LookUp.{LookUp}
 use Rattle.rules.specs.Lists.{anyb, firstRow}
-use Rattle.rules.specs.Numbers.{forever, lastClock, maxParty, maxEntries, maxTxns, maxWaits, stepArea}
+use Rattle.rules.specs.Numbers.{forever, lastClock, maxParty, maxEntries, maxTxns, stepArea}
 use Rattle.rules.specs.Numbers.{areaRefused, operationRefused, lengthRefused, formRefused, partyRefused}
 use Rattle.rules.specs.Numbers.{waitingRefused, notLiveRefused, notOwnRefused, leaseRefused, clockRefused}
-use Rattle.rules.specs.Numbers.{entriesRefused, txnsRefused, numberRefused, waitsRefused}
+use Rattle.rules.specs.Numbers.{entriesRefused, txnsRefused, numberRefused}
 use Rattle.rules.specs.State.{Model}
 use Rattle.rules.specs.Template.{bit}
 use Rattle.rules.specs.Holds.{liveTxn}
-use Rattle.rules.specs.Frame.{Frame, decode, frameLength, isOperation, isWrite, isLookUp, isCreate, isTick}
+use Rattle.rules.specs.Frame.{Frame, decode, frameLength, isOperation, isWrite, isCreate, isTick}
 use Rattle.rules.specs.Frame.{hasTemplate, hasLeaseOrTimeout, namesNoTxn, endsTxn}
-use Rattle.rules.specs.LookUp.{lookUpOf, mustWait}
 
 -- 2: empty frame, or operation not 1-9
 unfoldable pub noOperation : List ℕ → Frame → Bool
@@ -94,10 +93,6 @@ txnsFull m f = isCreate (f .op) && leb maxTxns (length (m .txns))
 unfoldable pub noNumber : Model → Frame → Bool
 noNumber m f = isWrite (f .op) && leb forever (m .nextEntry) || isCreate (f .op) && leb forever (m .nextTxn)
 
--- 14: a look-up must wait and 16 wait already
-unfoldable pub waitsFull : Model → Frame → Bool
-waitsFull m f = isLookUp (f .op) && mustWait m (lookUpOf m f) (f .leaseOrTimeout) && leb maxWaits (length (m .waits))
-
 -- The table. Each row: whether it applies, and its number.
 
 -- 2 to 5, of the frame's bytes alone
@@ -127,13 +122,12 @@ roomRows m f =
     ∷ (noNumber m f, numberRefused)
     ∷ []
 
--- 14, of a look-up that must wait
-abbrev pub waitRows : Model → Frame → List (Bool × ℕ)
-waitRows m f = (waitsFull m f, waitsRefused) ∷ []
+-- the whole table, in the order in which it is judged
+abbrev pub rows : Model → List ℕ → ℕ → List (Bool × ℕ)
+rows m bs area =
+    let f = decode bs in
+    (ltb area stepArea, areaRefused) ∷ formRows bs f ++ admissionRows m f ++ roomRows m f
 
 -- the number of the first that applies, or 0
 unfoldable pub refusal : Model → List ℕ → ℕ → ℕ
-refusal m bs area =
-    let f = decode bs in
-    firstRow
-    ((ltb area stepArea, areaRefused) ∷ formRows bs f ++ admissionRows m f ++ roomRows m f ++ waitRows m f)
+refusal m bs area = firstRow (rows m bs area)

@@ -15,7 +15,7 @@ use Rattle.rules.specs.Lists.{firstRow}
 use Rattle.rules.specs.State.{Model}
 use Rattle.rules.specs.Frame.{Frame, decode, lookUpOp}
 use Rattle.rules.specs.Records.{noFields}
-use Rattle.rules.specs.Refusals.{formRows, admissionRows, roomRows, waitRows}
+use Rattle.rules.specs.Refusals.{formRows, admissionRows, roomRows}
 
 -- a frame by operation, party, mask, transaction, lease or timeout, and fields; byte 3 is 0
 abbrev pub frame : ℕ → ℕ → ℕ → ℕ → ℕ → Fields → Frame
@@ -57,9 +57,9 @@ numberOf (Refused n) = n
 unfoldable pub formRefusal : List ℕ → ℕ
 formRefusal bs = firstRow (formRows bs (decode bs))
 
--- and those that judge it against the space: the first of 6 to 14 that applies, or 0
+-- and those that judge it against the space: the first of 6 to 13 that applies, or 0
 unfoldable pub spaceRefusal : Model → Frame → ℕ
-spaceRefusal m f = firstRow (admissionRows m f ++ roomRows m f ++ waitRows m f)
+spaceRefusal m f = firstRow (admissionRows m f ++ roomRows m f)
 
 -- a frame's bytes are decoded rightly: refused with the first number that applies, or asked for what they say
 pub record Decodes (bs : List ℕ) (r : Decoded) : Type 0 where

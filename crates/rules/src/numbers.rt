@@ -89,9 +89,8 @@ pub const ENTRIES_REFUSED: u8 = 11;
 
 pub const TXNS_REFUSED: u8 = 12;
 
+// 14 is never given out.
 pub const NUMBER_REFUSED: u8 = 13;
-
-pub const WAITS_REFUSED: u8 = 14;
 
 pub const TRAY_REFUSED: u8 = 15;
 

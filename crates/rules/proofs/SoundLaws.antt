@@ -1,0 +1,221 @@
+-- Every space that frames make of the empty one is sound: the empty one is, and each step keeps it. So at most 16
+-- look-ups wait, and one that 5 and 6 let pass finds room.
+use Prim.Native.Nat.{ℕ, zero, suc, _+_, _≤_, _<_}
+use mathlib.Core.Bool.{Bool, true, false, cond, not, _||_}
+use mathlib.Core.Logic.{_⊎_, inl, inr, ⊎-elim}
+use mathlib.Core.Path.{_≡_, refl, sym, ap, _∙_, subst, subst⁻¹}
+use mathlib.Core.Option.{Option, none, some}
+use mathlib.Core.List.{List, [], _∷_, _++_, List·Memᴰ, List·Memᴰ·head, List·Memᴰ·tail, List·Memᴰ·not-nil}
+use mathlib.Core.List.{List·Memᴰ·cases-cons, List·Memᴰ·append-cases, List·Memᴰ·eq-of-singleton}
+use native.Mathlib.Omega.{arith}
+use borrow.Author.Tests.{eqb-true, eqb-false, eq-eqb, ne-eqb, leb-true, leb-false, le-leb, lt-leb, ltb-false}
+use lib.Dec.{eqb, leb, ltb}
+use lib.ListN.{length, length-append}
+use Rattle.rules.specs.declared.Entry.{Entry}
+use Rattle.rules.specs.declared.LookUp.{LookUp}
+use Rattle.rules.specs.declared.Txn.{Txn}
+use Rattle.rules.specs.Lists.{filterb}
+use Rattle.rules.specs.Numbers.{maxParty, maxWaits}
+use Rattle.rules.specs.State.{Model, empty, withWaits}
+use Rattle.rules.specs.Sound.{IsParty, ofParty, OneEach, Sound}
+use Rattle.rules.specs.Frame.{Frame, decode, isLookUp, isTick, serves}
+use Rattle.rules.specs.Done.{Carried, Done, quiet}
+use Rattle.rules.specs.LookUp.{lookUpOf, givesNothing, answer, answerFound, answerNothing, answerWaiting, lookUp}
+use Rattle.rules.specs.Holds.{oldest}
+use Rattle.rules.specs.Write.{stored, write}
+use Rattle.rules.specs.Transactions.{create, commit, abort}
+use Rattle.rules.specs.Service.{Served, serve, service}
+use Rattle.rules.specs.Tick.{tick, endedTxns, abortAll, dropEnded, lapsed, closeWaits}
+use Rattle.rules.specs.Refusals.{wrongParty, partyWaits}
+use Rattle.rules.specs.Step.{Outcome, commitFrame, abortFrame, ownPart, finish, carriedOut, step, accepted, refusedWith}
+use Rattle.rules.proofs.ListLaws.{mem-filter, none-mem, any-filter, all-false, filter-pass, count, count-append}
+use Rattle.rules.proofs.ListLaws.{count-cons, count-filter}
+use Rattle.rules.proofs.BoolLaws.{bool-cases, cond-cases, or-left, or-right}
+use Rattle.rules.proofs.LayoutLaws.{lookUp-not-tick}
+use Rattle.rules.proofs.StepCases.{step-cases, own-cases, serve-ind}
+use Rattle.rules.proofs.RefusalLaws.{Clear, clear, is-one}
+
+-- ---- at most 16 wait: of the parties 1 to n, at most n
+one-at-most : (b : Bool) → cond b 1 0 ≤ 1
+one-at-most true = omega arith
+one-at-most false = omega arith
+
+module _ (n : ℕ) where
+  one-more : (p : ℕ) → cond (leb p (suc n)) 1 0 ≤ cond (leb p n) 1 0 + cond (eqb p (suc n)) 1 0
+  one-more p =
+      let l = one-at-most (leb p (suc n)) in
+      ⊎-elim (λ t. rw t (omega arith))
+      (λ t. let above = leb-false p n t in
+      ⊎-elim (λ e. rw e (omega arith))
+      (λ e. let other = eqb-false p (suc n) e in rw (lt-leb p (suc n) (omega arith)) (omega arith))
+      (bool-cases (eqb p (suc n))))
+      (bool-cases (leb p n))
+
+  counted : (ws : List LookUp)
+      → count (λ w. leb (w .party) (suc n)) ws ≤ count (λ w. leb (w .party) n) ws + count (ofParty (suc n)) ws
+  counted [] = omega arith
+  counted (w ∷ ws) =
+      let rest = counted ws in
+      omega (
+        arith,
+        one-more (w .party),
+        count-cons (λ v. leb (v .party) (suc n)) w ws,
+        count-cons (λ v. leb (v .party) n) w ws,
+        count-cons (ofParty (suc n)) w ws,
+      )
+
+few : (n : ℕ) (m : Model) → Sound m → count (λ w. leb (w .party) n) (m .waits) ≤ n
+few zero m s =
+    let none =
+    any-filter (λ w. leb (w .party) 0) (m .waits)
+    (all-false (λ w. leb (w .party) 0) (m .waits) (λ w i. lt-leb (w .party) 0 (s .parties w i .first))) in
+    omega (arith, ap length none)
+few (suc n) m s = let l = s .one-each (suc n) in omega (arith, few n m s, counted n (m .waits))
+
+pub waits-fit : (m : Model) → Sound m → length (m .waits) ≤ maxWaits
+waits-fit m s =
+    let all =
+    filter-pass (λ w. leb (w .party) maxParty) (m .waits)
+    (λ w i. le-leb (w .party) maxParty (s .parties w i .last)) in
+    omega (arith, few maxParty m s, ap length all)
+
+-- ---- some of the look-ups that waited
+record SomeOf (ws vs : List LookUp) : Type 0 where
+  among : (w : LookUp) → List·Memᴰ w vs → List·Memᴰ w ws
+  no-more : (q : LookUp → Bool) → count q vs ≤ count q ws
+
+all-of : (ws : List LookUp) → SomeOf ws ws
+all-of ws = record { among = λ w i. i; no-more = λ q. omega arith }
+
+then : {us vs ws : List LookUp} → SomeOf ws vs → SomeOf vs us → SomeOf ws us
+then a b =
+    record { among = λ w i. a .among w (b .among w i); no-more = λ q. omega (arith, a .no-more q, b .no-more q) }
+
+left-of : (p : LookUp → Bool) (ws : List LookUp) → SomeOf ws (filterb p ws)
+left-of p ws =
+    record { among = λ w i. mem-filter p ws i .0; no-more = λ q. omega (arith, count-filter q p ws) }
+
+served-of : (ts : List Txn) (es : List Entry) (ws : List LookUp) → SomeOf ws (serve ts es ws .waits)
+served-of ts es ws =
+    serve-ind ts (λ es ws r. SomeOf ws (r .waits)) (λ es. all-of [])
+    (λ es w ws e below. record {
+      among = λ v i. ⊎-elim (λ q. List·Memᴰ·head q) (λ j. List·Memᴰ·tail (below .among v j)) (List·Memᴰ·cases-cons i);
+      no-more = λ q.
+          omega (arith, below .no-more q, count-cons q w ws, count-cons q w (serve ts es ws .waits));
+    })
+    (λ es w ws x e below. record {
+      among = λ v i. List·Memᴰ·tail (below .among v i);
+      no-more = λ q. omega (arith, below .no-more q, count-cons q w ws);
+    })
+    es
+    ws
+
+keeps-some : {m n : Model} → Sound m → SomeOf (m .waits) (n .waits) → Sound n
+keeps-some s o =
+    record {
+      parties = λ w i. s .parties w (o .among w i);
+      one-each = λ p. let l = s .one-each p in omega (arith, o .no-more (ofParty p));
+    }
+
+-- ---- a look-up that 5 and 6 let pass arrives
+is-party : (f : Frame) → isTick (f .op) ≡ false → wrongParty f ≡ false → IsParty (f .party)
+unfolding wrongParty
+is-party f t e =
+    let r : (eqb (f .party) 0 || ltb maxParty (f .party)) ≡ false = rw t at e in
+    let other = eqb-false (f .party) 0 (or-left (eqb (f .party) 0) _ r) in
+    record { first = omega arith; last = ltb-false maxParty (f .party) (or-right (eqb (f .party) 0) _ r) }
+
+module _ (w : LookUp) (ws : List LookUp) where
+  pub each-snoc : ((v : LookUp) → List·Memᴰ v ws → v .party ≡ w .party → ⊥)
+      → ((p : ℕ) → count (ofParty p) ws ≤ 1) → (p : ℕ) → count (ofParty p) (ws ++ (w ∷ [])) ≤ 1
+  each-snoc free each p =
+      let l = each p in
+      let split = count-append (ofParty p) ws (w ∷ []) in
+      let last = count-cons (ofParty p) w [] in
+      let one = one-at-most (ofParty p w) in
+      ⊎-elim (λ e. let none = any-filter (ofParty p) ws
+      (all-false (ofParty p) ws (λ v i. ne-eqb (v .party) p (λ q. free v i (q ∙ sym (eqb-true (w .party) p e))))) in
+      omega (arith, ap length none)) (λ e. omega (arith, ap {B = ℕ} (λ b. cond b 1 0) e)) (bool-cases (ofParty p w))
+
+pub sound-arrives : (m : Model) (f : Frame) → isLookUp (f .op) ≡ true → wrongParty f ≡ false → partyWaits m f ≡ false
+    → Sound m → Sound (withWaits (m .waits ++ (lookUpOf m f ∷ [])) m)
+unfolding lookUpOf partyWaits
+sound-arrives m f l e free s =
+    record {
+      parties = λ v i.
+          ⊎-elim (λ j. s .parties v j)
+          (λ j. subst⁻¹ (λ (x : LookUp). IsParty (x .party)) (List·Memᴰ·eq-of-singleton j)
+          (is-party f (lookUp-not-tick (f .op) l) e)) (List·Memᴰ·append-cases (m .waits) i);
+      one-each = each-snoc (lookUpOf m f) (m .waits)
+          (λ v i q. eqb-false (v .party) (f .party) (none-mem (ofParty (f .party)) free i) q) (s .one-each);
+    }
+
+-- so it finds room
+pub room-left : (m : Model) (f : Frame) → isLookUp (f .op) ≡ true → wrongParty f ≡ false → partyWaits m f ≡ false
+    → Sound m → length (m .waits) < maxWaits
+room-left m f l e free s =
+    omega (arith, waits-fit _ (sound-arrives m f l e free s), length-append (m .waits) (lookUpOf m f ∷ []))
+
+-- ---- the parts of a step
+abortAll-some : (ts : List Txn) (m : Model) → SomeOf (m .waits) (abortAll ts m .waits)
+unfolding abortAll abort
+abortAll-some [] m = all-of (m .waits)
+abortAll-some (t ∷ ts) m =
+    then (left-of (λ w. not (eqb (w .txn .0) (t .id .0))) (m .waits)) (abortAll-some ts (abort (t .id .0) m))
+
+answer-sound : (m : Model) (f : Frame) → isLookUp (f .op) ≡ true → wrongParty f ≡ false → partyWaits m f ≡ false
+    → Sound m → (o : Option Entry) → Sound (answer m (lookUpOf m f) (f .leaseOrTimeout) o .model)
+unfolding answer answerFound answerNothing answerWaiting
+answer-sound m f l e free s (some x) = keeps-some s (all-of (m .waits))
+answer-sound m f l e free s none =
+    cond-cases (λ (c : Carried). Sound (c .model)) (givesNothing m (lookUpOf m f) (f .leaseOrTimeout)) (λ _. s)
+    (λ _. sound-arrives m f l e free s)
+
+own-sound : (m : Model) (bs : List ℕ) (area : ℕ) → Clear m bs area → Sound m → Sound (ownPart m (decode bs) .model)
+unfolding write stored lookUp create commitFrame commit abortFrame abort tick
+own-sound m bs area c s =
+    let f = decode bs in
+    own-cases (λ (d : Carried). Sound (d .model)) m f (is-one bs (c .operation))
+    (λ t. keeps-some s (all-of (m .waits)))
+    (λ t. answer-sound m f t (c .party) (c .free) s (oldest (m .txns) (lookUpOf m f) (m .entries)))
+    (λ t. keeps-some s (all-of (m .waits)))
+    (λ t. keeps-some s (all-of (m .waits)))
+    (λ t. keeps-some s (left-of (λ w. not (eqb (w .txn .0) (f .txn))) (m .waits)))
+    (λ t. keeps-some s (all-of (m .waits)))
+
+finish-some : (f : Frame) (m : Model) → SomeOf (m .waits) (finish f m .model .waits)
+unfolding finish lapsed dropEnded service closeWaits
+finish-some f m = then ended-some (then served-some closed-some)
+  where
+    ended : Done
+    ended = cond (isTick (f .op)) (lapsed m) (quiet m)
+
+    ended-some : SomeOf (m .waits) (ended .model .waits)
+    ended-some =
+        cond-cases (λ (d : Done). SomeOf (m .waits) (d .model .waits)) (isTick (f .op))
+        (λ _. abortAll-some (endedTxns m) m) (λ _. all-of (m .waits))
+
+    served : Done
+    served = cond (serves f) (service (ended .model)) (quiet (ended .model))
+
+    served-some : SomeOf (ended .model .waits) (served .model .waits)
+    served-some =
+        cond-cases (λ (d : Done). SomeOf (ended .model .waits) (d .model .waits)) (serves f)
+        (λ _. served-of (ended .model .txns) (ended .model .entries) (ended .model .waits))
+        (λ _. all-of (ended .model .waits))
+
+    closed-some : SomeOf (served .model .waits)
+        (cond (isTick (f .op)) (closeWaits (served .model)) (quiet (served .model)) .model .waits)
+    closed-some =
+        cond-cases (λ (d : Done). SomeOf (served .model .waits) (d .model .waits)) (isTick (f .op))
+        (λ _. left-of _ (served .model .waits)) (λ _. all-of (served .model .waits))
+
+pub sound-empty : Sound empty
+sound-empty = record { parties = λ w i. absurd (List·Memᴰ·not-nil i); one-each = λ p. omega arith }
+
+pub sound-step : (m : Model) (bs : List ℕ) (area : ℕ) → Sound m → Sound (step m bs area .model)
+unfolding refusedWith accepted carriedOut
+sound-step m bs area s =
+    step-cases (λ (o : Outcome). Sound (o .model)) m bs area (λ n. s)
+    (λ e. keeps-some (own-sound m bs area (clear m bs area e) s)
+    (finish-some (decode bs) (ownPart m (decode bs) .model)))
