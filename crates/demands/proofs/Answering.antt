@@ -36,9 +36,9 @@ use Rattle.demands.proofs.ByRule.{space-follows, run-of}
 use Rattle.demands.proofs.JudgedProof.{number-is, refused-model}
 use Rattle.demands.proofs.Events.{Heard, Events, over, then}
 use Rattle.demands.proofs.EventsProof.{step-events}
-use Rattle.demands.proofs.Sound.{Sound}
+use Rattle.demands.proofs.Consistent.{Consistent}
 use Rattle.demands.proofs.Becomes.{waits-all, txns-all}
-use Rattle.demands.proofs.SoundProof.{sound-events, sound-empty, sound}
+use Rattle.demands.proofs.ConsistentProof.{consistent-events, consistent-empty, consistent}
 use Rattle.demands.proofs.Capacities.{bounded}
 use Rattle.demands.proofs.BoundsProof.{timely}
 use Rattle.demands.proofs.WordsOf.{Fits, words-of}
@@ -100,7 +100,7 @@ narrow-events p k (then {m} e rest) h =
     narrow-events p k rest
     (txns-all NarrowTxn e (λ _ _. (p, slot-fits (m .txns))) (h .0), waits-all NarrowWait e (λ _ _. (p, k)) (h .1))
 
-narrow-step : (i : Input) (m : Model) → Sound m × Narrow m → Narrow (step m (i .frame) (i .area) .model)
+narrow-step : (i : Input) (m : Model) → Consistent m × Narrow m → Narrow (step m (i .frame) (i .area) .model)
 narrow-step i m (s, h) = go (bool-cases (eqb (refusal m (i .frame) (i .area)) 0))
   where
     go : (eqb (refusal m (i .frame) (i .area)) 0 ≡ true) ⊎ (eqb (refusal m (i .frame) (i .area)) 0 ≡ false)
@@ -114,18 +114,18 @@ narrow-step i m (s, h) = go (bool-cases (eqb (refusal m (i .frame) (i .area)) 0)
 
 narrow : (is : List Input) → Narrow (made is)
 narrow is =
-    made-keep (λ m. Sound m × Narrow m)
+    made-keep (λ m. Consistent m × Narrow m)
     (λ i m h. (
-      sound-events (step-events m (i .frame) (i .area) (h .0 .ordered .txns)) (h .0),
+      consistent-events (step-events m (i .frame) (i .area) (h .0 .ordered .txns)) (h .0),
       narrow-step i
           m h,
     ))
-    (sound-empty, ((λ t i. absurd (List·Memᴰ·not-nil i)), λ w i. absurd (List·Memᴰ·not-nil i))) is .1
+    (consistent-empty, ((λ t i. absurd (List·Memᴰ·not-nil i)), λ w i. absurd (List·Memᴰ·not-nil i))) is .1
 
 fits : (is : List Input) → Fits (made is)
 fits is =
     let n = narrow is in
-    let s = sound is in
+    let s = consistent is in
     let e = timely is in
     record {
       bounded = bounded is;
@@ -170,7 +170,7 @@ space-answers log t r h = go (bool-cases (eqb (o .number) 0))
     allowed : (u : List ℕ) → view u ≡ o .model → ((o .number ≡ 0 → ⊥) → u ≡ t)
         → Allowed t (h .frame) (h .area) u (answeredBy o (h .area))
     allowed u s k =
-        record { space = s; records = refl; count = refl; number = refl; bytes = refl; unchanged = k }
+        record { space = λ _. s; records = λ _. refl; count = refl; number = refl; bytes = refl; unchanged = k }
 
     go : (eqb (o .number) 0 ≡ true) ⊎ (eqb (o .number) 0 ≡ false)
         → (u : List ℕ) × (a : Answered) × theSpace .Steps t h u a

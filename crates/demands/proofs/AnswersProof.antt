@@ -44,16 +44,16 @@ use Rattle.demands.proofs.Events.{Admitted, Heard, asking, saying, says
 use Rattle.demands.proofs.Events.{is-nothing, is-waiting, creates, commits, aborts, ticks, excepts, expires}
 use Rattle.demands.proofs.Becomes.{clock-moves}
 use Rattle.demands.proofs.EventsProof.{step-carries}
-use Rattle.demands.proofs.Sound.{Sound, not-inside}
-use Rattle.demands.proofs.SoundProof.{sound-event, Reader, Keeps, hearsAll, readsLog, reads-log, runs-keep}
-use Rattle.demands.proofs.SoundProof.{orderly}
+use Rattle.demands.proofs.Consistent.{Consistent, not-inside}
+use Rattle.demands.proofs.ConsistentProof.{consistent-event, Reader, Keeps, hearsAll, readsLog, reads-log, runs-keep}
+use Rattle.demands.proofs.ConsistentProof.{orderly}
 use Rattle.demands.proofs.SettledProof.{Stable, stable, stable-step}
 use Rattle.demands.proofs.OwnPartLaws.{answered-now}
 
-each-asked : (m : Model) (f : Frame) → Sound m → Admitted f m → Each (asked m f .waits)
+each-asked : (m : Model) (f : Frame) → Consistent m → Admitted f m → Each (asked m f .waits)
 unfolding asked
 each-asked m f s a =
-    cond-cases (λ (n : Model). Each (n .waits)) (isLookUp (f .op)) (λ t. sound-event (asks m t a) s .each)
+    cond-cases (λ (n : Model). Each (n .waits)) (isLookUp (f .op)) (λ t. consistent-event (asks m t a) s .each)
     (λ _. s .each)
 
 -- a look-up that a step gives nothing has no available entry when the step is over
@@ -61,7 +61,7 @@ pub nothing-left : (m : Model) → Stable m → (bs : List ℕ) (area : ℕ) →
     → NothingLeft (asked m (decode bs)) (step m bs area .records) (step m bs area .model)
 unfolding nothing
 nothing-left m k bs area n w i j =
-    let s = k .sound-model in
+    let s = k .consistent-model in
     let o = step m bs area in
     let c = step-carries m bs area (s .ordered .txns) n in
     let r = c .1 .rested .closed (nothing w) j refl in
@@ -85,7 +85,7 @@ unfolding nothing
 nothing-shuts w = rw (itself w (nothing w) refl refl)
 
 -- it waits on, or is closed
-waits-or : {f : Frame} {m n : Model} {hs : List Heard} (w : LookUp) → Event f m hs n → Sound m → List·Memᴰ w (m .waits)
+waits-or : {f : Frame} {m n : Model} {hs : List Heard} (w : LookUp) → Event f m hs n → Consistent m → List·Memᴰ w (m .waits)
     → List·Memᴰ w (n .waits) ⊎ (anyb (shuts w) hs ≡ true)
 unfolding stored create commit abort dropEnded exception
 waits-or w (refuses m bs area q) s i = inl i
@@ -152,7 +152,7 @@ collected =
     same false rs = refl
 
 -- the ticked records count the clock on
-clock-counts : (m : Model) (js : List Input) → Sound m
+clock-counts : (m : Model) (js : List Input) → Consistent m
     → runs m js .model .clock ≡ m .clock + count isTicked (answersTo m js)
 unfolding answersTo
 clock-counts m js s =
@@ -173,7 +173,7 @@ unfolding answersTo reached
 closed m js w d k i q l =
     ⊎-elim (λ j. absurd (true≢false
     (sym over ∙ ap (reached (n .clock)) (sym q) ∙ keep-runs Stable stable-step m js k .ahead w j))) (λ c. c)
-    (subst (Q n) (collected (runs m js .log) []) (runs-keep collects Q keeps m [] js (k .sound-model) (inl i) .1))
+    (subst (Q n) (collected (runs m js .log) []) (runs-keep collects Q keeps m [] js (k .consistent-model) (inl i) .1))
   where
     n : Model
     n = runs m js .model
@@ -190,7 +190,7 @@ closed m js w d k i q l =
         (waits-or w e s j)) (λ c. inr (any-heard p f hs rs ∙ ap (λ x. x || anyb (says p) hs) c))
 
     over : reached (n .clock) (Tick d) ≡ true
-    over = le-leb d (n .clock) (omega (arith, l, clock-counts m js (k .sound-model)))
+    over = le-leb d (n .clock) (omega (arith, l, clock-counts m js (k .consistent-model)))
 
 pub answersTo-cons : (m : Model) (i : Input) (is : List Input) → answersTo m (i ∷ is)
     ≡ step m (i .frame) (i .area) .records ++ answersTo (step m (i .frame) (i .area) .model) is
@@ -236,7 +236,7 @@ in-time is i js n l f h =
         omega (
           arith,
           h,
-          clock-counts m (i ∷ []) (stable is .sound-model),
+          clock-counts m (i ∷ []) (stable is .consistent-model),
           ap (count isTicked) (answersTo-cons m i js) ∙ count-append isTicked (o .records) (answersTo (o .model) js),
           ap (count isTicked) (answersTo-cons m i []) ∙ count-append isTicked (o .records) [],
         )

@@ -80,7 +80,7 @@ becomes {f} (excepts m t k i r) s = freed-all f m (t .id .0) (λ e. not (private
 becomes (expires m k) s = all-filter (λ e. not (reached (m .clock) (e .end))) (m .entries) (λ e i _. as-was e i)
 
 -- a look-up, with the transactions that are live then: the frame's, or one that waited on, not inside one that ends
--- (nobody waits inside the one that a frame ends: Sound)
+-- (nobody waits inside the one that a frame ends: Consistent)
 pub data WaitsOn (f : Frame) (m : Model) : LookUp → List Txn → Type 0 where
   is-asked : isLookUp (f .op) ≡ true → Admitted f m → WaitsOn f m (lookUpOf m f) (m .txns)
   waited : (w : LookUp) → List·Memᴰ w (m .waits) → WaitsOn f m w (m .txns)

@@ -25,7 +25,7 @@ use Rattle.rules.specs.Tick.{dropEnded}
 use Rattle.rules.proofs.LayoutLaws.{abort-ends}
 use Rattle.rules.proofs.ListLaws.{filter-filter, filter-pass, length-filter, count, count-cons, count-mem}
 use Rattle.demands.specs.Machine.{Input}
-use Rattle.demands.specs.Answers.{ofParty}
+use Rattle.rules.specs.Sound.{ofParty}
 use Rattle.demands.specs.Book.{LiveTold, Book, newBook, names, enters, entersAll, withAsked, arrives, keepBook}
 use Rattle.demands.specs.Book.{bookOf, Booked}
 use Rattle.demands.proofs.Runs.{runs, made}
@@ -34,8 +34,8 @@ use Rattle.demands.proofs.HoldLaws.{not-so}
 use Rattle.demands.proofs.EachLaws.{Each}
 use Rattle.demands.proofs.Events.{Heard, Event, refuses, asks, writes, is-found, is-nothing, is-waiting, creates}
 use Rattle.demands.proofs.Events.{commits, aborts, ticks, excepts, expires}
-use Rattle.demands.proofs.Sound.{Sound, not-inside}
-use Rattle.demands.proofs.SoundProof.{Reader, hearsAll, reads-log, made-keep}
+use Rattle.demands.proofs.Consistent.{Consistent, not-inside}
+use Rattle.demands.proofs.ConsistentProof.{Reader, hearsAll, reads-log, made-keep}
 
 -- one place passes, and no other can: the rest is the list without it
 one-passes : {A : Type 0} (p : A → Bool) {x : A} {xs ys : List A} → Out x xs ys → p x ≡ true → count p xs ≤ 1
@@ -95,7 +95,7 @@ books : Reader Book
 books = record { asked = λ f b. withAsked (lookUpOf (withClock (b .clock) empty) f) b; reads = enters }
 
 -- each event is booked as it happens
-book-event : {f : Frame} {m n : Model} {hs : List Heard} (b : Book) → Event f m hs n → Sound m → Booked b m
+book-event : {f : Frame} {m n : Model} {hs : List Heard} (b : Book) → Event f m hs n → Consistent m → Booked b m
     → Booked (hearsAll books f hs b) n
 unfolding books enters told written stored found nothing waiting created create committed commit aborted abort exception
     ticked refused

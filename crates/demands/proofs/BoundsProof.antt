@@ -28,16 +28,16 @@ use Rattle.demands.proofs.AllLaws.{all-none}
 use Rattle.demands.proofs.HoldLaws.{equal-or, not-so, available-free}
 use Rattle.demands.proofs.Events.{Heard, Event}
 use Rattle.demands.proofs.Becomes.{kept-all, waits-all, txns-all, clock-moves}
-use Rattle.demands.proofs.Sound.{At, TxnsOk, Sound}
+use Rattle.demands.proofs.Consistent.{At, TxnsOk, Consistent}
 use Rattle.demands.proofs.HolderLaws.{drop-live, drop-own, drop-other}
-use Rattle.demands.proofs.SoundProof.{made-has, sound}
+use Rattle.demands.proofs.ConsistentProof.{made-has, consistent}
 
 -- entries and live transactions stand by number
 pub numbers-ascend : (is : List Input) → ByNumber (made is)
-numbers-ascend is = sound is .ordered
+numbers-ascend is = consistent is .ordered
 
 -- the clock and every end that is not FOREVER are at most the last clock
-timely-event : {f : Frame} {m n : Model} {hs : List Heard} → Event f m hs n → Sound m → Timely m → Timely n
+timely-event : {f : Frame} {m n : Model} {hs : List Heard} → Event f m hs n → Consistent m → Timely m → Timely n
 unfolding newEntry lookUpOf
 timely-event {f} e s h =
     record {
@@ -90,7 +90,7 @@ module _ {n : ℕ} {ts : List Txn} (ok : TxnsOk n ts) (e : Entry) (live : (p : �
   )
 
 pub readers-are-live : (is : List Input) → ReadByLive (made is)
-readers-are-live is e t i = read-by-live (sound is .txns-ok) e (sound is .held e i .readers) t
+readers-are-live is e t i = read-by-live (consistent is .txns-ok) e (consistent is .held e i .readers) t
 
 -- "T's own take hold makes an entry neither available nor conflicting."
 pub own-take-hold : (is : List Input) → OwnTakeHold (made is)
@@ -101,10 +101,10 @@ own-take-hold is w e i z q = (not-so _ (λ t. let f = available-free (m .txns) w
     m = made is
 
     no-readers : e .readers ≡ 0
-    no-readers = ⊎-elim (λ f. absurd (omega arith)) (λ r. r) (sound is .held e i .unread)
+    no-readers = ⊎-elim (λ f. absurd (omega arith)) (λ r. r) (consistent is .held e i .unread)
 
     public : e .«private_to» .0 ≡ 0
-    public = ⊎-elim (λ c. c) (λ c. absurd (let f = c .0 in omega arith)) (sound is .held e i .own)
+    public = ⊎-elim (λ c. c) (λ c. absurd (let f = c .0 in omega arith)) (consistent is .held e i .own)
 
     nobody : readByOther (m .txns) (w .txn .0) e ≡ false
     nobody =

@@ -32,8 +32,8 @@ use Rattle.demands.proofs.Events.{is-nothing, is-waiting, creates, comm
 use Rattle.demands.proofs.Events.{Events, over, then}
 use Rattle.demands.proofs.Becomes.{kept-all, waits-all, txns-all}
 use Rattle.demands.proofs.EventsProof.{step-events}
-use Rattle.demands.proofs.Sound.{Sound}
-use Rattle.demands.proofs.SoundProof.{sound-event, sound-events, sound-empty}
+use Rattle.demands.proofs.Consistent.{Consistent}
+use Rattle.demands.proofs.ConsistentProof.{consistent-event, consistent-events, consistent-empty}
 use Rattle.demands.proofs.JudgedProof.{refusal-fits}
 
 record FieldsIn (x : Fields) : Type 0 where
@@ -161,7 +161,7 @@ module _ {f : Frame} (h : FrameIn f) where
       let l = r .txns t i in (says-in (plain-in 8 _ _ (omega arith) (l .1) (l .0)), r .next)
   heard-in (expires m k) r = (all-none HeardIn, r .next)
 
-  ranged-event : {m n : Model} {hs : List Heard} → Event f m hs n → Sound m → Ranged m → Ranged n
+  ranged-event : {m n : Model} {hs : List Heard} → Event f m hs n → Consistent m → Ranged m → Ranged n
   unfolding newEntry lookUpOf
   ranged-event e s r =
       record {
@@ -173,13 +173,13 @@ module _ {f : Frame} (h : FrameIn f) where
         waits = waits-all WaitIn e (λ t a. (h .txn, h .party)) (r .waits);
       }
 
-  events-in : {m n : Model} {hs : List Heard} → Events f m hs n → Sound m → Ranged m → All HeardIn hs × Ranged n
+  events-in : {m n : Model} {hs : List Heard} → Events f m hs n → Consistent m → Ranged m → All HeardIn hs × Ranged n
   events-in over s r = (all-none HeardIn, r)
   events-in (then {hs = hs} e t) s r =
-      let k = events-in t (sound-event e s) (ranged-event e s r) in
+      let k = events-in t (consistent-event e s) (ranged-event e s r) in
       (all-append hs (heard-in e r .0) (k .0), k .1)
 
-runs-in : (m : Model) (is : List Input) → All (λ i. AreBytes (i .frame)) is → Sound m → Ranged m
+runs-in : (m : Model) (is : List Input) → All (λ i. AreBytes (i .frame)) is → Consistent m → Ranged m
     → AllInRange (answersTo m is)
 unfolding answersTo recordsOf runs
 runs-in m [] h s r = all-none InRange
@@ -189,7 +189,7 @@ runs-in m (i ∷ is) h s r =
     let e = step-events m (i .frame) (i .area) (s .ordered .txns) in
     let k = events-in (frame-in (i .frame) (h i (List·Memᴰ·head refl))) e s r in
     all-append (o .records) (λ a j. k .0 (saying a) (said f (o .records) a j))
-    (runs-in (o .model) is (λ l j. h l (List·Memᴰ·tail j)) (sound-events e s) (k .1))
+    (runs-in (o .model) is (λ l j. h l (List·Memᴰ·tail j)) (consistent-events e s) (k .1))
   where
     said : (f : Frame) (rs : List Record) (a : Record) → List·Memᴰ a rs → List·Memᴰ (saying a) (heard f rs)
     said f rs a j =
@@ -198,5 +198,5 @@ runs-in m (i ∷ is) h s r =
 
 pub range-demand : (is : List Input) → All (λ i. AreBytes (i .frame)) is → AllInRange (answersTo empty is)
 range-demand is h =
-    runs-in empty is h sound-empty
+    runs-in empty is h consistent-empty
     (record { next = (omega arith, omega arith); entries = all-none _; txns = all-none _; waits = all-none _ })

@@ -1,5 +1,6 @@
--- A space whose every step is one that the rules give: its histories are runs of the rules.
-use mathlib.Core.Path.{_≡_, refl, sym, ap, ap₂, _∙_}
+-- A space whose every step from a sound state is one that the rules give: its histories are runs of the rules, and the
+-- states that frames make are sound.
+use mathlib.Core.Path.{_≡_, refl, sym, ap, ap₂, _∙_, subst⁻¹}
 use mathlib.Core.List.{List, _∷_, map}
 use lib.ListN.{length}
 use Rattle.rules.specs.declared.Record.{Record}
@@ -7,11 +8,13 @@ use Rattle.rules.specs.State.{Model, empty}
 use Rattle.rules.specs.Words.{view}
 use Rattle.rules.specs.Records.{areaAfter}
 use Rattle.rules.specs.Step.{step}
+use Rattle.rules.specs.Sound.{Sound}
 use Rattle.rules.specs.Allowed.{Answered}
 use Rattle.rules.specs.SerialRun.{Logged}
 use Rattle.demands.specs.Machine.{Handed, Input, inputOf, Machine, theSpace, answeredBy, theRules}
 use Rattle.demands.specs.History.{History, begun, handed, handedOf, Made, inputsOf}
-use Rattle.demands.proofs.Runs.{runs}
+use Rattle.rules.proofs.SoundLaws.{sound-empty, sound-step}
+use Rattle.demands.proofs.Runs.{runs, made-keep}
 use Rattle.demands.proofs.JudgedProof.{number-is, refused-model}
 
 -- a step that the rules give
@@ -25,17 +28,18 @@ pub record ByRule (S : Machine) (s : S .State) (h : Handed) (t : S .State) (a : 
 
 pub record Follows (S : Machine) : Type 0 where
   pub starts : (s : S .State) → S .Empty s → S .view s ≡ empty
-  pub steps : (s : S .State) (h : Handed) (t : S .State) (a : Answered) → S .Steps s h t a → ByRule S s h t a
+  pub steps : (s : S .State) (h : Handed) (t : S .State) (a : Answered) → Sound (S .view s) → S .Steps s h t a
+      → ByRule S s h t a
 
 -- the space that is built, and the rules themselves
 pub space-follows : Follows theSpace
 space-follows =
     record {
       starts = λ s e. e;
-      steps = λ s h t a p.
+      steps = λ s h t a sound p.
           record {
-            space = p .space;
-            records = p .records;
+            space = p .space (λ _. sound);
+            records = p .records (λ _. sound);
             count = p .count;
             number = p .number;
             bytes = p .bytes;
@@ -48,7 +52,7 @@ unfolding answeredBy
 rules-follow =
     record {
       starts = λ s e. e;
-      steps = λ s h t a p.
+      steps = λ s h t a _ p.
           let o = step s (h .frame) (length (h .area)) in
           let number : a .number ≡ o .number = ap (λ (x : Answered). x .number) (p .answered) in
           let records : a .records ≡ o .records = ap (λ (x : Answered). x .records) (p .answered) in
@@ -72,14 +76,16 @@ pub record RunTo (m : Model) (is : List Input) (log : List Logged) (n : Model) :
   pub log-is : log ≡ runs m is .log
 
 module _ (S : Machine) (f : Follows S) where
-  pub run-to : {s t : S .State} {log : List Logged} (m : Model) → S .view s ≡ m → (r : History S s log t)
+  pub run-to : {s t : S .State} {log : List Logged} (m : Model) → S .view s ≡ m → Sound m → (r : History S s log t)
       → RunTo m (map inputOf (handedOf r)) log (S .view t)
   unfolding runs handedOf
-  run-to m e (begun s) = record { model = e; log-is = refl }
-  run-to m e (handed {s} {t} {u} {log} h a p rest) =
-      let q = f .steps s h t a p in
+  run-to m e sound (begun s) = record { model = e; log-is = refl }
+  run-to m e sound (handed {s} {t} {u} {log} h a p rest) =
+      let q = f .steps s h t a (subst⁻¹ Sound e sound) p in
       let o = step m (h .frame) (length (h .area)) in
-      let r = run-to (o .model) (q .space ∙ ap (λ n. step n (h .frame) (length (h .area)) .model) e) rest in
+      let r =
+      run-to (o .model) (q .space ∙ ap (λ n. step n (h .frame) (length (h .area)) .model) e)
+      (sound-step m (h .frame) (length (h .area)) sound) rest in
       record {
         model = r .model;
         log-is =
@@ -89,4 +95,9 @@ module _ (S : Machine) (f : Follows S) where
 
   -- a state that frames made is a run from the empty model
   pub run-of : {t : S .State} {log : List Logged} (r : Made S log t) → RunTo empty (inputsOf r) log (S .view t)
-  run-of r = run-to empty (f .starts (r .0) (r .1)) (r .2)
+  run-of r = run-to empty (f .starts (r .0) (r .1)) sound-empty (r .2)
+
+  -- and it is sound
+  pub made-sound : {t : S .State} {log : List Logged} → Made S log t → Sound (S .view t)
+  made-sound r =
+      subst⁻¹ Sound (run-of r .model) (made-keep Sound (λ i m s. sound-step m (i .frame) (i .area) s) sound-empty (inputsOf r))

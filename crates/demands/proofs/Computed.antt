@@ -5,13 +5,13 @@ use Rattle.rules.specs.Holds.{liveTxn, addReader, dropReader, readByOther, visi
 use Rattle.rules.specs.Frame.{numberAt, decode, layoutOf, frameLength, serves}
 use Rattle.rules.specs.Records.{written, found, nothing, waiting, created, committed, aborted, exception, ticked}
 use Rattle.rules.specs.Records.{refused}
-use Rattle.rules.specs.LookUp.{lookUpOf, removes, withHold, marked, handOut, givesNothing, mustWait, answerFound}
+use Rattle.rules.specs.LookUp.{lookUpOf, removes, withHold, marked, handOut, givesNothing, answerFound}
 use Rattle.rules.specs.LookUp.{answerNothing, answerWaiting, answer, lookUp}
 use Rattle.rules.specs.Transactions.{freeSlot, create, released, withoutTxn, commit, abort}
 use Rattle.rules.specs.Service.{serve, service}
 use Rattle.rules.specs.Tick.{endedTxns, abortAll, dropEnded, lapsed, closeWaits, tick}
 use Rattle.rules.specs.Refusals.{noOperation, wrongLength, malformed, wrongParty, partyWaits, notLive, notOwn, noLease}
-use Rattle.rules.specs.Refusals.{tooLate, entriesFull, txnsFull, noNumber, waitsFull, refusal}
+use Rattle.rules.specs.Refusals.{tooLate, entriesFull, txnsFull, noNumber, refusal}
 use Rattle.rules.specs.Write.{newEntry, stored, write}
 use Rattle.rules.specs.Step.{ownPart, finish, commitFrame, abortFrame, carriedOut, refusedWith, accepted, step}
 use Rattle.rules.specs.Tray.{pairsOf, pairs, badTray, badPairs, trayRefusal, frameAt, runFrames, runPairs, runTray}
@@ -20,10 +20,10 @@ use Rattle.rules.specs.Tray.{hostNumber}
 unfoldable pub all-rules : Unit {0}
 unfolding until reached bit matches liveTxn addReader dropReader readByOther visible available conflicts numberAt decode
     layoutOf frameLength serves written found nothing waiting created committed aborted exception ticked refused
-    lookUpOf removes withHold marked handOut givesNothing mustWait answerFound answerNothing answerWaiting answer lookUp
+    lookUpOf removes withHold marked handOut givesNothing answerFound answerNothing answerWaiting answer lookUp
     freeSlot create released withoutTxn commit abort serve service endedTxns abortAll dropEnded lapsed closeWaits tick
     noOperation wrongLength malformed wrongParty partyWaits notLive notOwn noLease tooLate entriesFull txnsFull noNumber
-    waitsFull refusal newEntry stored write ownPart finish commitFrame abortFrame carriedOut refusedWith accepted step
+    refusal newEntry stored write ownPart finish commitFrame abortFrame carriedOut refusedWith accepted step
 all-rules = tt
 
 -- and the trays'

@@ -11,7 +11,8 @@ use Rattle.rules.specs.Records.{found, nothing, waiting}
 use Rattle.rules.specs.LookUp.{lookUpOf}
 use Rattle.demands.specs.Machine.{theRules}
 use Rattle.demands.specs.Said.{Oldest}
-use Rattle.demands.specs.Answers.{AnsweredNow, asked, OneEach}
+use Rattle.rules.specs.Sound.{OneEach}
+use Rattle.demands.specs.Answers.{AnsweredNow, asked}
 use Rattle.demands.specs.Consequences.{ConsequencesFollow}
 use Rattle.demands.proofs.Twins.{Twins, some-same, asks-same, gives-same, oldest-back, available-in}
 use Rattle.demands.proofs.Twins.{found-same}

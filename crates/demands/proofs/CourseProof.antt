@@ -153,7 +153,6 @@ refusals : Refused-with
     ∷ (withClock 4294967294 empty, a-tick, 10)
     ∷ (withNextEntry 4294967295 empty, write-by 1 0 0 E, 13)
     ∷ (withNextTxn 4294967295 empty, create-by 1 9, 13)
-    ∷ (withWaits (replicate 16 a-wait) empty, take-by 2 0 9 7, 14)
     -- two faults: the first is given
     ∷ (empty, 10 ∷ [], 2)
     ∷ (empty, 9 ∷ 0 ∷ 0 ∷ 1 ∷ 0 ∷ [], 3)

@@ -18,9 +18,8 @@ use Rattle.rules.specs.State.{Model, empty}
 use Rattle.rules.specs.Holds.{liveTxn}
 use Rattle.rules.specs.Frame.{decode}
 use Rattle.rules.specs.Records.{waiting, refused, answerBytes, areaAfter}
-use Rattle.rules.specs.LookUp.{mustWait}
 use Rattle.rules.specs.Transactions.{privateTo}
-use Rattle.rules.specs.Refusals.{partyWaits, notLive, isOf, notOwn, tooLate, entriesFull, txnsFull, noNumber, waitsFull}
+use Rattle.rules.specs.Refusals.{partyWaits, notLive, isOf, notOwn, tooLate, entriesFull, txnsFull, noNumber}
 use Rattle.rules.specs.Refusals.{refusal}
 use Rattle.rules.specs.Step.{Outcome, step, accepted}
 use Rattle.rules.specs.Allowed.{Answered}
@@ -38,9 +37,9 @@ use Rattle.rules.proofs.ListLaws.{mem-any}
 use Rattle.rules.proofs.BoolLaws.{bool-cases}
 use Rattle.rules.proofs.DistinctLaws.{distinct-filter}
 use Rattle.demands.proofs.AscendingLaws.{ascend-unique}
-use Rattle.demands.proofs.Sound.{TxnsOk, Sound, cover}
+use Rattle.demands.proofs.Consistent.{TxnsOk, Consistent, cover}
 use Rattle.demands.proofs.OrderLaws.{InOrder}
-use Rattle.demands.proofs.SoundProof.{sound, orderly}
+use Rattle.demands.proofs.ConsistentProof.{consistent, orderly}
 use Rattle.demands.proofs.ByRule.{rules-follow, run-of}
 use Rattle.demands.proofs.Follows.{follows-2, follows-3, follow-on}
 use Rattle.demands.proofs.JudgedProof.{number-is, refused-record, no-record}
@@ -106,7 +105,7 @@ module _ {r : Run} {m n : Model} (x : Explained r m) (y : Explained r n) where
             (e .0, e .1, like-told (e .0) u (e .1) j (z .0) (e .2) (z .2));
       }
 
-twins-told : {b : Book} {r : Run} (m n : Model) → Booked b m → Booked b n → Explained r m → Explained r n → Sound n
+twins-told : {b : Book} {r : Run} (m n : Model) → Booked b m → Booked b n → Explained r m → Explained r n → Consistent n
     → Twins m n
 twins-told m n p q x y s =
     let live = sym (p .live) ∙ q .live in
@@ -143,7 +142,7 @@ no-more es xs same d h =
 
 refusal-same : (m n : Model) (bs : List ℕ) (area : ℕ) → Twins m n → length (m .entries) ≡ length (n .entries)
     → refusal m bs area ≡ refusal n bs area
-unfolding refusal partyWaits notLive notOwn liveTxn tooLate entriesFull txnsFull noNumber waitsFull mustWait
+unfolding refusal partyWaits notLive notOwn liveTxn tooLate entriesFull txnsFull noNumber
 refusal-same m n bs area t entries =
     let f = decode bs in
     let waits : m .waits ≡ n .waits = ap (λ k. k .waits) (t .same) in
@@ -163,7 +162,7 @@ refusal-same m n bs area t entries =
     (m .txns) (n .txns) live in
     let txns =
     live-ind (λ ts us. length ts ≡ length us) refl (λ x y ts us q below. ap suc below) (m .txns) (n .txns) live in
-    rw (some-same f t, gives-same f t, waits, any, own, clock, entries, txns, next-entry, next-txn)
+    rw (waits, any, own, clock, entries, txns, next-entry, next-txn)
 
 -- ---- twins answer alike
 
@@ -204,7 +203,7 @@ module _ (S : Machine) (d1 : Demand1 S) (d2 : Demand2 S) where
         let r = run-of theRules rules-follow run in
         twins-told (S .view t) n (d2 .booked log t made) (rules-2 .booked log n run) (d2 .told log t made)
         (rules-2 .told log n run)
-        (subst⁻¹ Sound (r .model) (sound (inputsOf run)))
+        (subst⁻¹ Consistent (r .model) (consistent (inputsOf run)))
 
     same-length : length (S .view t .entries) ≡ length (n .entries)
     same-length =

@@ -8,8 +8,8 @@ use borrow.Author.Tests.{eq-eqb, ne-eqb}
 use lib.ListN.{length}
 use Rattle.rules.specs.declared.LookUp.{LookUp}
 use Rattle.rules.specs.Lists.{filterb}
+use Rattle.rules.specs.Sound.{ofParty}
 use Rattle.rules.proofs.ListLaws.{count, count-append, count-cons, count-filter, count-mem, any-filter, all-false}
-use Rattle.demands.specs.Answers.{ofParty}
 use Rattle.demands.proofs.AllLaws.{All, Out, here, there}
 use Rattle.demands.proofs.HoldLaws.{eqb-cases}
 
@@ -25,14 +25,6 @@ each-out o h p = let l = h p in omega (arith, fewer o)
     fewer : {w : LookUp} {ws vs : List LookUp} → Out w ws vs → count (ofParty p) vs ≤ count (ofParty p) ws
     fewer {w} (here xs) = omega (arith, count-cons (ofParty p) w xs)
     fewer (there {y} {xs} {ys} o) = omega (arith, fewer o, count-cons (ofParty p) y xs, count-cons (ofParty p) y ys)
-
-pub each-snoc : (w : LookUp) (ws : List LookUp) → All (λ v. v .party ≡ w .party → ⊥) ws → Each ws
-    → Each (ws ++ (w ∷ []))
-each-snoc w ws free h p =
-    rw count-append (eqb-cases (λ (l : List LookUp). count (ofParty p) ws + length l ≤ 1) (w .party) p
-    (λ q. let none = any-filter (ofParty p) ws
-    (all-false (ofParty p) ws (λ v i. ne-eqb (v .party) p (λ r. free v i (r ∙ sym q)))) in
-    rw none (omega arith)) (λ _. let l = h p in omega arith))
 
 pub each-tail : (w : LookUp) (ws : List LookUp) → Each (w ∷ ws) → Each ws
 each-tail w ws h p = let l = h p in omega (arith, count-cons (ofParty p) w ws)

@@ -18,6 +18,7 @@ use Rattle.rules.specs.Records.{refused}
 use Rattle.rules.specs.LookUp.{lookUpOf}
 use Rattle.rules.specs.Refusals.{refusal}
 use Rattle.rules.specs.Step.{Outcome, step}
+use Rattle.rules.specs.Sound.{Sound}
 use Rattle.rules.specs.Allowed.{Answered}
 use Rattle.rules.specs.SerialRun.{Logged, serialRun, Serial}
 use Rattle.demands.specs.Machine.{Handed, frameIn, Input, inputOf, Machine}
@@ -32,15 +33,16 @@ use Rattle.demands.specs.Consequences.{Consequences}
 use Rattle.demands.specs.Bounds.{ByNumber, Timely, ReadByLive, OwnTakeHold, AreBytes, AllInRange, Bounds}
 use Rattle.rules.proofs.BoolLaws.{bool-cases}
 use Rattle.rules.proofs.Capacity.{step-fits}
+use Rattle.rules.proofs.SoundLaws.{sound-step}
 use Rattle.rules.proofs.AreaLaws.{area-length, area-front, area-rest}
 use Rattle.demands.proofs.Runs.{runs, made, answersTo}
-use Rattle.demands.proofs.ByRule.{ByRule, Follows, run-to, run-of}
+use Rattle.demands.proofs.ByRule.{ByRule, Follows, run-to, run-of, made-sound}
 use Rattle.demands.proofs.Capacities.{bounded}
 use Rattle.demands.proofs.JudgedProof.{number-is, one-is, refused-record, no-record}
 use Rattle.demands.proofs.OwnPartLaws.{answered-now}
 use Rattle.demands.proofs.BoundsProof.{numbers-ascend, timely, readers-are-live, own-take-hold}
 use Rattle.demands.proofs.OrderLaws.{InOrder}
-use Rattle.demands.proofs.SoundProof.{orderly}
+use Rattle.demands.proofs.ConsistentProof.{orderly}
 use Rattle.demands.proofs.SaidProof.{step-said}
 use Rattle.demands.proofs.SettledProof.{Stable, stable}
 use Rattle.demands.proofs.AnswersProof.{nothing-left, in-time, answersTo-cons}
@@ -50,9 +52,9 @@ use Rattle.demands.proofs.ToldProof.{told-demand}
 use Rattle.demands.proofs.SerialRunProof.{serializes}
 
 -- the records of a step fit its area
-records-room : (m : Model) (bs : List ℕ) (area : ℕ) → Bounded m
+records-room : (m : Model) (bs : List ℕ) (area : ℕ) → Sound m → Bounded m
     → 28 * length (step m bs area .records) ≤ area
-records-room m bs area b = go (bool-cases (ltb area 700))
+records-room m bs area s b = go (bool-cases (ltb area 700))
   where
     go : (ltb area 700 ≡ true) ⊎ (ltb area 700 ≡ false) → 28 * length (step m bs area .records) ≤ area
     go (inl t) =
@@ -60,7 +62,7 @@ records-room m bs area b = go (bool-cases (ltb area 700))
         omega (arith, ap (λ (rs : List Record). length rs) none)
     go (inr t) =
         let l = ltb-false area 700 t in
-        omega (arith, step-fits m bs area b .1)
+        omega (arith, step-fits m bs area s b .1)
 
 -- what holds of the frames of a log holds of the frames handed in
 frames-in : (m : Model) (is : List Input) (P : List ℕ → Type 0)
@@ -88,6 +90,11 @@ module _ (S : Machine) (f : Follows S) where
       let is = inputsOf r in
       subst⁻¹ (λ l. P l (S .view t)) (q .log-is) (subst⁻¹ (P (runs empty is .log)) (q .model) (h is))
 
+  -- a step from a state that frames made is one that the rules give
+  by-rule : {log : List Logged} {t u : S .State} {h : Handed} {a : Answered} → Made S log t → S .Steps t h u a
+      → ByRule S t h u a
+  by-rule r p = f .steps _ _ _ _ (made-sound S f r) p
+
   -- what the rules give; what holds of its records and its model holds of what is answered
   abbrev given : {t u : S .State} {h : Handed} {a : Answered} → ByRule S t h u a → Outcome
   given {t} {u} {h} q = step (S .view t) (h .frame) (length (h .area))
@@ -97,17 +104,17 @@ module _ (S : Machine) (f : Follows S) where
       → P t h (given q .records) (given q .model))
       → EveryStep S (λ t h u a. P t h (a .records) (S .view u))
   of-step P x log t u h a r p =
-      let q = f .steps t h u a p in
+      let q = by-rule r p in
       subst⁻¹ (λ rs. P t h rs (S .view u)) (q .records)
       (subst⁻¹ (P t h (given q .records)) (q .space) (x log t u h a r q))
 
   judged : EveryStep S (Judged S)
   judged log t u h a r p =
-      let q = f .steps t h u a p in
+      let q = by-rule r p in
       let m = S .view t in
       let n = length (h .area) in
       let number : a .number ≡ refusal m (h .frame) n = q .number ∙ number-is m (h .frame) n in
-      let fits = records-room m (h .frame) n (of-made Bounded bounded r) in
+      let fits = records-room m (h .frame) n (made-sound S f r) (of-made Bounded bounded r) in
       let room : 28 * length (a .records) ≤ n = subst⁻¹ (λ (rs : List Record). 28 * length rs ≤ n) (q .records) fits in
       record {
         first-row = number;
@@ -134,7 +141,7 @@ module _ (S : Machine) (f : Follows S) where
       record {
         said = of-step (λ t h rs m. CarriedOut S t h → Said (frameIn h) (S .view t) rs)
             (λ log t u h a r q. step-said (S .view t) (h .frame) (length (h .area)) (of-made InOrder orderly r));
-        counted = λ log t u h a r p. f .steps t h u a p .count;
+        counted = λ log t u h a r p. by-rule r p .count;
         booked = of-log (λ l m. Booked (bookOf l) m) book-demand;
         told = of-log (λ l m. Explained (serialRun l) m) told-demand;
       }
@@ -153,13 +160,15 @@ module _ (S : Machine) (f : Follows S) where
       → anyb (closes (frameIn h .party) (frameIn h .txn)) (a .records ++ recordsOf later) ≡ true
   unfolding answersTo
   closed-in-time log t u h a r p later v rest n l d =
-      let q = f .steps t h u a p in
+      let q = by-rule r p in
       let is = run-of S f r in
       let m = made (inputsOf r) in
       let i = inputOf h in
       let rest-in = map inputOf (handedOf rest) in
       let o : Model → Outcome = λ k. step k (h .frame) (length (h .area)) in
-      let js = run-to S f (o m .model) (q .space ∙ ap (λ k. o k .model) (is .model)) rest in
+      let next = q .space ∙ ap (λ k. o k .model) (is .model) in
+      let sound = subst Sound (is .model) (made-sound S f r) in
+      let js = run-to S f (o m .model) next (sound-step m (h .frame) (length (h .area)) sound) rest in
       let same : answersTo m (i ∷ rest-in) ≡ a .records ++ recordsOf later =
       answersTo-cons m i rest-in
       ∙ ap₂ (λ (x y : List Record). x ++ y) (sym (q .records ∙ ap (λ k. o k .records) (is .model)))
@@ -183,9 +192,9 @@ module _ (S : Machine) (f : Follows S) where
         in-time = closed-in-time;
         settled = λ log t r.
             let s = of-made Stable stable r in record { none-available = s .none-for; not-reached = s .ahead };
-        one-each = λ log t r. of-made Stable stable r .sound-model .each;
+        one-each = λ log t r. of-made Stable stable r .consistent-model .each;
         few = of-step (λ t h rs m. length rs ≤ 25)
-            (λ log t u h a r q. step-fits (S .view t) (h .frame) (length (h .area))
+            (λ log t u h a r q. step-fits (S .view t) (h .frame) (length (h .area)) (made-sound S f r)
             (of-made Bounded bounded r) .1);
       }
 

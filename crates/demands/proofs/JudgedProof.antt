@@ -8,18 +8,18 @@ use native.Mathlib.Omega.{arith}
 use borrow.Author.Tests.{eqb-true, eqb-false, eq-eqb, ne-eqb, ltb-true, ltb-false, leb-true}
 use lib.Dec.{eqb, leb, ltb}
 use Rattle.rules.specs.Lists.{firstRow}
-use Rattle.rules.specs.Numbers.{stepArea, areaRefused, waitsRefused}
+use Rattle.rules.specs.Numbers.{stepArea, areaRefused, numberRefused}
 use Rattle.rules.specs.State.{Model}
 use Rattle.rules.specs.Records.{refused}
 use Rattle.rules.specs.Frame.{decode}
-use Rattle.rules.specs.Refusals.{refusal, formRows, admissionRows, roomRows, waitRows}
+use Rattle.rules.specs.Refusals.{refusal, formRows, admissionRows, roomRows}
 use Rattle.rules.specs.Step.{Outcome, step, accepted, refusedWith}
 use Rattle.rules.proofs.BoolLaws.{cond-cases, and-left, and-right}
 use Rattle.rules.proofs.RefusalLaws.{first-without}
 
 -- the table behind its first row
 abbrev laterRows : Model → List ℕ → List (Bool × ℕ)
-laterRows m bs = let f = decode bs in formRows bs f ++ admissionRows m f ++ roomRows m f ++ waitRows m f
+laterRows m bs = let f = decode bs in formRows bs f ++ admissionRows m f ++ roomRows m f
 
 -- every number of a table is at most k, and so is the one that it gives
 abbrev upTo : ℕ → List (Bool × ℕ) → Bool
@@ -32,9 +32,9 @@ first-up-to k (r ∷ rs) e =
     cond-cases (λ n. n ≤ k) (r .0) (λ _. leb-true (r .1) k (and-left (leb (r .1) k) (upTo k rs) e))
     (λ _. first-up-to k rs (and-right (leb (r .1) k) (upTo k rs) e))
 
-pub refusal-fits : (m : Model) (bs : List ℕ) (area : ℕ) → refusal m bs area ≤ waitsRefused
+pub refusal-fits : (m : Model) (bs : List ℕ) (area : ℕ) → refusal m bs area ≤ numberRefused
 unfolding refusal
-refusal-fits m bs area = first-up-to waitsRefused ((ltb area stepArea, areaRefused) ∷ laterRows m bs) refl
+refusal-fits m bs area = first-up-to numberRefused ((ltb area stepArea, areaRefused) ∷ laterRows m bs) refl
 
 -- 1 exactly when the area is under 700 bytes: no other row has that number
 pub one-is : (m : Model) (bs : List ℕ) (area : ℕ) → (refusal m bs area ≡ areaRefused) ↔ (area < stepArea)

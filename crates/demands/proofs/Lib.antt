@@ -16,8 +16,8 @@ pub mod Events
 pub mod Unavailable
 pub mod Becomes
 pub mod EventsProof
-pub mod Sound
-pub mod SoundProof
+pub mod Consistent
+pub mod ConsistentProof
 pub mod SettledProof
 -- bounds
 pub mod Capacities
@@ -50,5 +50,6 @@ pub mod ConsequencesProof
 pub mod TraysProof
 pub mod Computed
 pub mod CourseProof
+pub mod TidiedProof
 pub mod RuledOutProof
 pub mod Theorems

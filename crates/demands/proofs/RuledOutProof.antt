@@ -29,7 +29,7 @@ use Rattle.demands.specs.RuledOut.{saysNothing, saysWaiting, refusesAll,
 use Rattle.demands.specs.RuledOut.{firstFrameOnly, oneMore, losesCommit, putsBackLate, ownReadBars, nothingFirst}
 use Rattle.demands.specs.RuledOut.{showsPrivate, ignoresWrites, writesTwice, ticksAtWrites, neverExpires}
 use Rattle.demands.specs.RuledOut.{lastExceptionFirst, lastServedFirst, servesEnded, newestFirst}
-use Rattle.demands.specs.RuledOut.{newestInService, takesLongCommits, RuledOut}
+use Rattle.demands.specs.RuledOut.{newestInService, takesLongCommits, gives14, RuledOut}
 use Rattle.rules.proofs.ListLaws.{none-mem}
 use Rattle.rules.proofs.BoolLaws.{and-left, and-right}
 use Rattle.demands.proofs.AllLaws.{all-none, all-cons, all-map}
@@ -127,13 +127,17 @@ module _ (does : Stepper) (d : Demand2 (spaceOf does)) (fs : List (List ℕ)) (f
       (d .said (logOf does empty fs) before (does before f 700 .model) (handIn f) (answerTo does before f)
       (from-empty does fs) (one-step does before f) n) (ordered _ _ e)))
 
--- a frame in the empty space has the number that the rules give
-by-judged : (does : Stepper) → Demand1 (spaceOf does) → (f : List ℕ)
-    → does empty f 700 .number ≡ refusal empty f 700
+-- a frame after some frames has the number that the rules give
+by-judged : (does : Stepper) → Demand1 (spaceOf does) → (fs : List (List ℕ)) (f : List ℕ)
+    → does (lastOf does empty fs) f 700 .number ≡ refusal (lastOf does empty fs) f 700
 unfolding answeredBy
-by-judged does d f =
-    d .judged [] empty (does empty f 700 .model) (handIn f) (answerTo does empty f)
-    (empty, refl, begun empty) (one-step does empty f) .first-row
+by-judged does d fs f =
+    let before = lastOf does empty fs in
+    d .judged (logOf does empty fs) before (does before f 700 .model) (handIn f) (answerTo does before f)
+    (from-empty does fs) (one-step does before f) .first-row
+
+abbrev parties : List ℕ
+parties = 1 ∷ 2 ∷ 3 ∷ 4 ∷ 5 ∷ 6 ∷ 7 ∷ 8 ∷ 9 ∷ 10 ∷ 11 ∷ 12 ∷ 13 ∷ 14 ∷ 15 ∷ 16 ∷ []
 
 -- demand 3 of what some frames make
 by-serial : (does : Stepper) → Demand3 (spaceOf does) → (fs : List (List ℕ))
@@ -145,7 +149,7 @@ pub each-ruled-out : RuledOut
 unfolding all-rules all-told lastOf logOf answeredBy orderedb saysNothing saysWaiting refusesAll sameRecord
     storesNothing firstFrameOnly losesCommit putsBackLate ownReadBars nothingFirst showsPrivate ignoresWrites
     writesTwice ticksAtWrites neverExpires lastExceptionFirst lastServedFirst servesEnded newestFirst newestInService
-    takesLongCommits
+    takesLongCommits gives14
 each-ruled-out =
     record {
       says-nothing = λ d.
@@ -219,6 +223,10 @@ each-ruled-out =
           (commit-by 1 1) refl refl (entryAt 1) (λ (q : 1 ≡ 2). omega arith);
       -- refused with 7 where its length is wrong
       takes-long-commits = λ d.
-          let q : _≡_ {A = ℕ} 7 3 = by-judged takesLongCommits d (commit-by 1 1 ++ fourBytes 0) in omega arith;
+          let q : _≡_ {A = ℕ} 7 3 = by-judged takesLongCommits d [] (commit-by 1 1 ++ fourBytes 0) in omega arith;
+      -- sixteen wait; a look-up of one of them is refused with 6
+      gives-14 = λ d.
+          let q : _≡_ {A = ℕ} 14 6 = by-judged gives14 d (map (λ p. take-by p 0 9 7) parties) (take-by 1 0 9 7) in
+          omega arith;
       answers-none = λ d. d .answers [] empty (empty, refl, begun empty) (handIn a-tick) .2;
     }

@@ -23,7 +23,7 @@ use Rattle.demands.proofs.AllLaws.{All, all-snoc}
 use Rattle.demands.proofs.HoldLaws.{eqb-cases}
 use Rattle.demands.proofs.SerialRunOps.{after, afterAll, CanOne, Can, mentionsIt, mentions, takesIt, kept-number}
 use Rattle.demands.proofs.SerialRunOps.{after-snoc, can-snoc}
-use Rattle.demands.proofs.Sound.{Live}
+use Rattle.demands.proofs.Consistent.{Live}
 
 -- whether an operation that finds a number gives these fields
 abbrev pub fits : ℕ → Fields → Operation → Bool

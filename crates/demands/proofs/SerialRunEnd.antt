@@ -26,7 +26,7 @@ use Rattle.demands.specs.Told.{takesNumber}
 use Rattle.demands.proofs.AllLaws.{All, all-append, all-filter, all-map}
 use Rattle.demands.proofs.HoldLaws.{eqb-cases, not-so, cleared-cases}
 use Rattle.demands.proofs.HolderLaws.{drop-other, stays-live}
-use Rattle.demands.proofs.Sound.{Live, Sound}
+use Rattle.demands.proofs.Consistent.{Live, Consistent}
 use Rattle.demands.proofs.SerialRunOps.{afterAll, Can, mentions, takesIt, survives, after-split, can-keep}
 use Rattle.demands.proofs.SerialRunAgree.{Holds, Stored, Same, Ties, Agree, AgreeIn, takes-same, takes-mentions}
 use Rattle.demands.proofs.SerialRunAgree.{takes-number}
@@ -90,7 +90,7 @@ abbrev pub without : ℕ → (ℕ → List Operation) → ℕ → List Operation
 without t lists u = cond (eqb u t) [] (lists u)
 
 -- a transaction t ends: the entries that p keeps are released, and its list goes
-module _ {m : Model} {ks : List Kept} {lists : ℕ → List Operation} (s : Sound m) (a : AgreeIn m ks lists) (t : ℕ)
+module _ {m : Model} {ks : List Kept} {lists : ℕ → List Operation} (s : Consistent m) (a : AgreeIn m ks lists) (t : ℕ)
     (z : 0 < t) (p : Entry → Bool) where
   abbrev ts : List Txn
   ts = m .txns
@@ -209,7 +209,7 @@ module _ {m : Model} {ks : List Kept} {lists : ℕ → List Operation} (s : Soun
           eqb-cases (λ (os : List Operation). List·Memᴰ o os → List·Memᴰ o (lists u)) u t
           (λ _ i. absurd (List·Memᴰ·not-nil i)) (λ _ i. i)
 
-module _ {m : Model} {ks : List Kept} {lists : ℕ → List Operation} (s : Sound m) (a : AgreeIn m ks lists) where
+module _ {m : Model} {ks : List Kept} {lists : ℕ → List Operation} (s : Consistent m) (a : AgreeIn m ks lists) where
   pub agree-abort : (t : ℕ) → 0 < t → AgreeIn (abort t m) ks (without t lists)
   unfolding abort released
   agree-abort t z =

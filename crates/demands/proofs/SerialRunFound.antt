@@ -24,13 +24,13 @@ use Rattle.demands.proofs.AllLaws.{All, all-snoc, all-filter}
 use Rattle.demands.proofs.HoldLaws.{equal-or, not-so, Free, available-free, heldBy, mark-cases, removes-why}
 use Rattle.demands.proofs.HoldLaws.{handed-all, others-stay, mark-stays}
 use Rattle.demands.proofs.HolderLaws.{add-own, add-other, drop-own, drop-other}
-use Rattle.demands.proofs.Sound.{Ok, Sound, unique-entry}
+use Rattle.demands.proofs.Consistent.{Ok, Consistent, unique-entry}
 use Rattle.demands.proofs.SerialRunOps.{after, afterAll, afterFind, Can, CanOne, mentions, survives, after-split}
 use Rattle.demands.proofs.SerialRunOps.{can-keep, kept-number}
 use Rattle.demands.proofs.SerialRunAgree.{fits, Holds, Stored, Same, Ties, AgreeIn, fields-same, kept-is}
 use Rattle.demands.proofs.SerialRunAgree.{takes-same, takes-mentions, any-snoc, ties-more, Performs}
 
-module _ {m : Model} {ks : List Kept} {lists : ℕ → List Operation} (s : Sound m) (a : AgreeIn m ks lists) (w : LookUp)
+module _ {m : Model} {ks : List Kept} {lists : ℕ → List Operation} (s : Consistent m) (a : AgreeIn m ks lists) (w : LookUp)
     (e : Entry) (i : List·Memᴰ e (m .entries)) (av : available (m .txns) w e ≡ true) where
   abbrev t : ℕ
   t = w .txn .0

@@ -41,8 +41,8 @@ use Rattle.demands.proofs.AscendingLaws.{ascend-filter, ascending-disti
 use Rattle.demands.proofs.HoldLaws.{equal-or, eqb-cases, not-so}
 use Rattle.demands.proofs.Events.{Heard, Event, refuses, asks, writes, is-found, is-nothing, is-waiting, creates}
 use Rattle.demands.proofs.Events.{commits, aborts, ticks, excepts, expires}
-use Rattle.demands.proofs.Sound.{Ok, Sound, live-above}
-use Rattle.demands.proofs.SoundProof.{Reader, hearsAll, reads-log, made-keep, sound}
+use Rattle.demands.proofs.Consistent.{Ok, Consistent, live-above}
+use Rattle.demands.proofs.ConsistentProof.{Reader, hearsAll, reads-log, made-keep, consistent}
 use Rattle.demands.proofs.SettledProof.{lasting}
 use Rattle.demands.proofs.SerialRunOps.{after, afterAll, CanOne, Can, carryOut-can, carryOutAll-can, isNumber}
 use Rattle.demands.proofs.SerialRunOps.{total, addsIt, total-carryOut, total-carryOutAll}
@@ -220,7 +220,7 @@ module _ {clock : ℕ} {es : List Entry} {ts : List Txn} {next : ℕ} (r : Run) 
       }
 
 -- a written record
-wrote : (f : Frame) {m : Model} {r : Run} → Sound m → Ok (f .txn) (m .txns) → TracksIn m r
+wrote : (f : Frame) {m : Model} {r : Run} → Consistent m → Ok (f .txn) (m .txns) → TracksIn m r
     → TracksIn (stored m f) (follow f (written f (m .nextEntry)) r)
 unfolding follow written stored newEntry
 wrote f {m} {r} s l h =
@@ -234,7 +234,7 @@ wrote f {m} {r} s l h =
     (λ _. omega arith)))
 
 -- a found record
-took : (f : Frame) {m : Model} {r : Run} (w : LookUp) (e : Entry) → Sound m → List·Memᴰ w (m .waits)
+took : (f : Frame) {m : Model} {r : Run} (w : LookUp) (e : Entry) → Consistent m → List·Memᴰ w (m .waits)
     → List·Memᴰ e (m .entries)
     → available (m .txns) w e ≡ true → lastTakes (w .party) (r .asked) ≡ w .takes → TracksIn m r
     → Tracks (m .clock) (handOut (m .txns) w e (m .entries)) (m .txns) (m .nextEntry) (follow f (found w e) r)
@@ -289,7 +289,7 @@ serials =
     }
 
 -- each event is followed
-linked-event : {f : Frame} {m n : Model} {hs : List Heard} (r : Run) → Event f m hs n → Sound m → Linked m r
+linked-event : {f : Frame} {m n : Model} {hs : List Heard} (r : Run) → Event f m hs n → Consistent m → Linked m r
     → Linked n (hearsAll serials f hs r)
 unfolding serials stored create commit abort dropEnded lookUpOf follow nothing waiting created committed aborted
     exception ticked refused advanced lastTakes thrownAway
@@ -401,7 +401,7 @@ serializes is =
       succeeds = h .ok;
       taken-once = distinct-of (r .taken) (λ n. omega (arith, h .once n));
       left-once = distinct-of (numbersOf (filterb lasts (r .kept))) (λ n. omega (arith, h .once n, kept-once n));
-      committed-once = committed-distinct m (sound is .ordered);
+      committed-once = committed-distinct m (consistent is .ordered);
       same = λ k. (forth k, back k);
     }
   where

@@ -24,12 +24,12 @@ use Rattle.demands.proofs.HoldLaws.{eqb-cases, not-so}
 use Rattle.demands.proofs.Events.{Admitted}
 use Rattle.demands.proofs.Becomes.{newTxn}
 use Rattle.demands.proofs.EventsProof.{until-now}
-use Rattle.demands.proofs.Sound.{Live, Sound, ok-below, slot-free}
+use Rattle.demands.proofs.Consistent.{Live, Consistent, ok-below, slot-free}
 use Rattle.demands.proofs.SerialRunOps.{after, afterAll, Can, mentionsIt, mentions, can-keep}
 use Rattle.demands.proofs.SerialRunAgree.{fits, Stored, Same, Ties, AgreeIn, takes-mentions, fits-unfound}
 use Rattle.demands.proofs.SerialRunAgree.{ties-more, Performs}
 
-module _ {m : Model} (f : Frame) {ks : List Kept} {lists : ℕ → List Operation} (s : Sound m) (a : AgreeIn m ks lists)
+module _ {m : Model} (f : Frame) {ks : List Kept} {lists : ℕ → List Operation} (s : Consistent m) (a : AgreeIn m ks lists)
   where
     -- nobody has found the new number
     unfound : (u : ℕ) → All (λ o. mentionsIt (m .nextEntry) o ≡ false) (lists u)

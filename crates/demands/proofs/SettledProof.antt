@@ -34,11 +34,11 @@ use Rattle.demands.proofs.Events.{commits, aborts, ticks, excepts, expi
 use Rattle.demands.proofs.Becomes.{newTxn, kept-all, waits-all, clock-moves}
 use Rattle.demands.proofs.EventsProof.{until-later, NoneFor, OpenIn, Lasting, StepIs, is-carried, is-refused}
 use Rattle.demands.proofs.EventsProof.{step-is}
-use Rattle.demands.proofs.Sound.{Sound, ok-below, not-inside}
-use Rattle.demands.proofs.SoundProof.{sound-event, sound-events, sound-empty}
+use Rattle.demands.proofs.Consistent.{Consistent, ok-below, not-inside}
+use Rattle.demands.proofs.ConsistentProof.{consistent-event, consistent-events, consistent-empty}
 
 pub record Stable (m : Model) : Type 0 where
-  pub sound-model : Sound m
+  pub consistent-model : Consistent m
   pub lasting : Lasting m
   pub ahead : OpenIn m
   pub none-for : NoneFor m
@@ -69,7 +69,7 @@ available-same ts us w p e =
     (w .takes && not (eqb (dropReaderOf o (e .readers)) 0))) p
 
 -- where service does not follow
-none-event : {f : Frame} {m n : Model} {hs : List Heard} → serves f ≡ false → Event f m hs n → Sound m → NoneElse f m
+none-event : {f : Frame} {m n : Model} {hs : List Heard} → serves f ≡ false → Event f m hs n → Consistent m → NoneElse f m
     → NoneElse f n
 unfolding stored newEntry lookUpOf create
 none-event z (refuses m bs area q) s h = h
@@ -103,7 +103,7 @@ none-event {f} z (ticks m t a) s h = absurd (true≢false (sym (tick-serves f t)
 none-event {f} z (excepts m t k i r) s h = absurd (true≢false (sym (tick-serves f k) ∙ z))
 none-event {f} z (expires m k) s h = absurd (true≢false (sym (tick-serves f k) ∙ z))
 
-steady-event : {f : Frame} {m n : Model} {hs : List Heard} → Event f m hs n → Sound m → Steady f m → Steady f n
+steady-event : {f : Frame} {m n : Model} {hs : List Heard} → Event f m hs n → Consistent m → Steady f m → Steady f n
 unfolding newEntry lookUpOf
 steady-event {f} {m} {n} e s h =
     record {
@@ -124,13 +124,13 @@ steady-event {f} {m} {n} e s h =
         subst⁻¹ (λ c. All (λ w. Own f w ⊎ (reached c (w .deadline) ≡ false)) (n .waits)) q
         (waits-all (λ w. Own f w ⊎ (reached (m .clock) (w .deadline) ≡ false)) e (λ t a. inl (t, refl)) k)
 
-steady-events : {f : Frame} {m n : Model} {hs : List Heard} → Events f m hs n → Sound m → Steady f m → Steady f n
+steady-events : {f : Frame} {m n : Model} {hs : List Heard} → Events f m hs n → Consistent m → Steady f m → Steady f n
 steady-events over s h = h
-steady-events (then e t) s h = steady-events t (sound-event e s) (steady-event e s h)
+steady-events (then e t) s h = steady-events t (consistent-event e s) (steady-event e s h)
 
 -- and when it is over
 pub stable-step : (i : Input) (m : Model) → Stable m → Stable (step m (i .frame) (i .area) .model)
-stable-step i m k = go (step-is m (i .frame) (i .area) (k .sound-model .ordered .txns))
+stable-step i m k = go (step-is m (i .frame) (i .area) (k .consistent-model .ordered .txns))
   where
     f : Frame
     f = decode (i .frame)
@@ -140,7 +140,7 @@ stable-step i m k = go (step-is m (i .frame) (i .area) (k .sound-model .ordered 
     go (is-carried a c) =
         let r = c .rested in
         let h =
-        steady-events (c .events) (k .sound-model)
+        steady-events (c .events) (k .consistent-model)
         (record {
           lasting = inr (k .lasting);
           ahead = inr (λ w i. inr (k .ahead w i));
@@ -148,7 +148,7 @@ stable-step i m k = go (step-is m (i .frame) (i .area) (k .sound-model .ordered 
               (λ w i. inr (k .none-for w i));
         }) in
         record {
-          sound-model = sound-events (c .events) (k .sound-model);
+          consistent-model = consistent-events (c .events) (k .consistent-model);
           lasting = ⊎-elim (r .lasting) (λ x. x) (h .lasting);
           ahead =
               ⊎-elim (r .ahead) (λ x w i. ⊎-elim (λ o. r .waits-well (o .0) w i (o .1) .1) (λ y. y) (x w i)) (h .ahead);
@@ -160,7 +160,7 @@ stable-step i m k = go (step-is m (i .frame) (i .area) (k .sound-model .ordered 
 pub stable : (is : List Input) → Stable (made is)
 stable =
     made-keep Stable stable-step
-    (record { sound-model = sound-empty; lasting = all-none _; ahead = all-none _; none-for = all-none _ })
+    (record { consistent-model = consistent-empty; lasting = all-none _; ahead = all-none _; none-for = all-none _ })
 
 pub lasting : (is : List Input) → Lasting (made is)
 lasting is = stable is .lasting

@@ -6,12 +6,14 @@ use Rattle.demands.specs.Fixed.{Fixed}
 use Rattle.demands.specs.Consequences.{Consequences, ConsequencesFollow}
 use Rattle.demands.specs.Bounds.{Bounds}
 use Rattle.demands.specs.RuledOut.{RuledOut}
+use Rattle.demands.specs.Tidied.{Tidied}
 use Rattle.demands.proofs.ByRule.{space-follows, rules-follow}
 use Rattle.demands.proofs.Follows.{follows-1, follows-2, follows-3, follows-bounds}
 use Rattle.demands.proofs.Answering.{space-begins, space-answers, rules-begin, rules-answer}
 use Rattle.demands.proofs.DeterminedProof.{every-history, every-serial}
 use Rattle.demands.proofs.FixedProof.{every-reply}
 use Rattle.demands.proofs.ConsequencesProof.{every-consequence}
+use Rattle.demands.proofs.TidiedProof.{the-number-is-tidied}
 use Rattle.demands.proofs.RuledOutProof.{each-ruled-out}
 
 -- The space that is built.
@@ -57,6 +59,10 @@ consequences-follow = every-consequence
 pub consequences : Consequences theSpace
 unfolding ConsequencesFollow
 consequences = consequences-follow theSpace demand1 demand2
+
+-- What was shown before the number 14 was removed.
+pub tidied : Tidied
+tidied = the-number-is-tidied
 
 -- Wrong spaces.
 pub ruled-out : RuledOut

@@ -28,8 +28,8 @@ use Rattle.demands.proofs.Runs.{runs, made}
 use Rattle.demands.proofs.AllLaws.{All, all-none, all-cons, all-append, all-filter, all-map}
 use Rattle.demands.proofs.AscendingLaws.{ascending-distinct}
 use Rattle.demands.proofs.HoldLaws.{not-so, eqb-cases}
-use Rattle.demands.proofs.Sound.{Live, Sound, live-above}
-use Rattle.demands.proofs.SoundProof.{sound}
+use Rattle.demands.proofs.Consistent.{Live, Consistent, live-above}
+use Rattle.demands.proofs.ConsistentProof.{consistent}
 use Rattle.demands.proofs.SettledProof.{lasting}
 use Rattle.demands.proofs.SerialRunOps.{after, afterAll, CanOne, Can, carryOut-can, carryOutAll-can, takesIt}
 use Rattle.demands.proofs.SerialRunOps.{after-split, survives, mentionsIt, isNumber, addsIt, total-carryOutAll}
@@ -157,7 +157,7 @@ private-all Q r p h = go (p .operation) refl
         cond-cases (All Q) (anyb (eqb (p .txn)) (whoTakes (k .number) r)) (λ _. all-none Q)
         (λ n. all-cons (h k e n) (all-none Q))
 
-module _ (m : Model) (r : Run) (s : Sound m) (h : TracksIn m r) where
+module _ (m : Model) (r : Run) (s : Consistent m) (h : TracksIn m r) where
   -- a committed entry
   module _ (e : Entry) (i : List·Memᴰ e (m .entries)) (o : e .«private_to» .0 ≡ 0) where
     abbrev n : ℕ
@@ -346,7 +346,7 @@ pub told-demand : (is : List Input) → Explained (serialRun (runs empty is .log
 told-demand is =
     let m = made is in
     let r = serialRun (runs empty is .log) in
-    let s = sound is in
+    let s = consistent is in
     let h = linked is .tracks in
     record {
       stored-told = stored-told m r s h (lasting is);

@@ -11,6 +11,7 @@ use lib.Dec.{leb, ltb}
 use lib.ListN.{length, take, drop, length-append, length-drop, length-map}
 use Rattle.rules.specs.declared.Record.{Record}
 use Rattle.rules.specs.State.{Model, empty, Bounded}
+use Rattle.rules.specs.Sound.{Sound}
 use Rattle.rules.specs.Records.{areaAfter, recordBytes, recordAt, answerBytes}
 use Rattle.rules.specs.Step.{Outcome, step}
 use Rattle.rules.specs.Tray.{pairsOf, frameCount, pairsEnd, pairs, badTray, badPairs, trayRefusal, frameAt, TrayOutcome}
@@ -25,6 +26,7 @@ use Rattle.demands.specs.Trays.{BytesTellRecords}
 use Rattle.demands.specs.Bounds.{InRange}
 use Rattle.rules.proofs.BoolLaws.{cond-cases, or-left, or-right}
 use Rattle.rules.proofs.Capacity.{step-fits}
+use Rattle.rules.proofs.SoundLaws.{sound-empty, sound-step}
 use Rattle.rules.proofs.AreaLaws.{area-length}
 use Rattle.rules.proofs.NumberLaws.{word-is}
 
@@ -69,13 +71,13 @@ stops m area fs n h =
       all-done = h;
     }
 
-from : (m : Model) (area : List ℕ) (fs : List (List ℕ)) → Bounded m
+from : (m : Model) (area : List ℕ) (fs : List (List ℕ)) → Sound m → Bounded m
     → From m area fs (runFrames m (length area) fs)
 unfolding runFrames recordsOf answeredBy
-from m area [] b = stops m area [] 0 (inr (refl, refl))
-from m area (f ∷ fs) b =
+from m area [] sound b = stops m area [] 0 (inr (refl, refl))
+from m area (f ∷ fs) sound b =
     cond-cases (From m area (f ∷ fs)) (ltb (length area) 700) (λ _. stops m area (f ∷ fs) 1 (inl refl))
-    (λ t. more t (from (o .model) rest fs (s .0)))
+    (λ t. more t (from (o .model) rest fs (sound-step m f (length area) sound) (s .0)))
   where
     o : Outcome
     o = step m f (length area)
@@ -87,7 +89,7 @@ from m area (f ∷ fs) b =
     rest = drop (28 * length (o .records)) (areaAfter (o .records) area)
 
     s : Bounded (o .model) × (length (o .records) ≤ 25)
-    s = step-fits m f (length area) b
+    s = step-fits m f (length area) sound b
 
     does : StepsBy step m (record { frame = f; area = area }) (o .model) a
     does = record { space = refl; answered = refl }
@@ -125,7 +127,7 @@ from m area (f ∷ fs) b =
 pub trays-are-histories : TraysAreHistories
 unfolding TraysAreHistories
 trays-are-histories fs area =
-    let r = from empty area fs empty-bounded in
+    let r = from empty area fs sound-empty empty-bounded in
     record {
       log = r .log;
       last = r .last;
@@ -162,7 +164,7 @@ numbers-are-read-back tray area =
     tray-cases (λ n. ReadBack (cond (leb n 0) run (stopped n))) tray
     (read-back (stopped 15) (omega arith) (omega arith) (omega arith))
     (read-back (stopped 16) (omega arith) (omega arith) (omega arith))
-    (λ l. let r = from empty area fs empty-bounded in
+    (λ l. let r = from empty area fs sound-empty empty-bounded in
     let k : length fs ≡ frameCount tray =
     length-map (pairs tray) (frameAt tray) ∙ pairs-length (frameCount tray) (drop 4 tray) in
     read-back run (omega (arith, r .done-few)) (omega (arith, r .few))

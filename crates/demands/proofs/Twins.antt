@@ -38,7 +38,7 @@ use Rattle.rules.proofs.LayoutLaws.{lookUp-not-tick, create-not-tick}
 use Rattle.rules.proofs.ReaderLaws.{bit-of-zero, no-bits}
 use Rattle.demands.proofs.AllLaws.{All, all-filter, all-map, all-snoc}
 use Rattle.demands.proofs.HoldLaws.{equal-or, not-so}
-use Rattle.demands.proofs.Sound.{At, TxnsOk, txns-filter}
+use Rattle.demands.proofs.Consistent.{At, TxnsOk, txns-filter}
 use Rattle.demands.proofs.HolderLaws.{add-live, drop-live, add-own, drop-own, add-other, drop-other, freed-at}
 use Rattle.demands.proofs.SaidProof.{served-at, lookUp-not-served}
 

@@ -1,16 +1,14 @@
 -- What a look-up is answered: at once, after each step, and by its deadline. (`Consequences` says it of any space that
 -- meets the demands.)
-use Prim.Native.Nat.{ℕ, _≤_}
+use Prim.Native.Nat.{ℕ}
 use mathlib.Core.Bool.{Bool, true, false, cond, _&&_, _||_}
 use mathlib.Core.Path.{_≡_}
 use mathlib.Core.List.{List, [], _∷_, _++_, List·Memᴰ}
 use lib.Dec.{eqb}
-use lib.ListN.{length}
 use Rattle.rules.specs.declared.Entry.{Entry}
 use Rattle.rules.specs.declared.LookUp.{LookUp}
 use Rattle.rules.specs.declared.Record.{Record}
 use Rattle.rules.specs.Numbers.{kindFound, kindNothing, kindException, kindTicked}
-use Rattle.rules.specs.Lists.{filterb}
 use Rattle.rules.specs.Time.{reached}
 use Rattle.rules.specs.State.{Model, withWaits}
 use Rattle.rules.specs.Holds.{someAvailable}
@@ -45,13 +43,6 @@ NothingLeft m records n = (w : LookUp) → List·Memᴰ w (m .waits) → List·M
 pub record Settled (m : Model) : Type 0 where
   pub none-available : (w : LookUp) → List·Memᴰ w (m .waits) → someAvailable (m .txns) w (m .entries) ≡ false
   pub not-reached : (w : LookUp) → List·Memᴰ w (m .waits) → reached (m .clock) (w .deadline) ≡ false
-
-abbrev pub ofParty : ℕ → LookUp → Bool
-ofParty p w = eqb (w .party) p
-
--- "A party has at most one waiting look-up."
-abbrev pub OneEach : Model → Type 0
-OneEach m = (p : ℕ) → length (filterb (ofParty p) (m .waits)) ≤ 1
 
 abbrev pub isTicked : Record → Bool
 isTicked a = eqb (a .kind) kindTicked

@@ -17,3 +17,5 @@ pub mod Trays
 pub mod Frames
 pub mod Course
 pub mod RuledOut
+-- what was shown before a rule was taken away
+pub mod Tidied

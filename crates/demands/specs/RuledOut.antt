@@ -1,15 +1,15 @@
 -- What the demands rule out: a small wrong space for each of document 01's Contracts c, for each mistake that students
--- make, for silence, order and time, for the newest mark first, and for frames of another length; and the statement
--- that the demand named for it fails. (`Determined` says that no wrong space is left.)
+-- make, for silence, order and time, for the newest mark first, for frames of another length and for number 14; and
+-- the statement that the demand named for it fails. (`Determined` says that no wrong space is left.)
 use Prim.Native.Nat.{suc, _+_}
 use mathlib.Core.Bool.{Bool, not, cond, _&&_, _||_}
 use mathlib.Core.Path.{_≡_}
 use mathlib.Core.List.{List, [], _∷_, _++_, map, reverse}
-use lib.Dec.{eqb}
+use lib.Dec.{eqb, leb}
 use lib.ListN.{length, take}
 use Rattle.rules.specs.declared.Entry.{Entry}
 use Rattle.rules.specs.declared.LookUp.{LookUp}
-use Rattle.rules.specs.Numbers.{opCreate, opCommit, operationRefused}
+use Rattle.rules.specs.Numbers.{maxWaits, opCreate, opCommit, operationRefused, waitingRefused}
 use Rattle.rules.specs.Lists.{filterb, findb}
 use Rattle.rules.specs.Time.{reached}
 use Rattle.rules.specs.State.{Model, withEntries, withWaits, withClock, withNextEntry}
@@ -218,6 +218,14 @@ takesLongCommits m bs area =
     cond (isCommit (byteAt bs 0) && eqb (length bs) (frameLength opCreate))
     (step m (take (frameLength opCommit) bs) area) (step m bs area)
 
+-- "14 is never given out again" (document 02, T-04)
+
+-- still gives 14, where 16 wait and one of them asks again
+unfoldable pub gives14 : Stepper
+gives14 m bs area =
+    let o = step m bs area in
+    cond (eqb (o .number) waitingRefused && leb maxWaits (length (m .waits))) (refusedWith m bs 14) o
+
 -- answers no frame at all
 abbrev pub mute : Machine
 mute = record { State = Model; view = λ m. m; Empty = theRules .Empty; Steps = λ m h n a. ⊥ }
@@ -246,4 +254,5 @@ pub record RuledOut : Type 0 where
   pub newest-first : Demand2 (spaceOf newestFirst) → ⊥
   pub newest-in-service : Demand2 (spaceOf newestInService) → ⊥
   pub takes-long-commits : Demand1 (spaceOf takesLongCommits) → ⊥
+  pub gives-14 : Demand1 (spaceOf gives14) → ⊥
   pub answers-none : Demand1 mute → ⊥

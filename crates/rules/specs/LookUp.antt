@@ -11,7 +11,7 @@ use Rattle.rules.specs.declared.LookUp.{LookUp}
 use Rattle.rules.specs.Lists.{filterb}
 use Rattle.rules.specs.Time.{until}
 use Rattle.rules.specs.State.{Model, holding, withEntries, withWaits}
-use Rattle.rules.specs.Holds.{liveTxn, addReaderOf, dropReaderOf, oldest, someAvailable, someConflicts}
+use Rattle.rules.specs.Holds.{liveTxn, addReaderOf, dropReaderOf, oldest, someConflicts}
 use Rattle.rules.specs.Frame.{Frame, isTake, isIfExists}
 use Rattle.rules.specs.Records.{found, nothing, waiting}
 use Rattle.rules.specs.Done.{Carried}
@@ -59,10 +59,6 @@ handOut ts w e es =
 -- look-up waits
 unfoldable pub givesNothing : Model → LookUp → ℕ → Bool
 givesNothing m w timeout = eqb timeout 0 || w .«if_exists» && not (someConflicts (m .txns) w (m .entries))
-
--- whether a look-up must wait
-unfoldable pub mustWait : Model → LookUp → ℕ → Bool
-mustWait m w timeout = not (someAvailable (m .txns) w (m .entries)) && not (givesNothing m w timeout)
 
 -- the three answers
 unfoldable pub answerFound : Model → LookUp → Entry → Carried

@@ -17,12 +17,12 @@ use Rattle.rules.specs.Lists.{filterb, anyb, findb, distinct}
 use Rattle.rules.specs.State.{Model}
 use Rattle.rules.specs.Template.{bit}
 use Rattle.rules.specs.Frame.{Frame}
+use Rattle.rules.specs.Sound.{OneEach}
 use Rattle.rules.specs.Transactions.{orZero, freeSlot}
 use Rattle.rules.proofs.ListLaws.{count-mem, length-split, mem-filter, filter-mem, any-mem, mem-any, none-mem}
 use Rattle.rules.proofs.ListLaws.{find-some, find-none}
 use Rattle.rules.proofs.BoolLaws.{and-left, and-right, option-cases}
 use Rattle.demands.specs.Bounds.{ByNumber}
-use Rattle.demands.specs.Answers.{OneEach}
 use Rattle.demands.proofs.AllLaws.{All, all-snoc}
 use Rattle.demands.proofs.AscendingLaws.{ascend-unique}
 use Rattle.demands.proofs.Events.{LiveOf, Admitted}
@@ -56,7 +56,7 @@ pub record TxnsOk (n : ℕ) (ts : List Txn) : Type 0 where
   pub above : (t : Txn) → List·Memᴰ t ts → 0 < t .id .0
   pub below : (t : Txn) → List·Memᴰ t ts → t .id .0 < n
 
-pub record Sound (m : Model) : Type 0 where
+pub record Consistent (m : Model) : Type 0 where
   pub ordered : ByNumber m
   pub below : All (λ e. e .id .0 < m .nextEntry) (m .entries)
   pub held : All (EntryOk (m .txns)) (m .entries)
@@ -67,20 +67,20 @@ pub record Sound (m : Model) : Type 0 where
   pub each : OneEach m
 
 -- two entries with one number are one
-pub unique-entry : {m : Model} → Sound m → {a b : Entry} → List·Memᴰ a (m .entries) → List·Memᴰ b (m .entries)
+pub unique-entry : {m : Model} → Consistent m → {a b : Entry} → List·Memᴰ a (m .entries) → List·Memᴰ b (m .entries)
     → a .id .0 ≡ b .id .0 → a ≡ b
 unique-entry s i j q = ascend-unique (λ (e : Entry). e .id .0) (s .ordered .entries) i j q
 
 -- the number of a live transaction is above 0 and below the next
-pub live-above : {m : Model} → Sound m → {t : ℕ} → Live t (m .txns) → 0 < t
+pub live-above : {m : Model} → Consistent m → {t : ℕ} → Live t (m .txns) → 0 < t
 live-above s l = let b = s .txns-ok .above (l .0) (l .1) in let q = l .2 in omega arith
 
-pub ok-below : {m : Model} → Sound m → {t : ℕ} → Ok t (m .txns) → t < m .nextTxn
+pub ok-below : {m : Model} → Consistent m → {t : ℕ} → Ok t (m .txns) → t < m .nextTxn
 ok-below s (inl z) = let p = s .positive in omega arith
 ok-below s (inr l) = let b = s .txns-ok .below (l .0) (l .1) in let q = l .2 in omega arith
 
 -- nobody waits inside the transaction of a frame that is not refused
-pub not-inside : {m : Model} {f : Frame} → Sound m → Admitted f m → LiveOf (f .txn) (f .party) (m .txns)
+pub not-inside : {m : Model} {f : Frame} → Consistent m → Admitted f m → LiveOf (f .txn) (f .party) (m .txns)
     → All (λ w. w .txn .0 ≡ f .txn → ⊥) (m .waits)
 not-inside s a y w i q =
     ⊎-elim (λ n. let z = live-above s (y .0, y .1, y .2) in omega arith)

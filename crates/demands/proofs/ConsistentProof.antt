@@ -1,4 +1,4 @@
--- Each event keeps a space sound; and what each event keeps, of a sound space and of what a reader of frames and
+-- Each event keeps a space consistent; and what each event keeps, of a consistent space and of what a reader of frames and
 -- records makes of them, holds of every space that frames make of the empty one.
 use Prim.Native.Nat.{ℕ, _+_, _<_}
 use mathlib.Core.Bool.{Bool, true, false, cond, not, _&&_, true≢false}
@@ -29,14 +29,15 @@ use Rattle.demands.specs.Machine.{Input}
 use Rattle.demands.proofs.Runs.{runs, made}
 use Rattle.demands.proofs.AllLaws.{all-none}
 use Rattle.demands.proofs.AscendingLaws.{ascend-filter, ascend-snoc}
-use Rattle.demands.proofs.EachLaws.{Each, filtered, each-out, each-snoc}
+use Rattle.rules.proofs.SoundLaws.{each-snoc}
+use Rattle.demands.proofs.EachLaws.{Each, filtered, each-out}
 use Rattle.demands.proofs.HoldLaws.{cleared-cases, available-free}
 use Rattle.demands.proofs.OrderLaws.{InOrder, numbered-filter, handed-numbered, freed-numbered, stored-order}
 use Rattle.demands.proofs.Events.{LiveOf, Heard, asking, saying, heard, Event, refuses, asks, writes, is-found}
 use Rattle.demands.proofs.Events.{is-nothing, is-waiting, creates, commits, aborts, ticks, excepts, expires}
 use Rattle.demands.proofs.Events.{Events, over, then}
 use Rattle.demands.proofs.EventsProof.{step-events}
-use Rattle.demands.proofs.Sound.{Ok, EntryOk, TxnsOk, Sound, not-inside, slot-free, txns-filter, txns-snoc}
+use Rattle.demands.proofs.Consistent.{Ok, EntryOk, TxnsOk, Consistent, not-inside, slot-free, txns-filter, txns-snoc}
 use Rattle.demands.proofs.HolderLaws.{lives-on, stays-live, add-live, drop-live, drop-none, freed-at}
 use Rattle.demands.proofs.Becomes.{newTxn, Becomes, is-new, as-was, as-ever, is-held, is-freed, becomes, WaitsOn}
 use Rattle.demands.proofs.Becomes.{is-asked, waited, waited-ever, waited-commit, is-outside, waits-on}
@@ -104,7 +105,7 @@ each (excepts m t k i r) h = filtered _ (m .waits) h
 each (expires m k) h = h
 
 -- who holds an entry, wherever it comes from
-entry-ok : {f : Frame} {m : Model} {e : Entry} {ts : List Txn} → Sound m → Becomes f m e ts → EntryOk ts e
+entry-ok : {f : Frame} {m : Model} {e : Entry} {ts : List Txn} → Consistent m → Becomes f m e ts → EntryOk ts e
 unfolding newEntry released create
 entry-ok s (is-new t a d) =
     record {
@@ -167,7 +168,7 @@ Owned w ts = (w .txn .0 ≡ 0) ⊎ LiveOf (w .txn .0) (w .party) ts
 still-owned : (t : ℕ) (w : LookUp) (ts : List Txn) → (w .txn .0 ≡ t → ⊥) → Owned w ts → Owned w (withoutTxn t ts)
 still-owned t w ts d = ⊎-elim inl (λ x. inr (x .0, lives-on t ts (x .0) (x .1) (λ q. d (sym (x .2) ∙ q)), x .2, x .3))
 
-owned-ok : {f : Frame} {m : Model} {w : LookUp} {ts : List Txn} → Sound m → WaitsOn f m w ts → Owned w ts
+owned-ok : {f : Frame} {m : Model} {w : LookUp} {ts : List Txn} → Consistent m → WaitsOn f m w ts → Owned w ts
 unfolding lookUpOf create
 owned-ok s (is-asked t a) = a .inside
 owned-ok s (waited w i) = s .owned w i
@@ -176,8 +177,8 @@ owned-ok {f} {m} s (waited-commit t a w i) =
     still-owned (f .txn) w (m .txns) (not-inside s a (a .ends (commit-ends (f .op) t)) w i) (s .owned w i)
 owned-ok {f} {m} s (is-outside t w i d) = still-owned t w (m .txns) d (s .owned w i)
 
-pub sound-event : {f : Frame} {m n : Model} {hs : List Heard} → Event f m hs n → Sound m → Sound n
-sound-event e s =
+pub consistent-event : {f : Frame} {m n : Model} {hs : List Heard} → Event f m hs n → Consistent m → Consistent n
+consistent-event e s =
     let entries = numbered e (s .ordered .entries, s .below) in
     let txns = living e (s .ordered .txns, s .txns-ok, s .positive) in
     record {
@@ -190,9 +191,9 @@ sound-event e s =
       each = each e (s .each);
     }
 
-pub sound-empty : Sound empty
+pub consistent-empty : Consistent empty
 unfolding Ascending
-sound-empty =
+consistent-empty =
     record {
       ordered = record { entries = tt; txns = tt };
       below = all-none _;
@@ -208,9 +209,9 @@ sound-empty =
       each = λ p. omega arith;
     }
 
-pub sound-events : {f : Frame} {m n : Model} {hs : List Heard} → Events f m hs n → Sound m → Sound n
-sound-events over s = s
-sound-events (then e t) s = sound-events t (sound-event e s)
+pub consistent-events : {f : Frame} {m n : Model} {hs : List Heard} → Events f m hs n → Consistent m → Consistent n
+consistent-events over s = s
+consistent-events (then e t) s = consistent-events t (consistent-event e s)
 
 -- who reads frames and records: what it makes of a look-up that arrives, and of a record
 pub record Reader (R : Type 0) : Type 0 where
@@ -263,41 +264,41 @@ module _ {R : Type 0} (k : Reader R) (all : Frame → List Record → R → R) (
 
 -- What each event keeps, every step keeps, and every list of frames.
 abbrev pub Keeps : {R : Type 0} → Reader R → (Model → R → Type 0) → Type 0
-Keeps {R} k Q = (f : Frame) (m n : Model) (hs : List Heard) (r : R) → Event f m hs n → Sound m → Q m r
+Keeps {R} k Q = (f : Frame) (m n : Model) (hs : List Heard) (r : R) → Event f m hs n → Consistent m → Q m r
     → Q n (hearsAll k f hs r)
 
 module _ {R : Type 0} (k : Reader R) (Q : Model → R → Type 0) (keeps : Keeps k Q) where
-  events-keep : {f : Frame} {m n : Model} {hs : List Heard} (r : R) → Events f m hs n → Sound m → Q m r
+  events-keep : {f : Frame} {m n : Model} {hs : List Heard} (r : R) → Events f m hs n → Consistent m → Q m r
       → Q n (hearsAll k f hs r)
   events-keep r over s h = h
   events-keep {f} r (then {m} {n} {o} {hs} {ks} e t) s h =
       subst⁻¹ (Q o) (hears-append k f hs ks r)
-      (events-keep (hearsAll k f hs r) t (sound-event e s) (keeps f m n hs r e s h))
+      (events-keep (hearsAll k f hs r) t (consistent-event e s) (keeps f m n hs r e s h))
 
-  pub runs-keep : (m : Model) (r : R) (is : List Input) → Sound m → Q m r
-      → Sound (runs m is .model) × Q (runs m is .model) (readsLog k (runs m is .log) r)
+  pub runs-keep : (m : Model) (r : R) (is : List Input) → Consistent m → Q m r
+      → Consistent (runs m is .model) × Q (runs m is .model) (readsLog k (runs m is .log) r)
   unfolding runs readsLog
   runs-keep m r [] s h = (s, h)
   runs-keep m r (i ∷ is) s h =
       let f = decode (i .frame) in
       let o = step m (i .frame) (i .area) in
       let e = step-events m (i .frame) (i .area) (s .ordered .txns) in
-      runs-keep (o .model) (hearsAll k f (heard f (o .records)) r) is (sound-events e s) (events-keep r e s h)
+      runs-keep (o .model) (hearsAll k f (heard f (o .records)) r) is (consistent-events e s) (events-keep r e s h)
 
   pub made-keep : (r : R) → Q empty r → (is : List Input) → Q (made is) (readsLog k (runs empty is .log) r)
-  made-keep r h is = runs-keep empty r is sound-empty h .1
+  made-keep r h is = runs-keep empty r is consistent-empty h .1
 
 -- of the space alone
 noReader : Reader (Unit {0})
 noReader = record { asked = λ f r. r; reads = λ f a r. r }
 
 module _ (P : Model → Type 0)
-    (keeps : (f : Frame) (m n : Model) (hs : List Heard) → Event f m hs n → Sound m → P m → P n) where
+    (keeps : (f : Frame) (m n : Model) (hs : List Heard) → Event f m hs n → Consistent m → P m → P n) where
   pub made-has : P empty → (is : List Input) → P (made is)
   made-has h is = made-keep noReader (λ m r. P m) (λ f m n hs r. keeps f m n hs) tt h is
 
-pub sound : (is : List Input) → Sound (made is)
-sound is = runs-keep noReader (λ m r. Unit {0}) (λ f m n hs r e s h. tt) empty tt is sound-empty tt .0
+pub consistent : (is : List Input) → Consistent (made is)
+consistent is = runs-keep noReader (λ m r. Unit {0}) (λ f m n hs r e s h. tt) empty tt is consistent-empty tt .0
 
 pub orderly : (is : List Input) → InOrder (made is)
-orderly is = let s = sound is in (s .ordered .entries, s .below)
+orderly is = let s = consistent is in (s .ordered .entries, s .below)
