@@ -13,16 +13,16 @@ use Rattle.rules.specs.Numbers.{forever, lastClock, maxEntries, maxTxns}
 use Rattle.rules.specs.State.{Model}
 use Rattle.rules.specs.Frame.{Frame, layoutOf}
 use Rattle.rules.specs.Refusals.{tooLate, entriesFull, txnsFull, noNumber, admissionRows, roomRows}
-use Rattle.rules.specs.Requests.{frame, frameOf}
+use Rattle.rules.specs.Requests.{frame, frameOf, spaceRefusal}
 use Rattle.rules.proofs.BoolLaws.{and-false-right, or-left}
 use Rattle.rules.proofs.RefusalLaws.{testAt, none-applies}
 use Rattle.words.specs.Ends.{InTime}
-use Rattle.step.specs.Judge.{late, earlyRefusal}
+use Rattle.step.specs.Judge.{late}
 use Rattle.step.proofs.KindLaws.{kind-cases}
 
 -- none of the rows 6 to 13 applies: 10 to 13 stand at the places 4 to 7
-passed : (m : Model) (f : Frame) → earlyRefusal m f ≡ 0 → (k : ℕ) → testAt (admissionRows m f ++ roomRows m f) k ≡ false
-unfolding earlyRefusal
+passed : (m : Model) (f : Frame) → spaceRefusal m f ≡ 0 → (k : ℕ) → testAt (admissionRows m f ++ roomRows m f) k ≡ false
+unfolding spaceRefusal
 passed m f e k = none-applies (admissionRows m f ++ roomRows m f) refl e k
 
 in-time : (clock n : ℕ) → (late clock n || false) ≡ false → InTime clock n
@@ -31,7 +31,7 @@ in-time clock n e h =
     (and-false-right (not (eqb n forever)) (ltb lastClock (clock + n)) (ap not (ne-eqb n forever h))
     (or-left (late clock n) false e))
 
-module _ (m : Model) (w : WriteRequest) (e : earlyRefusal m (frameOf (Write w)) ≡ 0) where
+module _ (m : Model) (w : WriteRequest) (e : spaceRefusal m (frameOf (Write w)) ≡ 0) where
   pub write-in-time : InTime (m .clock) (w .lease)
   unfolding tooLate layoutOf
   write-in-time = in-time (m .clock) (w .lease) (passed m (frameOf (Write w)) e 4)
@@ -48,7 +48,7 @@ module _ (m : Model) (w : WriteRequest) (e : earlyRefusal m (frameOf (Write w)) 
   write-number =
       leb-false forever (m .nextEntry) (or-left (leb forever (m .nextEntry)) false (passed m (frameOf (Write w)) e 7))
 
-module _ (m : Model) (party lease : ℕ) (e : earlyRefusal m (frameOf (Create party lease)) ≡ 0) where
+module _ (m : Model) (party lease : ℕ) (e : spaceRefusal m (frameOf (Create party lease)) ≡ 0) where
   pub create-in-time : InTime (m .clock) lease
   unfolding tooLate layoutOf
   create-in-time = in-time (m .clock) lease (passed m (frameOf (Create party lease)) e 4)
@@ -61,7 +61,7 @@ module _ (m : Model) (party lease : ℕ) (e : earlyRefusal m (frameOf (Create pa
   unfolding noNumber
   create-number = leb-false forever (m .nextTxn) (passed m (frameOf (Create party lease)) e 7)
 
-pub find-in-time : (m : Model) (l : FindRequest) → earlyRefusal m (frameOf (Find l)) ≡ 0
+pub find-in-time : (m : Model) (l : FindRequest) → spaceRefusal m (frameOf (Find l)) ≡ 0
     → InTime (m .clock) (l .timeout)
 unfolding tooLate layoutOf
 find-in-time m l e =
@@ -70,6 +70,6 @@ find-in-time m l e =
     kind-cases (λ op. tooLate m (f op) ≡ false → InTime (m .clock) (l .timeout)) (l .takes) (l .«if_exists») g g g g
     (passed m (frameOf (Find l)) e 4)
 
-pub tick-clock : (m : Model) → earlyRefusal m (frameOf Tick) ≡ 0 → m .clock < lastClock
+pub tick-clock : (m : Model) → spaceRefusal m (frameOf Tick) ≡ 0 → m .clock < lastClock
 unfolding tooLate layoutOf
 tick-clock m e = leb-false lastClock (m .clock) (passed m (frameOf Tick) e 4)

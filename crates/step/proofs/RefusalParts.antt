@@ -3,7 +3,7 @@ use Prim.Native.Nat.{ℕ, _+_, _-_, _≤_, _<_}
 use mathlib.Core.Bool.{Bool, true, false, not, cond, _||_, or-false}
 use mathlib.Core.Option.{none, some}
 use mathlib.Core.Path.{_≡_, refl, sym, ap, _∙_}
-use mathlib.Core.List.{List, _++_}
+use mathlib.Core.List.{List}
 use native.Mathlib.Omega.{arith}
 use native.Mathlib.Decide.{decLt}
 use borrow.Author.Tests.{ne-eqb, lt-ltb, le-ltb}
@@ -15,13 +15,12 @@ use Rattle.rules.specs.Numbers.{notLiveRefused, notOwnRefused, clockRefused}
 use Rattle.rules.specs.State.{Model}
 use Rattle.rules.specs.Frame.{Frame, layoutOf}
 use Rattle.rules.specs.Holds.{liveTxn}
-use Rattle.rules.specs.Refusals.{admissionRows, roomRows, waitRows, inTxn, partyWaits, notLive, notOwn}
+use Rattle.rules.specs.Refusals.{admissionRows, roomRows, inTxn, partyWaits, notLive, notOwn}
 use Rattle.rules.specs.Refusals.{noLease, tooLate, entriesFull, txnsFull, noNumber}
 use Rattle.rules.specs.Requests.{frame, frameOf, spaceRefusal}
 use Rattle.rules.proofs.ListLaws.{some-any, none-any}
 use Rattle.rules.proofs.RefusalLaws.{first-append}
-use Rattle.step.specs.Judge.{txnRefusal, partyRefusal, late, admissionRefusal, roomRefusal, earlyRefusal}
-use Rattle.step.specs.Judge.{lateRefusal}
+use Rattle.step.specs.Judge.{txnRefusal, partyRefusal, late, admissionRefusal, roomRefusal}
 use Rattle.step.proofs.KindLaws.{kind-cases}
 
 -- ---- 10: a sum above the last clock, by a difference that cannot wrap
@@ -71,28 +70,15 @@ find-room m l =
 -- ---- one part behind another
 module _ (m : Model) (f : Frame) where
   -- 6 to 8, then 9 to 13
-  pub early-admission : {n : ℕ} → n ≡ admissionRefusal m f → (n ≡ 0 → ⊥) → n ≡ earlyRefusal m f
-  unfolding earlyRefusal
-  early-admission {n} e h =
+  pub by-admission : {n : ℕ} → n ≡ admissionRefusal m f → (n ≡ 0 → ⊥) → n ≡ spaceRefusal m f
+  unfolding spaceRefusal
+  by-admission {n} e h =
       sym (first-append (admissionRows m f) (roomRows m f) refl
       ∙ ap (λ k. cond (eqb k 0) (roomRefusal m f) k) (sym e)
       ∙ ap (λ b. cond b (roomRefusal m f) n) (ne-eqb n 0 h))
 
-  pub early-room : {n r : ℕ} → n ≡ admissionRefusal m f → n ≡ 0 → r ≡ roomRefusal m f → r ≡ earlyRefusal m f
-  unfolding earlyRefusal
-  early-room e z q =
+  pub by-room : {n r : ℕ} → n ≡ admissionRefusal m f → n ≡ 0 → r ≡ roomRefusal m f → r ≡ spaceRefusal m f
+  unfolding spaceRefusal
+  by-room e z q =
       q ∙ sym (first-append (admissionRows m f) (roomRows m f) refl
       ∙ ap (λ k. cond (eqb k 0) (roomRefusal m f) k) (sym e ∙ z))
-
-  -- and then 14
-  space-parts : spaceRefusal m f ≡ cond (eqb (earlyRefusal m f) 0) (lateRefusal m f) (earlyRefusal m f)
-  unfolding spaceRefusal earlyRefusal
-  space-parts = first-append (admissionRows m f ++ roomRows m f) (waitRows m f) refl
-
-  pub early-refused : {n : ℕ} → n ≡ earlyRefusal m f → (n ≡ 0 → ⊥) → spaceRefusal m f ≡ n
-  early-refused {n} e h =
-      space-parts ∙ ap (λ k. cond (eqb k 0) (lateRefusal m f) k) (sym e)
-      ∙ ap (λ b. cond b (lateRefusal m f) n) (ne-eqb n 0 h)
-
-  pub early-passed : earlyRefusal m f ≡ 0 → spaceRefusal m f ≡ lateRefusal m f
-  early-passed e = space-parts ∙ ap (λ k. cond (eqb k 0) (lateRefusal m f) k) e

@@ -2,8 +2,8 @@
 use Prim.Native.Nat.{ℕ, _+_, _*_, _≤_, _<_}
 use mathlib.Core.Bool.{Bool, true, false, cond}
 use mathlib.Core.Option.{none, some}
-use mathlib.Core.Path.{_≡_, refl, sym, ap, _∙_, subst₂}
-use mathlib.Core.List.{List, [], _∷_}
+use mathlib.Core.Path.{_≡_, refl, sym, ap, ap₂, _∙_}
+use mathlib.Core.List.{List, [], _∷_, _++_}
 use native.Mathlib.Omega.{arith}
 use borrow.Author.Tests.{ne-eqb, eqb-false, lt-ltb, le-ltb}
 use lib.Dec.{eqb, ltb}
@@ -15,20 +15,19 @@ use Rattle.rules.specs.Numbers.{stepArea, areaRefused}
 use Rattle.rules.specs.State.{Model}
 use Rattle.rules.specs.Frame.{Frame, decode}
 use Rattle.rules.specs.Records.{refused, answerBytes, areaAfter}
-use Rattle.rules.specs.Refusals.{refusal}
+use Rattle.rules.specs.Refusals.{wrongParty, formRows, admissionRows, roomRows, refusal}
 use Rattle.rules.specs.Requests.{frameOf, formRefusal, spaceRefusal, Decodes}
 use Rattle.rules.specs.Step.{Outcome, step, ownPart, finish, carriedOut, refusedWith, accepted}
+use Rattle.rules.specs.Sound.{Sound}
 use Rattle.rules.specs.Words.{view}
 use Rattle.rules.specs.Allowed.{Stepped}
 use Rattle.rules.proofs.ListLaws.{none≢some}
 use Rattle.rules.proofs.BoolLaws.{cond-cases}
-use Rattle.rules.proofs.RefusalLaws.{refusal-parts, form-not-area, space-not-area}
-use Rattle.step.specs.declared.own.Outcome.the-variants.{Carried, Refused as Kept}
-use Rattle.step.specs.Does.{Adds, Does}
-use Rattle.step.specs.Judge.{earlyRefusal, lateRefusal}
-use Rattle.step.specs.Outcome.{ComesTo}
+use Rattle.rules.proofs.RefusalLaws.{none-applies, refusal-parts, form-not-area, space-not-area}
+use Rattle.rules.proofs.SoundLaws.{room-left}
+use Rattle.step.specs.Does.{Carries, Adds, Does}
+use Rattle.step.specs.Judge.{HasRoom}
 use Rattle.step.proofs.AddsLaws.{adds-then}
-use Rattle.step.proofs.RefusalParts.{early-refused, early-passed}
 
 -- ---- which refusal applies
 asked-frame : {bs : List ℕ} {q : Request} → Decodes bs (Asks q) → frameOf q ≡ decode bs
@@ -69,7 +68,7 @@ module _ (m : Model) (bs : List ℕ) (area : ℕ) where
         not-zero : eqb (formRefusal bs) 0 ≡ false
         not-zero = go (eqb (formRefusal bs) 0) (d .frame)
 
-    -- it does not: the request is judged against the space, by 6 to 13 and then by 14
+    -- it does not: the request is judged against the space, by 6 to 13
     module _ {q : Request} (d : Decodes bs (Asks q)) where
       asked : refusal m bs area ≡ spaceRefusal m (frameOf q)
       asked =
@@ -77,11 +76,15 @@ module _ (m : Model) (bs : List ℕ) (area : ℕ) where
           ∙ ap (λ n. cond (eqb n 0) (spaceRefusal m (decode bs)) n) (sym (d .number))
           ∙ ap (spaceRefusal m) (sym (asked-frame d))
 
-      early : {n : ℕ} → n ≡ earlyRefusal m (frameOf q) → (n ≡ 0 → ⊥) → refusal m bs area ≡ n
-      early e z = asked ∙ early-refused m (frameOf q) e z
-
-      late : earlyRefusal m (frameOf q) ≡ 0 → refusal m bs area ≡ lateRefusal m (frameOf q)
-      late e = asked ∙ early-passed m (frameOf q) e
+-- on a sound space it has room to wait, if it is a look-up
+has-room : {bs : List ℕ} {q : Request} (m : Model) → Decodes bs (Asks q) → spaceRefusal m (frameOf q) ≡ 0 → Sound m
+    → HasRoom m (frameOf q)
+unfolding formRefusal spaceRefusal
+has-room {bs} {q} m d e s l =
+    let f = frameOf q in
+    room-left m f l
+    (ap wrongParty (asked-frame d) ∙ none-applies (formRows bs (decode bs)) refl (sym (d .number)) 3)
+    (none-applies (admissionRows m f ++ roomRows m f) refl e 0) s
 
 -- ---- what is allowed
 -- a step's outcome, where the number n is given
@@ -100,7 +103,7 @@ refused-by ws bs area {n} e z =
     ∙ ap (λ b. cond b (accepted (carriedOut (view ws) (decode bs))) (refusedWith (view ws) bs n)) (ne-eqb n 0 z)
 
 module _ {ws bs area ws′ area′ : List ℕ} {returned : ℕ} where
-  -- what the rules give
+  -- what the rules give, of a refused frame
   gives : (o : Outcome) → step (view ws) bs (length area) ≡ o → view ws′ ≡ o .model
       → area′ ≡ areaAfter (o .records) area → returned ≡ length (o .records) + 65536 * o .number
       → ((o .number ≡ 0 → ⊥) → ws′ ≡ ws) → Stepped ws bs area ws′ returned area′
@@ -109,8 +112,8 @@ module _ {ws bs area ws′ area′ : List ℕ} {returned : ℕ} where
         answered = record { records = o .records; count = length (o .records); number = o .number; area = area′ };
         allowed =
             record {
-              space = v ∙ sym (ap (λ (x : Outcome). x .model) e);
-              records = sym (ap (λ (x : Outcome). x .records) e);
+              space = λ _. v ∙ sym (ap (λ (x : Outcome). x .model) e);
+              records = λ _. sym (ap (λ (x : Outcome). x .records) e);
               count = refl;
               number = sym (ap (λ (x : Outcome). x .number) e);
               bytes = b;
@@ -143,32 +146,43 @@ module _ {ws bs area ws′ area′ : List ℕ} {returned : ℕ} where
 
     module _ {q : Request} (d : Decodes bs (Asks q)) where
       -- 6 to 13
-      pub stepped-early : {n : ℕ} → n ≡ earlyRefusal (view ws) (frameOf q) → (n ≡ 0 → ⊥) → ws′ ≡ ws
+      pub stepped-judged : {n : ℕ} → n ≡ spaceRefusal (view ws) (frameOf q) → (n ≡ 0 → ⊥) → ws′ ≡ ws
           → (returned ≡ 1 + 65536 * n) × Adds (refused bs n ∷ []) area area′ 0 1 → Stepped ws bs area ws′ returned area′
-      stepped-early e z s a = stepped-refused (early (view ws) bs (length area) h d e z) z s a
+      stepped-judged e z s a = stepped-refused (asked (view ws) bs (length area) h d ∙ sym e) z s a
 
-      module _ (e : earlyRefusal (view ws) (frameOf q) ≡ 0) where
-        -- 14
-        pub stepped-late : {n : ℕ}
-            → ComesTo (lateRefusal (view ws) (frameOf q)) (ownPart (view ws) (frameOf q)) ws ws′ (Kept n)
-            → (returned ≡ 1 + 65536 * n) × Adds (refused bs n ∷ []) area area′ 0 1
-            → Stepped ws bs area ws′ returned area′
-        stepped-late c a =
-            stepped-refused (late (view ws) bs (length area) h d e ∙ c .0) (λ z. c .1 (c .0 ∙ z)) (c .2) a
-
-        -- carried out: the frame's own record, and then its finish
-        pub stepped-done : {ws₁ a₁ : List ℕ} {own : Record} {n : ℕ}
-            → ComesTo (lateRefusal (view ws) (frameOf q)) (ownPart (view ws) (frameOf q)) ws ws₁ (Carried own)
-            → Adds (own ∷ []) area a₁ 0 n → Does (finish (frameOf q) (view ws₁)) ws′ a₁ area′ n returned
-            → Stepped ws bs area ws′ returned area′
-        unfolding carriedOut accepted
-        stepped-done c a f =
-            let all =
-            subst₂ (λ r m. Adds (r ∷ finish (frameOf q) m .records) area area′ 0 returned) (c .1 .own)
-            (c .1 .model)
-            (adds-then (omega arith) a (f .adds)) in
-            gives (accepted (carriedOut (view ws) (frameOf q)))
-            (by ws bs area (late (view ws) bs (length area) h d e ∙ c .0)
-            ∙ ap (λ g. accepted (carriedOut (view ws) g)) (sym (asked-frame d)))
-            (f .model ∙ ap (λ m. finish (frameOf q) m .model) (c .1 .model)) (all .bytes)
-            (omega (arith, all .counts)) (λ z. absurd (z refl))
+      -- carried out: the frame's own record, and then its finish
+      pub stepped-done : {ws₁ a₁ : List ℕ} {own : Record} {n : ℕ} → spaceRefusal (view ws) (frameOf q) ≡ 0
+          → (HasRoom (view ws) (frameOf q) → Carries (ownPart (view ws) (frameOf q)) ws₁ own)
+          → Adds (own ∷ []) area a₁ 0 n → Does (finish (frameOf q) (view ws₁)) ws′ a₁ area′ n returned
+          → Stepped ws bs area ws′ returned area′
+      unfolding carriedOut accepted
+      stepped-done {ws₁} {a₁} {own} e c a f =
+          let all = adds-then (omega arith) a (f .adds) in
+          let given = by ws bs area (asked (view ws) bs (length area) h d ∙ e) in
+          let same = given ∙ ap (λ g. accepted (carriedOut (view ws) g)) (sym (asked-frame d)) in
+          record {
+            answered =
+                record {
+                  records = own ∷ finish (frameOf q) (view ws₁) .records;
+                  count = returned;
+                  number = 0;
+                  area = area′;
+                };
+            allowed =
+                record {
+                  space = λ s.
+                      let o = c (has-room (view ws) d e (s refl)) in
+                      f .model ∙ ap (λ m. finish (frameOf q) m .model) (o .model)
+                      ∙ sym (ap (λ (x : Outcome). x .model) same);
+                  records = λ s.
+                      let o = c (has-room (view ws) d e (s refl)) in
+                      ap₂ (λ r m. r ∷ finish (frameOf q) m .records) (o .own) (o .model)
+                      ∙ sym (ap (λ (x : Outcome). x .records) same);
+                  count = omega (arith, all .counts);
+                  number = sym (ap (λ (x : Outcome). x .number) same);
+                  bytes = all .bytes;
+                  unchanged = λ z. absurd (z refl);
+                };
+            returns = omega arith;
+            leaves = refl;
+          }

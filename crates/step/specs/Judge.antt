@@ -1,8 +1,8 @@
--- The refusals 6 to 14 as the code judges them: 6 to 13 before a request is carried out, 14 where a look-up is about to
--- wait.
-use Prim.Native.Nat.{ℕ, _+_}
-use mathlib.Core.Bool.{Bool, not, cond, _&&_, _||_}
-use mathlib.Core.List.{List, [], _∷_, _++_}
+-- The refusals 6 to 13 as the code judges them, and room for a look-up that waits.
+use Prim.Native.Nat.{ℕ, _+_, _<_}
+use mathlib.Core.Bool.{Bool, true, not, cond, _&&_, _||_}
+use mathlib.Core.Path.{_≡_}
+use mathlib.Core.List.{List, [], _∷_}
 use lib.Dec.{eqb, leb, ltb}
 use lib.ListN.{length}
 use Rattle.rules.specs.declared.Entry.{Entry}
@@ -13,9 +13,8 @@ use Rattle.rules.specs.Numbers.{forever, lastClock, maxEntries, maxWaits}
 use Rattle.rules.specs.Numbers.{waitingRefused, notLiveRefused, notOwnRefused}
 use Rattle.rules.specs.State.{Model}
 use Rattle.rules.specs.Holds.{liveTxn}
-use Rattle.rules.specs.Frame.{Frame}
-use Rattle.rules.specs.LookUp.{givesNothing}
-use Rattle.rules.specs.Refusals.{isOf, admissionRows, roomRows, waitRows}
+use Rattle.rules.specs.Frame.{Frame, isLookUp}
+use Rattle.rules.specs.Refusals.{isOf, admissionRows, roomRows}
 
 -- 6, of a party
 abbrev pub partyWaiting : ℕ → List LookUp → Bool
@@ -49,14 +48,10 @@ admissionRefusal m f = firstRow (admissionRows m f)
 abbrev pub roomRefusal : Model → Frame → ℕ
 roomRefusal m f = firstRow (roomRows m f)
 
--- the first of 6 to 13 that applies, or 0
-unfoldable pub earlyRefusal : Model → Frame → ℕ
-earlyRefusal m f = firstRow (admissionRows m f ++ roomRows m f)
+-- a look-up that must wait finds room; and a frame does, if it is a look-up. (On a sound space every frame does that 5
+-- and 6 let pass.)
+abbrev pub CanWait : Model → Type 0
+CanWait m = length (m .waits) < maxWaits
 
--- 14, or 0
-abbrev pub lateRefusal : Model → Frame → ℕ
-lateRefusal m f = firstRow (waitRows m f)
-
--- 14, of a look-up to which no entry is available
-abbrev pub noWaitLeft : Model → LookUp → ℕ → Bool
-noWaitLeft m w timeout = not (givesNothing m w timeout) && leb maxWaits (length (m .waits))
+abbrev pub HasRoom : Model → Frame → Type 0
+HasRoom m f = isLookUp (f .op) ≡ true → CanWait m

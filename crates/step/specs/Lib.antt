@@ -1,5 +1,4 @@
 -- What the functions over the words do, by definitions that their contracts cite.
 pub mod Does
 pub mod Judge
-pub mod Outcome
 pub mod Ending

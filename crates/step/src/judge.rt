@@ -1,10 +1,9 @@
-// Why a request is refused: the refusals 6 to 13, in document 01's order. 14 is judged where a look-up is about to
-// wait.
+// Why a request is refused: the refusals 6 to 13, in document 01's order.
 ghost use mathlib.Core.Path.{_≡_};
-ghost use Rattle.rules.specs.Requests.{frameOf};
+ghost use Rattle.rules.specs.Requests.{frameOf, spaceRefusal};
 ghost use Rattle.rules.specs.Words.{view};
 ghost use Rattle.step.specs.Judge.{partyWaiting, txnRefusal, partyRefusal, late, noRoom};
-ghost use Rattle.step.specs.Judge.{admissionRefusal, roomRefusal, earlyRefusal};
+ghost use Rattle.step.specs.Judge.{admissionRefusal, roomRefusal};
 use holds::live::Live;
 use holds::live::find_txn;
 use rules::Request;
@@ -173,7 +172,7 @@ pub(crate) fn room(space: &Words, q: Request) -> u8
 
 // The first of the refusals 6 to 13 that applies, or 0.
 pub(crate) fn judge(space: &Words, q: Request) -> u8
-    ensures { λ r. ⌜ r ≡ earlyRefusal (view (now (space .entry))) (frameOf q) ⌝ }
+    ensures { λ r. ⌜ r ≡ spaceRefusal (view (now (space .entry))) (frameOf q) ⌝ }
 {
     let n = admission(space, q);
     if n != 0 {

@@ -3,14 +3,13 @@
 ghost use mathlib.Core.Path.{_≡_};
 ghost use Prim.Native.Nat.{_<_};
 ghost use Rattle.rules.specs.Numbers.{lastClock};
-ghost use Rattle.rules.specs.Requests.{frameOf};
+ghost use Rattle.rules.specs.Requests.{frameOf, spaceRefusal};
 ghost use Rattle.rules.specs.Step.{ownPart, commitFrame, abortFrame};
 ghost use Rattle.rules.specs.Tick.{tick};
 ghost use Rattle.rules.specs.Transactions.{create as createFrame};
 ghost use Rattle.rules.specs.Words.{view};
 ghost use Rattle.step.specs.Does.{Carries};
-ghost use Rattle.step.specs.Judge.{earlyRefusal, lateRefusal};
-ghost use Rattle.step.specs.Outcome.{ComesTo};
+ghost use Rattle.step.specs.Judge.{HasRoom};
 use crate::look_up::find;
 use crate::write::write;
 use codec::records::plain_record;
@@ -28,14 +27,8 @@ use words::rows::Words;
 use words::rows::clock;
 use words::rows::set_clock;
 
-// What becomes of a request: it is carried out and answers its own record, or it is refused with a number.
-pub(crate) enum Outcome {
-    Carried(Record),
-    Refused(u8),
-}
-
 pub(crate) fn create(space: &mut Words, party: u8, lease: u32) -> Record
-    requires { ⌜ earlyRefusal (view (now space)) (frameOf (Request.Create party lease)) ≡ 0 ⌝ }
+    requires { ⌜ spaceRefusal (view (now space)) (frameOf (Request.Create party lease)) ≡ 0 ⌝ }
     ensures { λ r. ⌜ Carries (createFrame (view (now (space .entry))) (frameOf (Request.Create party lease)))
         (now (space .exit)) r ⌝ }
 {
@@ -70,17 +63,17 @@ pub(crate) fn tick(space: &mut Words) -> Record
 }
 
 // What a request does of its own that the refusals 6 to 13 let pass.
-pub(crate) fn carry_out(space: &mut Words, q: Request) -> Outcome
-    requires { ⌜ earlyRefusal (view (now space)) (frameOf q) ≡ 0 ⌝ }
-    ensures { λ r. ⌜ ComesTo (lateRefusal (view (now (space .entry))) (frameOf q))
-        (ownPart (view (now (space .entry))) (frameOf q)) (now (space .entry)) (now (space .exit)) r ⌝ }
+pub(crate) fn carry_out(space: &mut Words, q: Request) -> Record
+    requires { ⌜ spaceRefusal (view (now space)) (frameOf q) ≡ 0 ⌝ }
+    ensures { λ r. ⌜ (HasRoom (view (now (space .entry))) (frameOf q)
+        → Carries (ownPart (view (now (space .entry))) (frameOf q)) (now (space .exit)) r) ⌝ }
 {
     match q {
-        Request::Write(w) => Outcome::Carried(write(space, w)),
+        Request::Write(w) => write(space, w),
         Request::Find(l) => find(space, l),
-        Request::Create(party, lease) => Outcome::Carried(create(space, party, lease)),
-        Request::Commit(party, id) => Outcome::Carried(commit(space, party, id)),
-        Request::Abort(party, id) => Outcome::Carried(abort(space, party, id)),
-        Request::Tick => Outcome::Carried(tick(space)),
+        Request::Create(party, lease) => create(space, party, lease),
+        Request::Commit(party, id) => commit(space, party, id),
+        Request::Abort(party, id) => abort(space, party, id),
+        Request::Tick => tick(space),
     }
 }

@@ -13,7 +13,6 @@ use crate::answers::add_record;
 use crate::finish::ending_of;
 use crate::finish::finish;
 use crate::judge::judge;
-use crate::own::Outcome;
 use crate::own::carry_out;
 use codec::records::refused_record;
 use rules::Request;
@@ -45,12 +44,7 @@ pub(crate) fn take_up(space: &mut Words, frame: &[u8], answers: &mut [u8], q: Re
         return refuse(answers, frame, n);
     }
     let ending = ending_of(q);
-    let outcome = carry_out(space, q);
-    match outcome {
-        Outcome::Carried(own) => {
-            let count = add_record(answers, 0, own);
-            finish(space, answers, count, ending) as u64
-        }
-        Outcome::Refused(n) => refuse(answers, frame, n),
-    }
+    let own = carry_out(space, q);
+    let count = add_record(answers, 0, own);
+    finish(space, answers, count, ending) as u64
 }

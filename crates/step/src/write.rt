@@ -1,13 +1,12 @@
 // The own part of a write.
 ghost use mathlib.Core.Path.{_≡_};
-ghost use Rattle.rules.specs.Requests.{frameOf};
+ghost use Rattle.rules.specs.Requests.{frameOf, spaceRefusal};
 ghost use Rattle.rules.specs.Words.{view};
 ghost use Rattle.rules.specs.Write.{newEntry, write as writeFrame};
 ghost use Rattle.rules.specs.declared.Request.the-variants.{Write};
 ghost use Rattle.words.specs.Ends.{InTime};
 ghost use Rattle.words.specs.Rows.{FitsWord};
 ghost use Rattle.step.specs.Does.{Carries};
-ghost use Rattle.step.specs.Judge.{earlyRefusal};
 use codec::records::written_record;
 use rules::Entry;
 use rules::EntryId;
@@ -41,7 +40,7 @@ pub(crate) fn new_entry(space: &Words, w: WriteRequest) -> Entry
 
 // The number is used up, and the entry stored unless the lease is 0.
 pub(crate) fn write(space: &mut Words, w: WriteRequest) -> Record
-    requires { ⌜ earlyRefusal (view (now space)) (frameOf (Write w)) ≡ 0 ⌝ }
+    requires { ⌜ spaceRefusal (view (now space)) (frameOf (Write w)) ≡ 0 ⌝ }
     ensures { λ r. ⌜ Carries (writeFrame (view (now (space .entry))) (frameOf (Write w))) (now (space .exit)) r ⌝ }
 {
     let e = new_entry(space, w);

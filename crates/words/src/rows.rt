@@ -391,13 +391,14 @@ pub fn wait_at(space: &Words, i: usize) -> LookUp
     }
 }
 
-// The look-up stands behind the others.
+// The look-up stands behind the others. There is room in every sound space; on other words, where 16 wait already, the
+// table begins anew.
 pub fn add_wait(space: &mut Words, w: LookUp)
-    requires { ⌜ (length (view (now space) .waits) < maxWaits) × FitsWord (w .deadline) ⌝ }
-    ensures { λ _. ⌜ view (now (space .exit))
-        ≡ withWaits (view (now (space .entry)) .waits ++ (w ∷ [])) (view (now (space .entry))) ⌝ }
+    requires { ⌜ FitsWord (w .deadline) ⌝ }
+    ensures { λ _. ⌜ (length (view (now (space .entry)) .waits) < maxWaits → view (now (space .exit))
+        ≡ withWaits (view (now (space .entry)) .waits ++ (w ∷ [])) (view (now (space .entry)))) ⌝ }
 {
-    let n = wait_count(space);
+    let row = wait_count(space) % MAX_WAITS;
     let op = op_word(w.takes, w.if_exists);
     let deadline = w.deadline;
     let end = until_word(deadline);
@@ -412,8 +413,8 @@ pub fn add_wait(space: &mut Words, w: LookUp)
         w.txn.0,
         end,
     ];
-    put_words(space, WAITS_AT + WAIT_WIDTH * n, &r);
-    set_wait_count(space, n + 1);
+    put_words(space, WAITS_AT + WAIT_WIDTH * row, &r);
+    set_wait_count(space, row + 1);
 }
 
 pub fn move_wait(space: &mut Words, from: usize, to: usize)

@@ -1,10 +1,8 @@
 -- `step::own::carry_out` meets its contract. Assumes nothing.
-use mathlib.Core.Path.{refl}
 use borrow.Author.Needs.{needs}
-use Rattle.rules.specs.Refusals.{waitsFull}
 use Rattle.rules.specs.Step.{ownPart}
-use Rattle.step.proofs.KindLaws.{own-find}
-use Rattle.step.proofs.LookUpAnswers.{comes-as}
+use Rattle.step.proofs.KindLaws.{own-find, looks-up}
+use Rattle.step.proofs.LookUpAnswers.{carries-as}
 use Rattle.step.proofs.PassedLaws.{tick-clock}
 use Rattle.step.proofs.own.carry_out.Statement.{statement}
 use Rattle.step.proofs.own.carry_out.Tie as tie
@@ -22,29 +20,31 @@ tick-requires : tie.Need-tick-requires
 tick-requires c κs = tick-clock _ (rw (c .before .enum-told .given .1) at (c .before .before .before .pre))
 
 returns : tie.Need-returns
-unfolding ownPart waitsFull
-returns c = rw (c .before .before .before .q .given .1) (refl, c .write .ensures)
+unfolding ownPart
+returns c = rw (c .before .before .before .q .given .1) (λ _. c .write .ensures)
 
 returns-2 : tie.Need-returns-2
 returns-2 c =
     let l = c .before .before .before .q2 .given in
-    rw (l .1) (comes-as _ _ (c .find .result) refl (own-find _ (l .0 .0)) (c .find .ensures))
+    rw (l .1)
+    (λ free. carries-as _ _ (own-find _ (l .0 .0))
+    (c .find .ensures (free (looks-up (l .0 .0 .takes) (l .0 .0 .«if_exists»)))))
 
 returns-3 : tie.Need-returns-3
-unfolding ownPart waitsFull
-returns-3 c = rw (c .before .before .before .q3 .given .1) (refl, c .create .ensures)
+unfolding ownPart
+returns-3 c = rw (c .before .before .before .q3 .given .1) (λ _. c .create .ensures)
 
 returns-4 : tie.Need-returns-4
-unfolding ownPart waitsFull
-returns-4 c = rw (c .before .before .before .q4 .given .1) (refl, c .commit .ensures)
+unfolding ownPart
+returns-4 c = rw (c .before .before .before .q4 .given .1) (λ _. c .commit .ensures)
 
 returns-5 : tie.Need-returns-5
-unfolding ownPart waitsFull
-returns-5 c = rw (c .before .before .before .q5 .given .1) (refl, c .abort .ensures)
+unfolding ownPart
+returns-5 c = rw (c .before .before .before .q5 .given .1) (λ _. c .abort .ensures)
 
 returns-6 : tie.Need-returns-6
-unfolding ownPart waitsFull
-returns-6 c = rw (c .before .before .enum-told .given .1) (refl, c .tick .ensures)
+unfolding ownPart
+returns-6 c = rw (c .before .before .enum-told .given .1) (λ _. c .tick .ensures)
 
 pub carry-out-spec : {M : Type 1} → statement M
 carry-out-spec =
