@@ -10,11 +10,13 @@ use Rattle.rules.specs.Numbers.{recordSize, stepRecords, stepArea, areaRefused}
 use Rattle.rules.specs.State.{empty}
 use Rattle.rules.specs.Words.{view}
 use Rattle.rules.specs.Records.{answerBytes, areaAfter}
+use Rattle.rules.specs.Sound.{Sound}
 use Rattle.rules.specs.Step.{Outcome, step}
 use Rattle.rules.specs.Tray.{frameCount, frameAt, runFrames}
 use Rattle.rules.specs.Allowed.{Answered, Allowed, Stepped}
 use Rattle.rules.proofs.AreaLaws.{area-length, area-then}
 use Rattle.rules.proofs.Capacity.{step-fits}
+use Rattle.rules.proofs.SoundLaws.{sound-empty, sound-step}
 use Rattle.rules.proofs.ViewLaws.{view-bounded}
 use Rattle.tray.proofs.RunLaws.{Ran, ran-none, ran-more, ran-all, ran-stops}
 use Rattle.tray.specs.Pairs.{pairAt}
@@ -28,6 +30,7 @@ pub record Running (tray a₀ ws a : List ℕ) (k n : ℕ) : Type 0 where
   pub area : a ≡ areaAfter records a₀
   pub room : recordSize * n ≤ length a₀
   pub few : n ≤ stepRecords * k
+  pub sound : Sound (view ws)
 
 pub running-none : {tray a ws : List ℕ} → view ws ≡ empty → Running tray a ws a 0 0
 unfolding areaAfter answerBytes
@@ -39,6 +42,7 @@ running-none {a = a} e =
       area = refl;
       room = omega arith;
       few = omega arith;
+      sound = subst⁻¹ Sound e sound-empty;
     }
 
 pub running-length : {tray a₀ ws a : List ℕ} {k n : ℕ} → Running tray a₀ ws a k n → length a ≡ length a₀
@@ -55,9 +59,9 @@ running-more {tray} {a₀} {ws} {a} {ws′} {frame = frame} {part} {k = k} {n} {
       records = rs ++ x .records;
       ran = subst⁻¹ (λ l. Ran l (length a₀) (view ws′) (rs ++ x .records)) frames
           (subst⁻¹ (λ m. Ran (take k (framesOf tray) ++ (f ∷ [])) (length a₀) m (rs ++ x .records))
-          (al .space ∙ ap (λ (o : Outcome). o .model) same)
+          (space ∙ ap (λ (o : Outcome). o .model) same)
           (subst⁻¹ (λ l. Ran (take k (framesOf tray) ++ (f ∷ [])) (length a₀) (o .model) (rs ++ l))
-          (al .records ∙ ap (λ (o : Outcome). o .records) same)
+          (records ∙ ap (λ (o : Outcome). o .records) same)
           (ran-more (take k (framesOf tray)) (length a₀) (view ws) rs f (r .ran) room′)));
       counts = omega (arith, r .counts, count, length-append rs (x .records));
       area =
@@ -68,6 +72,7 @@ running-more {tray} {a₀} {ws} {a} {ws′} {frame = frame} {part} {k = k} {n} {
           ∙ area-then rs (x .records) a₀;
       room = omega (arith, count, few);
       few = omega (arith, count, few, r .few);
+      sound = subst⁻¹ Sound space (sound-step (view ws) frame (length part) (r .sound));
     }
   where
     rs : List Record
@@ -78,6 +83,12 @@ running-more {tray} {a₀} {ws} {a} {ws′} {frame = frame} {part} {k = k} {n} {
 
     al : Allowed ws frame part ws′ x
     al = s .allowed
+
+    space : view ws′ ≡ step (view ws) frame (length part) .model
+    space = al .space (λ _. r .sound)
+
+    records : x .records ≡ step (view ws) frame (length part) .records
+    records = al .records (λ _. r .sound)
 
     f : List ℕ
     f = frameAt tray (pairAt tray k)
@@ -102,8 +113,8 @@ running-more {tray} {a₀} {ws} {a} {ws′} {frame = frame} {part} {k = k} {n} {
 
     few : length (x .records) ≤ stepRecords
     few =
-        let fits = step-fits (view ws) frame (length part) (view-bounded ws) .1 in
-        omega (arith, ap (λ (l : List Record). length l) (al .records), fits)
+        let fits = step-fits (view ws) frame (length part) (r .sound) (view-bounded ws) .1 in
+        omega (arith, ap (λ (l : List Record). length l) records, fits)
 
     count : returned % 65536 ≡ length (x .records)
     count = omega (arith, s .returns, al .count, few)
