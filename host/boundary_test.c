@@ -100,7 +100,7 @@ static void build_frames(void)
                        : length == 0, "the lengths");
         check((strcmp(space_operation_name((uint8_t)operation), "?") != 0) == there_is, "the operations' names");
         check((strcmp(space_record_name((uint8_t)operation), "?") != 0) == (there_is || operation == 15), "the kinds'");
-        check((strcmp(space_refusal_meaning((uint32_t)operation), "?") != 0) == (operation >= 1 && operation <= 16),
+        check((strcmp(space_refusal_meaning((uint32_t)operation), "?") != 0) == (operation >= 1 && operation <= 16 && operation != 14),
               "the refusals' meanings");
     }
 }

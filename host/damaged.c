@@ -191,7 +191,7 @@ static void run_steps(void)
         memcpy(frame, made, frame_len);
         uint64_t returned = space_step(space, frame, frame_len, answers, answers_len);
         if (space_step_records(returned) > SPACE_MAX_STEP_RECORDS ||
-            space_step_number(returned) > SPACE_REFUSAL_WAITING_FULL)
+            space_step_number(returned) > SPACE_REFUSAL_NUMBERS_USED_UP)
             fail("a step", returned);
         read_records(answers, space_step_records(returned));
         release(frame);

@@ -15,8 +15,8 @@ extern "C" {
 #endif
 
 /* Raised with each change of what a host sees: functions, frames, records, numbers, limits, the layout of the words.
- * 2: of several available entries the one with the lowest number is found. */
-#define SPACE_VERSION 2
+ * 2: of several available entries the one with the lowest number is found. 3: no refusal has the number 14. */
+#define SPACE_VERSION 3
 
 #define SPACE_MAX_ENTRIES 64         /* entries stored at most */
 #define SPACE_MAX_TRANSACTIONS 8     /* transactions live at most */
@@ -85,7 +85,8 @@ enum space_record_kind {
     SPACE_RECORD_REFUSED = 15
 };
 
-/* Numbers 1 to 14 are of a frame, 15 and 16 of a tray; 0 is no refusal. docs/MANUAL.md says what to do about each. */
+/* Numbers 1 to 13 are of a frame, 15 and 16 of a tray; 0 is no refusal. 14 is never given out. docs/MANUAL.md says what
+ * to do about each. */
 enum space_refusal {
     SPACE_REFUSAL_AREA_TOO_SMALL = 1,
     SPACE_REFUSAL_BAD_OPERATION = 2,
@@ -100,7 +101,6 @@ enum space_refusal {
     SPACE_REFUSAL_ENTRIES_FULL = 11,
     SPACE_REFUSAL_TRANSACTIONS_FULL = 12,
     SPACE_REFUSAL_NUMBERS_USED_UP = 13,
-    SPACE_REFUSAL_WAITING_FULL = 14,
     SPACE_REFUSAL_BAD_TRAY = 15,
     SPACE_REFUSAL_BAD_PAIR = 16
 };

@@ -147,7 +147,7 @@ static inline const char *space_refusal_meaning(uint32_t number)
         "64 entries are stored",
         "8 transactions are live",
         "the numbers are used up",
-        "16 look-ups wait already",
+        "?", /* 14 is never given out */
         "the tray is too short, too long or has too many frames",
         "a pair of the tray is out of order or runs past its end"};
     return number < sizeof meanings / sizeof meanings[0] ? meanings[number] : "?";

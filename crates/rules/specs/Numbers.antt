@@ -151,11 +151,11 @@ entriesRefused = 11
 abbrev pub txnsRefused : ℕ
 txnsRefused = 12
 
--- no next number. (14 is never given out: document 02, T-04.)
+-- no next number
 abbrev pub numberRefused : ℕ
 numberRefused = 13
 
--- Refusals of a tray
+-- Refusals of a tray. (14 is never given out: document 02, T-04.)
 
 -- its size, its count of frames, or too short for its pairs
 abbrev pub trayRefused : ℕ

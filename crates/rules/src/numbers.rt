@@ -64,7 +64,7 @@ pub const KIND_TICKED: u8 = 9;
 
 pub const KIND_REFUSED: u8 = 15;
 
-// Refusals: 1 to 14 judge a frame, 15 and 16 a tray.
+// Refusals: 1 to 13 judge a frame, 15 and 16 a tray.
 pub const AREA_REFUSED: u8 = 1;
 
 pub const OPERATION_REFUSED: u8 = 2;
@@ -89,9 +89,9 @@ pub const ENTRIES_REFUSED: u8 = 11;
 
 pub const TXNS_REFUSED: u8 = 12;
 
-// 14 is never given out.
 pub const NUMBER_REFUSED: u8 = 13;
 
+// 14 is never given out.
 pub const TRAY_REFUSED: u8 = 15;
 
 pub const PAIRS_REFUSED: u8 = 16;

@@ -26,7 +26,6 @@ pub enum Refusal {
     EntriesFull = 11,
     TransactionsFull = 12,
     NumbersUsedUp = 13,
-    WaitingFull = 14,
     TraySize = 15,
     TrayPair = 16,
 }

@@ -3,7 +3,7 @@
 //!
 //! - `frame`: entries, templates, frame layout, refusals 2 to 5
 //! - `answer`: answer records
-//! - `space`: who holds what, what each frame does, refusals 1 and 6 to 14
+//! - `space`: who holds what, what each frame does, refusals 1 and 6 to 13
 //! - `tray`: trays, refusals 15 and 16
 //! - `serial`: the serial run
 #![forbid(unsafe_code)]

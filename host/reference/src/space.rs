@@ -142,7 +142,7 @@ impl Space {
         Outcome { records: answers.records, number }
     }
 
-    /// Carries out the request, or gives the first of refusals 6 to 14 that applies and changes nothing.
+    /// Carries out the request, or gives the first of refusals 6 to 13 that applies and changes nothing.
     fn perform(&mut self, request: Request, answers: &mut Answers) -> Result<(), Refusal> {
         match request {
             Request::Write { party, transaction, lease, fields } => {
@@ -157,7 +157,7 @@ impl Space {
                 self.check_duration(timeout)?;
                 let deadline = End::after(self.clock, timeout);
                 let look_up = LookUp { party, transaction, kind, template, deadline };
-                self.look_up(look_up, timeout, answers)?;
+                self.look_up(look_up, timeout, answers);
             }
             Request::Create { party, lease } => {
                 self.check_party(party)?;
@@ -243,22 +243,18 @@ impl Space {
         Ok(())
     }
 
-    fn look_up(&mut self, look_up: LookUp, timeout: u32, answers: &mut Answers) -> Result<(), Refusal> {
+    fn look_up(&mut self, look_up: LookUp, timeout: u32, answers: &mut Answers) {
         if let Some(place) = self.oldest_available(&look_up) {
             self.hand_out(&look_up, place, answers);
-            return Ok(());
+            return;
         }
         let waits = timeout != 0 && (!look_up.kind.if_exists || self.entries.iter().any(|e| e.conflicts(&look_up)));
         if !waits {
             answers.put(Record::new(Kind::Nothing, look_up.party, look_up.transaction));
-            return Ok(());
-        }
-        if self.waiting.len() >= MOST_WAITING {
-            return Err(Refusal::WaitingFull);
+            return;
         }
         answers.put(Record::new(Kind::Waiting, look_up.party, look_up.transaction));
         self.waiting.push(look_up);
-        Ok(())
     }
 
     /// The place of the entry that is handed out, if one is. Document 02: "Where several entries are available, found

@@ -91,7 +91,6 @@ const REFUSALS: [Refusal; 16] = [
     refusal(11, "64 entries stored", "64 entries are stored"),
     refusal(12, "8 transactions live", "8 transactions are live"),
     refusal(13, "numbers used up", "the numbers are used up"),
-    refusal(14, "16 look-ups wait", "16 look-ups wait already"),
     refusal(
         15,
         "bad tray",

@@ -2,7 +2,7 @@
 //!
 //! - `frame`: frames decoded, refusals 2 to 5
 //! - `answer`: answer records
-//! - `space`: who holds what, what each frame does, refusals 1 and 6 to 14
+//! - `space`: who holds what, what each frame does, refusals 1 and 6 to 13
 //! - `tray`: trays, refusals 15 and 16
 //!
 //! Of several available entries the one with the lowest number is handed out (document 02).

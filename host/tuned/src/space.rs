@@ -171,7 +171,7 @@ impl Space {
         }
     }
 
-    /// Carries out the request, or gives the first of refusals 6 to 14 that applies and changes nothing.
+    /// Carries out the request, or gives the first of refusals 6 to 13 that applies and changes nothing.
     #[inline(always)]
     fn perform(&mut self, request: Request, answers: &mut Answers) -> Result<(), u8> {
         match request {
@@ -269,9 +269,6 @@ impl Space {
         if long.duration == 0 || if_exists && !self.any_conflict(&look_up) {
             answers.plain(NOTHING, party, transaction);
             return Ok(());
-        }
-        if self.wait_count >= WAITS {
-            return Err(14);
         }
         answers.plain(WAITING, party, transaction);
         self.waits[self.wait_count] = look_up;

@@ -7,9 +7,8 @@ use reference::space::{Entry, Space, MOST_ENTRIES, MOST_TRANSACTIONS, MOST_WAITI
 use std::collections::BTreeMap;
 use tray::record::KINDS;
 
-/// On a space that frames made, a look-up that must wait finds a free place: there are 16 parties, and 6 stops a
-/// party that waits already.
-const CANNOT_OCCUR: usize = 14;
+/// Document 02, T-04: "14 is never given out again".
+const NEVER_GIVEN: usize = 14;
 
 const SITUATIONS: [&str; 16] = [
     "64 entries stored",
@@ -121,7 +120,7 @@ impl Coverage {
     /// What can occur and did not.
     pub fn missing(&self) -> Vec<String> {
         let kinds = KINDS.iter().filter(|kind| self.kinds[usize::from(kind.number)] == 0);
-        let refusals = (1..=16).filter(|&number| number != CANNOT_OCCUR && self.refusals[number] == 0);
+        let refusals = (1..=16).filter(|&number| number != NEVER_GIVEN && self.refusals[number] == 0);
         let situations = SITUATIONS.iter().filter(|name| self.situations.get(**name).is_none_or(|&n| n == 0));
         let mut missing: Vec<String> = kinds.map(|kind| format!("record {}", kind.name)).collect();
         missing.extend(refusals.map(|number| format!("number {number}")));
@@ -139,9 +138,8 @@ impl Coverage {
             println!("  {:>2} {:<10} {:>10}", kind.number, kind.name, self.kinds[usize::from(kind.number)]);
         }
         println!("numbers (1 also as the end of a tray's run; 15 and 16 of trays):");
-        for number in 1..=16 {
-            let remark = if number == CANNOT_OCCUR { "  cannot occur on a space that frames made" } else { "" };
-            println!("  {number:>2} {:>10}{remark}", self.refusals[number]);
+        for number in (1..=16).filter(|&number| number != NEVER_GIVEN) {
+            println!("  {number:>2} {:>10}", self.refusals[number]);
         }
         println!("situations:");
         for name in SITUATIONS {
