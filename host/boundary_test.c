@@ -248,6 +248,33 @@ static void step_on_odd_words(void)
     }
 }
 
+/* Words that no frames make: 16 look-ups wait, and none is of a party that there is. A refused frame is answered as
+ * ever and changes nothing; one that is carried out ends, and keeps to its buffers (host/damaged.c has pages that may
+ * not be touched around them). */
+static void step_where_none_can_wait(void)
+{
+    static uint32_t before[SPACE_WORDS];
+    space_empty(space);
+    space[SPACE_WORD_WAITING_COUNT] = SPACE_MAX_WAITING;
+    for (uint32_t row = 0; row < SPACE_MAX_WAITING; row++) {
+        uint32_t *wait = space + SPACE_WAITING_AT + SPACE_WAITING_WORDS * row;
+        wait[SPACE_WAITING_PARTY] = SPACE_MAX_PARTY + 1 + row;
+        wait[SPACE_WAITING_OPERATION] = SPACE_OP_TAKE;
+        wait[SPACE_WAITING_DEADLINE] = SPACE_FOREVER;
+    }
+    memcpy(before, space, sizeof space);
+    check(step(space_frame_commit(frame, 1, 1)).refusal == SPACE_REFUSAL_NOT_LIVE, "none can wait: 7");
+    check(memcmp(before, space, sizeof space) == 0, "none can wait: a refused frame leaves the space as it was");
+    memset(answers, 0xa5, SPACE_STEP_BYTES);
+    for (uint8_t party = 1; party <= SPACE_MAX_PARTY; party++) {
+        size_t length = space_frame_look_up(frame, SPACE_OP_READ, party, 0, mark, SPACE_FOREVER, 0);
+        check(space_step(space, frame, length, answers, SPACE_STEP_BYTES) == 1, "none can wait: one record");
+        check(answers[0] == SPACE_RECORD_WAITING && answers[1] == party, "none can wait: waiting");
+        check(all(answers + SPACE_RECORD_BYTES, SPACE_STEP_BYTES - SPACE_RECORD_BYTES, 0xa5), "none can wait: the rest");
+    }
+    check(space_step(space, frame, space_frame_tick(frame), answers, SPACE_STEP_BYTES) % 65536 >= 1, "and a tick");
+}
+
 /* Words of 0 are no empty space, as docs/MANUAL.md tells. */
 static void use_zeroed_words(void)
 {
@@ -276,6 +303,7 @@ int main(void)
     find_oldest();
     serve_oldest();
     step_on_odd_words();
+    step_where_none_can_wait();
     use_zeroed_words();
     return 0;
 }
