@@ -45,8 +45,8 @@ abbrev pub theRulesBefore : Machine
 theRulesBefore = spaceOf stepBefore
 
 pub record Tidied : Type 0 where
-  -- after every history, by the rules as they were: the row of 14 never applies to a frame that the rows ahead of it let
-  -- pass, so 14 is never given. (Where 16 wait it would apply to a look-up that must wait; 6 is then the first.)
+  -- after every history, by the rules as they were: the row of 14 never applies to a frame that the rows ahead of it
+  -- let pass, so 14 is never given. (Where 16 wait it would apply to a look-up that must wait; 6 is then the first.)
   pub not-applies : EveryState theRulesBefore (λ log m. (bs : List ℕ) (area : ℕ) → refusal m bs area ≡ 0
       → waitsFull m (decode bs) ≡ false)
   pub never : EveryStep theRulesBefore (λ m h n a. a .number ≡ waitsRefused → ⊥)
