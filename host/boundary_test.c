@@ -100,8 +100,8 @@ static void build_frames(void)
                        : length == 0, "the lengths");
         check((strcmp(space_operation_name((uint8_t)operation), "?") != 0) == there_is, "the operations' names");
         check((strcmp(space_record_name((uint8_t)operation), "?") != 0) == (there_is || operation == 15), "the kinds'");
-        check((strcmp(space_refusal_meaning((uint32_t)operation), "?") != 0) == (operation >= 1 && operation <= 16 && operation != 14),
-              "the refusals' meanings");
+        int given = operation >= 1 && operation <= 16 && operation != 14;
+        check((strcmp(space_refusal_meaning((uint32_t)operation), "?") != 0) == given, "the refusals' meanings");
     }
 }
 
@@ -270,7 +270,8 @@ static void step_where_none_can_wait(void)
         size_t length = space_frame_look_up(frame, SPACE_OP_READ, party, 0, mark, SPACE_FOREVER, 0);
         check(space_step(space, frame, length, answers, SPACE_STEP_BYTES) == 1, "none can wait: one record");
         check(answers[0] == SPACE_RECORD_WAITING && answers[1] == party, "none can wait: waiting");
-        check(all(answers + SPACE_RECORD_BYTES, SPACE_STEP_BYTES - SPACE_RECORD_BYTES, 0xa5), "none can wait: the rest");
+        check(all(answers + SPACE_RECORD_BYTES, SPACE_STEP_BYTES - SPACE_RECORD_BYTES, 0xa5),
+              "none can wait: the rest");
     }
     check(space_step(space, frame, space_frame_tick(frame), answers, SPACE_STEP_BYTES) % 65536 >= 1, "and a tick");
 }
