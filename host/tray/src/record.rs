@@ -73,7 +73,7 @@ const fn refusal(number: u8, label: &'static str, meaning: &'static str) -> Refu
     Refusal { number, label, meaning }
 }
 
-const REFUSALS: [Refusal; 16] = [
+const REFUSALS: [Refusal; 15] = [
     refusal(1, "area too small", "the answers area has under 700 bytes"),
     refusal(2, "no such operation", "the frame is empty or its operation is not 1-9"),
     refusal(3, "wrong length", "the frame's length is not the operation's"),
