@@ -26,6 +26,7 @@ pub enum Refusal {
     EntriesFull = 11,
     TransactionsFull = 12,
     NumbersUsedUp = 13,
+    // 14 is never given out (document 02).
     TraySize = 15,
     TrayPair = 16,
 }

@@ -91,6 +91,7 @@ const REFUSALS: [Refusal; 15] = [
     refusal(11, "64 entries stored", "64 entries are stored"),
     refusal(12, "8 transactions live", "8 transactions are live"),
     refusal(13, "numbers used up", "the numbers are used up"),
+    // 14 is never given out (document 02).
     refusal(
         15,
         "bad tray",
