@@ -1,17 +1,15 @@
 -- A party waits once: of what is left, and of one that arrives.
-use Prim.Native.Nat.{ℕ, _+_, _≤_}
+use Prim.Native.Nat.{ℕ, _≤_}
 use mathlib.Core.Bool.{Bool, cond}
 use mathlib.Core.Path.{_≡_, refl, sym, ap, _∙_}
-use mathlib.Core.List.{List, [], _∷_, _++_, List·Memᴰ, List·Memᴰ·head, List·Memᴰ·tail}
+use mathlib.Core.List.{List, _∷_, List·Memᴰ, List·Memᴰ·head, List·Memᴰ·tail}
 use native.Mathlib.Omega.{arith}
-use borrow.Author.Tests.{eq-eqb, ne-eqb}
-use lib.ListN.{length}
+use borrow.Author.Tests.{eq-eqb}
 use Rattle.rules.specs.declared.LookUp.{LookUp}
 use Rattle.rules.specs.Lists.{filterb}
 use Rattle.rules.specs.Sound.{ofParty}
-use Rattle.rules.proofs.ListLaws.{count, count-append, count-cons, count-filter, count-mem, any-filter, all-false}
-use Rattle.demands.proofs.AllLaws.{All, Out, here, there}
-use Rattle.demands.proofs.HoldLaws.{eqb-cases}
+use Rattle.rules.proofs.ListLaws.{count, count-cons, count-filter, count-mem}
+use Rattle.demands.proofs.AllLaws.{Out, here, there}
 
 abbrev pub Each : List LookUp → Type 0
 Each ws = (p : ℕ) → count (ofParty p) ws ≤ 1

@@ -3,15 +3,14 @@ use Prim.Native.Nat.{ℕ}
 use mathlib.Core.Bool.{false, cond, _&&_, and-false}
 use mathlib.Core.Logic.{⊎-elim}
 use mathlib.Core.Path.{_≡_, refl, sym, ap, _∙_, subst, subst⁻¹}
-use mathlib.Core.List.{List, [], _∷_, _++_}
+use mathlib.Core.List.{List, [], _∷_}
 use native.Mathlib.Omega.{arith}
-use borrow.Author.Tests.{eqb-true, eqb-false, eq-eqb, lt-leb}
-use lib.Dec.{eqb, leb}
+use borrow.Author.Tests.{eqb-true, lt-leb}
+use lib.Dec.{eqb}
 use lib.ListN.{length}
-use Rattle.rules.specs.Lists.{firstRow}
-use Rattle.rules.specs.Numbers.{maxWaits, numberRefused}
-use Rattle.rules.specs.State.{Model, empty}
-use Rattle.rules.specs.Frame.{Frame, decode, isLookUp}
+use Rattle.rules.specs.Numbers.{maxWaits}
+use Rattle.rules.specs.State.{Model}
+use Rattle.rules.specs.Frame.{decode, isLookUp}
 use Rattle.rules.specs.Refusals.{rows, refusal}
 use Rattle.rules.specs.Sound.{Sound}
 use Rattle.rules.specs.Step.{Outcome, step, carriedOut, accepted, refusedWith}
@@ -20,7 +19,7 @@ use Rattle.rules.specs.SerialRun.{Logged}
 use Rattle.demands.specs.Machine.{Handed, Stepper, StepsBy, answeredBy, spaceOf, theRules}
 use Rattle.demands.specs.History.{History, begun, handed, Made}
 use Rattle.demands.specs.Tidied.{waitsRefused, mustWait, waitsFull, refusalBefore, stepBefore, theRulesBefore, Tidied}
-use Rattle.rules.proofs.BoolLaws.{cond-cases, bool-cases}
+use Rattle.rules.proofs.BoolLaws.{bool-cases}
 use Rattle.rules.proofs.RefusalLaws.{first-append, clear}
 use Rattle.rules.proofs.SoundLaws.{sound-empty, sound-step, room-left}
 use Rattle.demands.proofs.JudgedProof.{refusal-fits, number-is}

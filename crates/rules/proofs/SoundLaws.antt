@@ -2,13 +2,13 @@
 -- look-ups wait, and one that 5 and 6 let pass finds room.
 use Prim.Native.Nat.{ℕ, zero, suc, _+_, _≤_, _<_}
 use mathlib.Core.Bool.{Bool, true, false, cond, not, _||_}
-use mathlib.Core.Logic.{_⊎_, inl, inr, ⊎-elim}
-use mathlib.Core.Path.{_≡_, refl, sym, ap, _∙_, subst, subst⁻¹}
+use mathlib.Core.Logic.{_⊎_, ⊎-elim}
+use mathlib.Core.Path.{_≡_, sym, ap, _∙_, subst, subst⁻¹}
 use mathlib.Core.Option.{Option, none, some}
 use mathlib.Core.List.{List, [], _∷_, _++_, List·Memᴰ, List·Memᴰ·head, List·Memᴰ·tail, List·Memᴰ·not-nil}
 use mathlib.Core.List.{List·Memᴰ·cases-cons, List·Memᴰ·append-cases, List·Memᴰ·eq-of-singleton}
 use native.Mathlib.Omega.{arith}
-use borrow.Author.Tests.{eqb-true, eqb-false, eq-eqb, ne-eqb, leb-true, leb-false, le-leb, lt-leb, ltb-false}
+use borrow.Author.Tests.{eqb-true, eqb-false, ne-eqb, leb-false, le-leb, lt-leb, ltb-false}
 use lib.Dec.{eqb, leb, ltb}
 use lib.ListN.{length, length-append}
 use Rattle.rules.specs.declared.Entry.{Entry}
@@ -17,14 +17,14 @@ use Rattle.rules.specs.declared.Txn.{Txn}
 use Rattle.rules.specs.Lists.{filterb}
 use Rattle.rules.specs.Numbers.{maxParty, maxWaits}
 use Rattle.rules.specs.State.{Model, empty, withWaits}
-use Rattle.rules.specs.Sound.{IsParty, ofParty, OneEach, Sound}
+use Rattle.rules.specs.Sound.{IsParty, ofParty, Sound}
 use Rattle.rules.specs.Frame.{Frame, decode, isLookUp, isTick, serves}
 use Rattle.rules.specs.Done.{Carried, Done, quiet}
 use Rattle.rules.specs.LookUp.{lookUpOf, givesNothing, answer, answerFound, answerNothing, answerWaiting, lookUp}
 use Rattle.rules.specs.Holds.{oldest}
 use Rattle.rules.specs.Write.{stored, write}
 use Rattle.rules.specs.Transactions.{create, commit, abort}
-use Rattle.rules.specs.Service.{Served, serve, service}
+use Rattle.rules.specs.Service.{serve, service}
 use Rattle.rules.specs.Tick.{tick, endedTxns, abortAll, dropEnded, lapsed, closeWaits}
 use Rattle.rules.specs.Refusals.{wrongParty, partyWaits}
 use Rattle.rules.specs.Step.{Outcome, commitFrame, abortFrame, ownPart, finish, carriedOut, step, accepted, refusedWith}
