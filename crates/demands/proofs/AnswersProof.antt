@@ -22,7 +22,7 @@ use Rattle.rules.specs.Time.{until, reached}
 use Rattle.rules.specs.State.{Model}
 use Rattle.rules.specs.Holds.{someAvailable}
 use Rattle.rules.specs.Frame.{Frame, decode, isLookUp}
-use Rattle.rules.specs.Records.{found, nothing, exception}
+use Rattle.rules.specs.Records.{found, nothing, aborted, exception}
 use Rattle.rules.specs.Write.{stored}
 use Rattle.rules.specs.LookUp.{lookUpOf, givesNothing}
 use Rattle.rules.specs.Transactions.{create, commit, abort}
@@ -73,7 +73,8 @@ abbrev shuts : LookUp → Heard → Bool
 shuts w = says (closes (w .party) (w .txn .0))
 
 itself : (w : LookUp) (a : Record) → a .party ≡ w .party → a .txn .0 ≡ w .txn .0
-    → closes (w .party) (w .txn .0) a ≡ (eqb (a .kind) 2 || eqb (a .kind) 3 || eqb (a .kind) 8)
+    → closes (w .party) (w .txn .0) a
+    ≡ (eqb (a .kind) 2 || eqb (a .kind) 3 || eqb (a .kind) 8 || eqb (a .kind) 7)
 itself w a p t = rw (eq-eqb (a .party) (w .party) p, eq-eqb (a .txn .0) (w .txn .0) t)
 
 found-shuts : (w : LookUp) (e : Entry) → anyb (shuts w) (saying (found w e) ∷ []) ≡ true
@@ -84,10 +85,26 @@ nothing-shuts : (w : LookUp) → anyb (shuts w) (saying (nothing w) ∷ []) ≡ 
 unfolding nothing
 nothing-shuts w = rw (itself w (nothing w) refl refl)
 
+-- a look-up waits inside a transaction of its party
+owner : (w : LookUp) {m : Model} → Consistent m → {t : Txn} → List·Memᴰ t (m .txns) → List·Memᴰ w (m .waits)
+    → w .txn .0 ≡ t .id .0 → t .party ≡ w .party
+owner w s {t} j i q =
+    ⊎-elim (λ z. absurd (let b = s .txns-ok .above t j in omega arith))
+    (λ x. ap (λ (y : Txn). y .party) (s .txns-ok .unique t (x .0) j (x .1) (sym q ∙ sym (x .2))) ∙ x .3)
+    (s .owned w i)
+
+-- where a transaction ends, it waits on, outside, or inside is closed by the record of the end
+shut-or : (w : LookUp) (a : Record) (t : ℕ) {ws : List LookUp} → List·Memᴰ w ws
+    → (w .txn .0 ≡ t → List·Memᴰ w (filterb (λ v. not (eqb (v .txn .0) t)) ws) ⊎ (anyb (shuts w) (saying a ∷ []) ≡ true))
+    → List·Memᴰ w (filterb (λ v. not (eqb (v .txn .0) t)) ws) ⊎ (anyb (shuts w) (saying a ∷ []) ≡ true)
+shut-or w a t i inside =
+    ⊎-elim inside (λ d. inl (filter-mem (λ v. not (eqb (v .txn .0) t)) i (ap not (ne-eqb (w .txn .0) t d))))
+    (equal-or (w .txn .0) t)
+
 -- it waits on, or is closed
 waits-or : {f : Frame} {m n : Model} {hs : List Heard} (w : LookUp) → Event f m hs n → Consistent m → List·Memᴰ w (m .waits)
     → List·Memᴰ w (n .waits) ⊎ (anyb (shuts w) hs ≡ true)
-unfolding stored create commit abort dropEnded exception
+unfolding stored create commit abort dropEnded aborted exception
 waits-or w (refuses m bs area q) s i = inl i
 waits-or w (asks m t a) s i = inl (Memᴰ·append-left _ i)
 waits-or w (writes m t a) s i = inl i
@@ -101,19 +118,12 @@ waits-or w (is-waiting m v j q n d c) s i = inl i
 waits-or w (creates m t a) s i = inl i
 waits-or w (commits m t a) s i = inl i
 waits-or {f} w (aborts m t a) s i =
-    let d = not-inside s a (a .ends (abort-ends (f .op) t)) w i in
-    inl (filter-mem (λ v. not (eqb (v .txn .0) (f .txn))) i (ap not (ne-eqb (w .txn .0) (f .txn) d)))
+    let y = a .ends (abort-ends (f .op) t) in
+    shut-or w (aborted f) (f .txn) i
+    (λ q. inr (rw (itself w (aborted f) (sym (y .3) ∙ owner w s (y .1) i (q ∙ sym (y .2))) (sym q))))
 waits-or w (ticks m t a) s i = inl i
 waits-or w (excepts m t k j r) s i =
-    ⊎-elim (λ q. inr (rw (itself w (exception t) (owner q) (sym q))))
-    (λ d. inl (filter-mem (λ v. not (eqb (v .txn .0) (t .id .0))) i (ap not (ne-eqb (w .txn .0) (t .id .0) d))))
-    (equal-or (w .txn .0) (t .id .0))
-  where
-    owner : w .txn .0 ≡ t .id .0 → t .party ≡ w .party
-    owner q =
-        ⊎-elim (λ z. absurd (let b = s .txns-ok .above t j in omega arith))
-        (λ x. ap (λ (y : Txn). y .party) (s .txns-ok .unique t (x .0) j (x .1) (sym q ∙ sym (x .2))) ∙ x .3)
-        (s .owned w i)
+    shut-or w (exception t) (t .id .0) i (λ q. inr (rw (itself w (exception t) (owner w s j i q) (sym q))))
 waits-or w (expires m k) s i = inl i
 
 -- the records in order

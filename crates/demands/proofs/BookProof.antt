@@ -22,7 +22,6 @@ use Rattle.rules.specs.Write.{stored}
 use Rattle.rules.specs.LookUp.{lookUpOf}
 use Rattle.rules.specs.Transactions.{create, withoutTxn, commit, abort}
 use Rattle.rules.specs.Tick.{dropEnded}
-use Rattle.rules.proofs.LayoutLaws.{abort-ends}
 use Rattle.rules.proofs.ListLaws.{filter-filter, filter-pass, length-filter, count, count-cons, count-mem}
 use Rattle.demands.specs.Machine.{Input}
 use Rattle.rules.specs.Sound.{ofParty}
@@ -34,7 +33,7 @@ use Rattle.demands.proofs.HoldLaws.{not-so}
 use Rattle.demands.proofs.EachLaws.{Each}
 use Rattle.demands.proofs.Events.{Heard, Event, refuses, asks, writes, is-found, is-nothing, is-waiting, creates}
 use Rattle.demands.proofs.Events.{commits, aborts, ticks, excepts, expires}
-use Rattle.demands.proofs.Consistent.{Consistent, not-inside}
+use Rattle.demands.proofs.Consistent.{Consistent}
 use Rattle.demands.proofs.ConsistentProof.{Reader, hearsAll, reads-log, made-keep}
 
 -- one place passes, and no other can: the rest is the list without it
@@ -126,10 +125,8 @@ book-event {f} b (creates m t a) s h =
 book-event {f} b (commits m t a) s h =
     booked (fine h) (h .clock) (h .next-entry) (h .next-txn) (ended h (f .txn)) (h .waiting)
 book-event {f} b (aborts m t a) s h =
-    let outside : LookUp → Bool = λ w. not (eqb (w .txn .0) (f .txn)) in
-    let calm = not-inside s a (a .ends (abort-ends (f .op) t)) in
     booked (fine h) (h .clock) (h .next-entry) (h .next-txn) (ended h (f .txn))
-    (h .waiting ∙ sym (filter-pass outside (m .waits) (λ w i. ap not (ne-eqb (w .txn .0) (f .txn) (calm w i)))))
+    (ap (filterb (λ (w : LookUp). not (eqb (w .txn .0) (f .txn)))) (h .waiting))
 book-event {f} b (ticks m t a) s h =
     booked (fine h) (ap (λ n. n + 1) (h .clock)) (h .next-entry) (h .next-txn) (h .live) (h .waiting)
 book-event {f} b (excepts m t k i r) s h =

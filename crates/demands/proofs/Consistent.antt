@@ -16,7 +16,7 @@ use Rattle.rules.specs.Numbers.{maxTxns}
 use Rattle.rules.specs.Lists.{filterb, anyb, findb, distinct}
 use Rattle.rules.specs.State.{Model}
 use Rattle.rules.specs.Template.{bit}
-use Rattle.rules.specs.Frame.{Frame}
+use Rattle.rules.specs.Frame.{Frame, isAbort}
 use Rattle.rules.specs.Sound.{OneEach}
 use Rattle.rules.specs.Transactions.{orZero, freeSlot}
 use Rattle.rules.proofs.ListLaws.{count-mem, length-split, mem-filter, filter-mem, any-mem, mem-any, none-mem}
@@ -79,12 +79,13 @@ pub ok-below : {m : Model} → Consistent m → {t : ℕ} → Ok t (m .txns) →
 ok-below s (inl z) = let p = s .positive in omega arith
 ok-below s (inr l) = let b = s .txns-ok .below (l .0) (l .1) in let q = l .2 in omega arith
 
--- nobody waits inside the transaction of a frame that is not refused
-pub not-inside : {m : Model} {f : Frame} → Consistent m → Admitted f m → LiveOf (f .txn) (f .party) (m .txns)
+-- nobody waits inside the transaction of a frame that is not refused, unless it is an abort
+pub not-inside : {m : Model} {f : Frame} → Consistent m → Admitted f m → isAbort (f .op) ≡ false
+    → LiveOf (f .txn) (f .party) (m .txns)
     → All (λ w. w .txn .0 ≡ f .txn → ⊥) (m .waits)
-not-inside s a y w i q =
+not-inside s a t y w i q =
     ⊎-elim (λ n. let z = live-above s (y .0, y .1, y .2) in omega arith)
-    (λ x. a .free w i (sym (x .3) ∙ ap (λ (v : Txn). v .party)
+    (λ x. a .free t w i (sym (x .3) ∙ ap (λ (v : Txn). v .party)
     (s .txns-ok .unique (x .0) (y .0) (x .1) (y .1) (x .2 ∙ q ∙ sym (y .2))) ∙ y .3)) (s .owned w i)
 
 -- numbers that are all in use are of as many elements at least

@@ -22,7 +22,7 @@ use Rattle.rules.specs.Transactions.{noTxn, create, released, withoutTxn, commi
 use Rattle.rules.specs.Tick.{dropEnded}
 use Rattle.rules.specs.Step.{step}
 use Rattle.rules.specs.SerialRun.{Logged, wasRefused}
-use Rattle.rules.proofs.LayoutLaws.{commit-ends}
+use Rattle.rules.proofs.LayoutLaws.{lookUp-not-abort, commit-not-abort, commit-ends}
 use Rattle.rules.proofs.ReaderLaws.{bit-of-zero}
 use Rattle.demands.specs.Bounds.{Ascending}
 use Rattle.demands.specs.Machine.{Input}
@@ -92,7 +92,7 @@ living (expires m k) h = h
 each : {f : Frame} {m n : Model} {hs : List Heard} → Event f m hs n → Each (m .waits) → Each (n .waits)
 unfolding stored create commit abort dropEnded lookUpOf
 each (refuses m bs area q) h = h
-each {f} (asks m t a) h = each-snoc (lookUpOf m f) (m .waits) (a .free) h
+each {f} (asks m t a) h = each-snoc (lookUpOf m f) (m .waits) (a .free (lookUp-not-abort (f .op) t)) h
 each (writes m t a) h = h
 each (is-found m w e ws o i av) h = each-out o h
 each (is-nothing m w ws o n c) h = each-out o h
@@ -174,7 +174,7 @@ owned-ok s (is-asked t a) = a .inside
 owned-ok s (waited w i) = s .owned w i
 owned-ok s (waited-ever w i) = ⊎-elim inl (λ x. inr (x .0, Memᴰ·append-left _ (x .1), x .2, x .3)) (s .owned w i)
 owned-ok {f} {m} s (waited-commit t a w i) =
-    still-owned (f .txn) w (m .txns) (not-inside s a (a .ends (commit-ends (f .op) t)) w i) (s .owned w i)
+    still-owned (f .txn) w (m .txns) (not-inside s a (commit-not-abort (f .op) t) (a .ends (commit-ends (f .op) t)) w i) (s .owned w i)
 owned-ok {f} {m} s (is-outside t w i d) = still-owned t w (m .txns) d (s .owned w i)
 
 pub consistent-event : {f : Frame} {m n : Model} {hs : List Heard} → Event f m hs n → Consistent m → Consistent n

@@ -41,8 +41,8 @@ pub record Admitted (f : Frame) (m : Model) : Type 0 where
   -- outside transactions, or in a live one of the party; a commit or abort in one
   pub inside : (f .txn ≡ 0) ⊎ LiveOf (f .txn) (f .party) (m .txns)
   pub ends : endsTxn (f .op) ≡ true → LiveOf (f .txn) (f .party) (m .txns)
-  -- the party does not wait
-  pub free : (w : LookUp) → List·Memᴰ w (m .waits) → w .party ≡ f .party → ⊥
+  -- the party does not wait, unless the frame is an abort
+  pub free : isAbort (f .op) ≡ false → (w : LookUp) → List·Memᴰ w (m .waits) → w .party ≡ f .party → ⊥
   -- a lease or timeout ends in time, and so does the clock
   pub in-time : hasLeaseOrTimeout (f .op) ≡ true → EndFits (until (m .clock) (f .leaseOrTimeout))
   pub ticks-on : isTick (f .op) ≡ true → m .clock < lastClock

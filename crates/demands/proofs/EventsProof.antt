@@ -38,9 +38,9 @@ use Rattle.rules.proofs.BoolLaws.{cond-cases, bool-cases, and-left, and-right, 
 use Rattle.rules.proofs.BoolLaws.{and-false-right}
 use Rattle.rules.proofs.ListLaws.{filter-mem, none-mem, none-any, find-some}
 use Rattle.rules.proofs.LayoutLaws.{write-not-tick, lookUp-not-tick, create-not-tick, commit-not-tick, abort-not-tick}
-use Rattle.rules.proofs.LayoutLaws.{tick-serves, lookUp-serves, finish-quiet}
+use Rattle.rules.proofs.LayoutLaws.{lookUp-not-abort, tick-serves, lookUp-serves, finish-quiet}
 use Rattle.rules.proofs.StepCases.{own-cases, serve-ind}
-use Rattle.rules.proofs.RefusalLaws.{Clear, clear, is-one}
+use Rattle.rules.proofs.RefusalLaws.{Clear, clear, is-one, none-waits}
 use Rattle.demands.specs.Bounds.{EndFits, Ascending}
 use Rattle.demands.specs.Answers.{asked}
 use Rattle.demands.proofs.AllLaws.{All, all-none, all-cons, all-append, all-snoc, all-filter, all-map, Out, here}
@@ -93,7 +93,7 @@ module _ (f : Frame) (m : Model) where
       (m .clock + f .leaseOrTimeout)) _ h))
 
 admitted : (m : Model) (bs : List ℕ) (area : ℕ) → Clear m bs area → Admitted (decode bs) m
-unfolding partyWaits txnsFull noNumber
+unfolding txnsFull noNumber
 admitted m bs area c =
     let f = decode bs in
     record {
@@ -101,7 +101,7 @@ admitted m bs area c =
           ⊎-elim (λ t. inl (eqb-true (f .txn) 0 t)) (λ t. inr (own-named f m (c .own) (rw t)))
           (bool-cases (eqb (f .txn) 0));
       ends = λ t. own-named f m (c .own) (rw (t, or-true));
-      free = λ w i. eqb-false (w .party) (f .party) (none-mem (λ (v : LookUp). eqb (v .party) (f .party)) (c .free) i);
+      free = λ t w i. none-waits m f t (c .free) i;
       in-time = until-fits f m (c .time);
       ticks-on = clock-fits f m (c .time);
       slot-left = λ t. leb-false maxTxns (length (m .txns)) (and-false-right (isCreate (f .op)) _ t (c .txn-room));
@@ -375,15 +375,15 @@ module _ (f : Frame) (m : Model) (a : Admitted f m)
       let s = find-some (available (m .txns) (lookUpOf m f)) (m .entries) q in
       answered (answerFound m (lookUpOf m f) x) t refl
       (is-found grown (lookUpOf m f) x (m .waits) (out-last (m .waits) (lookUpOf m f)) (s .0) (s .1))
-      (λ v i p. absurd (a .free v i p)) (λ (p : 2 ≡ 3). absurd (omega arith))
+      (λ v i p. absurd (a .free (lookUp-not-abort (f .op) t) v i p)) (λ (p : 2 ≡ 3). absurd (omega arith))
   look-up t none q =
       cond-cases Whole (givesNothing m w timeout) (λ g. answered (answerNothing m w) t refl
       (is-nothing grown w (m .waits) (out-last (m .waits) w) nobody (reason g))
-      (λ v i p. absurd (a .free v i p)) (λ _. (w, there-last, refl, nobody)))
+      (λ v i p. absurd (a .free (lookUp-not-abort (f .op) t) v i p)) (λ _. (w, there-last, refl, nobody)))
       (λ g. let later = until-later (m .clock) timeout (eqb-false timeout 0 (or-left _ _ g)) in
       answered (answerWaiting m w) t refl (is-waiting grown w there-last refl nobody later
       (λ z. not-false _ (and-false-right (w .«if_exists») _ z (or-right (eqb timeout 0) _ g))))
-      (all-snoc (m .waits) (λ v i p. absurd (a .free v i p)) (λ _. (nobody, later)))
+      (all-snoc (m .waits) (λ v i p. absurd (a .free (lookUp-not-abort (f .op) t) v i p)) (λ _. (nobody, later)))
       (λ (p : 4 ≡ 3). absurd (omega arith)))
     where
       w : LookUp

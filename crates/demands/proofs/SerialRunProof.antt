@@ -29,7 +29,7 @@ use Rattle.rules.specs.SerialRun.{taking, carryOut, carryOutAll, perform, listO
 use Rattle.rules.specs.SerialRun.{follow, followAll, noteLookUp, followLog, serialRun, left, keptOf, committedIn}
 use Rattle.rules.specs.SerialRun.{numbersOf, Serial, writtenBy}
 use Rattle.rules.proofs.BoolLaws.{cond-cases}
-use Rattle.rules.proofs.LayoutLaws.{commit-ends, abort-ends}
+use Rattle.rules.proofs.LayoutLaws.{lookUp-not-abort, commit-ends, abort-ends}
 use Rattle.rules.proofs.ListLaws.{filter-append, filter-filter, filter-same, mem-filter, filter-mem, any-mem}
 use Rattle.rules.proofs.ListLaws.{any-filter, all-false, count, count-append, count-cons, count-filter, count-map}
 use Rattle.rules.proofs.ListLaws.{count-mem}
@@ -300,7 +300,7 @@ linked-event {f} r (asks m t a) s h =
           record { same-clock = k .same-clock; ok = k .ok; once = k .once; fresh = k .fresh; agree = k .agree };
       knows = all-snoc (m .waits)
           (λ w i. ap (λ b. cond b (isTake (f .op)) (lastTakes (w .party) (r .asked)))
-          (ne-eqb (f .party) (w .party) (λ q. a .free w i (sym q))) ∙ h .knows w i)
+          (ne-eqb (f .party) (w .party) (λ q. a .free (lookUp-not-abort (f .op) t) w i (sym q))) ∙ h .knows w i)
           (ap (λ b. cond b (isTake (f .op)) (lastTakes (f .party) (r .asked))) (eq-eqb (f .party) (f .party) refl));
     }
 linked-event {f} r (writes m t a) s h =

@@ -23,7 +23,7 @@ use Rattle.rules.specs.Transactions.{create}
 use Rattle.rules.specs.Step.{step}
 use Rattle.rules.proofs.BoolLaws.{bool-cases}
 use Rattle.rules.proofs.ListLaws.{none-mem, all-false}
-use Rattle.rules.proofs.LayoutLaws.{write-serves, commit-serves, abort-serves, tick-serves}
+use Rattle.rules.proofs.LayoutLaws.{write-not-abort, write-serves, commit-serves, abort-serves, tick-serves}
 use Rattle.demands.specs.Machine.{Input}
 use Rattle.demands.proofs.Runs.{made, made-keep}
 use Rattle.demands.proofs.AllLaws.{All, all-none, all-snoc, out-all}
@@ -85,7 +85,7 @@ none-event {f} z (writes m t a) s h =
 
     hidden : (w : LookUp) → List·Memᴰ w (m .waits) → available (m .txns) w (newEntry m f) ≡ true → ⊥
     hidden w i u =
-        ⊎-elim inside (λ q. ⊎-elim inside (λ y. not-inside s a y w i (sym q)) (a .inside))
+        ⊎-elim inside (λ q. ⊎-elim inside (λ y. not-inside s a (write-not-abort (f .op) t) y w i (sym q)) (a .inside))
         (available-free (m .txns) w (newEntry m f) u .owner)
 none-event z (is-found m w e ws o i av) s h =
     out-all o (λ v j. ⊎-elim inl (λ n. inr (handOut-unavailable (m .txns) v w e av (m .entries) n)) (h v j))

@@ -8,7 +8,7 @@ use lib.Dec.{eqb}
 use Rattle.rules.specs.declared.Entry.{Entry}
 use Rattle.rules.specs.declared.LookUp.{LookUp}
 use Rattle.rules.specs.declared.Record.{Record}
-use Rattle.rules.specs.Numbers.{kindFound, kindNothing, kindException, kindTicked}
+use Rattle.rules.specs.Numbers.{kindFound, kindNothing, kindAborted, kindException, kindTicked}
 use Rattle.rules.specs.Time.{reached}
 use Rattle.rules.specs.State.{Model, withWaits}
 use Rattle.rules.specs.Holds.{someAvailable}
@@ -47,9 +47,11 @@ pub record Settled (m : Model) : Type 0 where
 abbrev pub isTicked : Record → Bool
 isTicked a = eqb (a .kind) kindTicked
 
--- whether a record closes a look-up of a party in a transaction: found, nothing, or the transaction's exception
+-- whether a record closes a look-up of a party in a transaction: found, nothing, the transaction's exception, or its
+-- abort ("A withdrawn look-up counts as closed by its timeout's end": document 02, T-01)
 abbrev pub closes : ℕ → ℕ → Record → Bool
 closes p t a =
     eqb (a .party) p
     && eqb (a .txn .0) t
-    && (eqb (a .kind) kindFound || eqb (a .kind) kindNothing || eqb (a .kind) kindException)
+    && (eqb (a .kind) kindFound || eqb (a .kind) kindNothing || eqb (a .kind) kindException
+    || eqb (a .kind) kindAborted)

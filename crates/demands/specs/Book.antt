@@ -62,12 +62,13 @@ liveAfter f a b =
     (b .live ++ (record { number = a .txn .0; party = f .party; end = until (b .clock) (f .leaseOrTimeout) } ∷ []))
     (cond (ending a) (filterb (λ (t : LiveTold). not (eqb (t .number) (a .txn .0))) (b .live)) (b .live))
 
--- a found or nothing closes the look-up that it names, an exception one that waits inside its transaction
+-- a found or nothing closes the look-up that it names, an exception one that waits inside its transaction; an aborted
+-- "is its only closing answer" for one that waited inside (document 02, T-01)
 abbrev pub waitingAfter : Record → Book → List LookUp
 waitingAfter a b =
     cond (closing a) (filterb (λ w. not (names a w)) (b .waiting))
-    (cond (eqb (a .kind) kindException) (filterb (λ (w : LookUp). not (eqb (w .txn .0) (a .txn .0))) (b .waiting))
-    (b .waiting))
+    (cond (eqb (a .kind) kindException || eqb (a .kind) kindAborted)
+    (filterb (λ (w : LookUp). not (eqb (w .txn .0) (a .txn .0))) (b .waiting)) (b .waiting))
 
 unfoldable pub enters : Frame → Record → Book → Book
 enters f a b =

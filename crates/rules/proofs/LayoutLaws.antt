@@ -96,6 +96,15 @@ write-not-tick op e = rw (eqb-true op opWrite e)
 pub lookUp-not-tick : (op : ℕ) → isLookUp op ≡ true → isTick op ≡ false
 lookUp-not-tick op e = lookUp-cases (λ n. isTick n ≡ false) op e refl refl refl refl
 
+pub lookUp-not-abort : (op : ℕ) → isLookUp op ≡ true → isAbort op ≡ false
+lookUp-not-abort op e = lookUp-cases (λ n. isAbort n ≡ false) op e refl refl refl refl
+
+pub write-not-abort : (op : ℕ) → isWrite op ≡ true → isAbort op ≡ false
+write-not-abort op e = rw (eqb-true op opWrite e)
+
+pub commit-not-abort : (op : ℕ) → isCommit op ≡ true → isAbort op ≡ false
+commit-not-abort op e = rw (eqb-true op opCommit e)
+
 pub create-not-tick : (op : ℕ) → isCreate op ≡ true → isTick op ≡ false
 create-not-tick op e = rw (eqb-true op opCreate e)
 

@@ -1,18 +1,20 @@
 -- What is known of a frame that is not refused: none of the table's rows applies. The table in parts.
 use Prim.Native.Nat.{ℕ, zero, suc}
-use mathlib.Core.Bool.{Bool, true, false, not, cond, _&&_}
-use mathlib.Core.Path.{_≡_, refl, ap}
-use mathlib.Core.List.{List, [], _∷_, _++_}
-use borrow.Author.Tests.{not-true, not-false, eqb-false}
+use mathlib.Core.Bool.{Bool, true, false, not, cond, _&&_, true≢false}
+use mathlib.Core.Path.{_≡_, refl, sym, ap, _∙_}
+use mathlib.Core.List.{List, [], _∷_, _++_, List·Memᴰ}
+use borrow.Author.Tests.{not-true, not-false, eqb-false, eq-eqb}
 use lib.Dec.{eqb, ltb}
 use lib.ListN.{length}
 use Rattle.rules.specs.Lists.{firstRow}
 use Rattle.rules.specs.Numbers.{stepArea, areaRefused}
 use Rattle.rules.specs.State.{Model}
-use Rattle.rules.specs.Frame.{Frame, decode, isOperation}
-use Rattle.rules.specs.Refusals.{noOperation, wrongLength, malformed, wrongParty, partyWaits, notLive, notOwn}
+use Rattle.rules.specs.declared.LookUp.{LookUp}
+use Rattle.rules.specs.Frame.{Frame, decode, isOperation, isAbort}
+use Rattle.rules.specs.Refusals.{noOperation, wrongLength, malformed, wrongParty, withdraws, partyWaits, notLive, notOwn}
 use Rattle.rules.specs.Refusals.{noLease, tooLate, entriesFull, txnsFull, noNumber, rows, refusal, formRows, admissionRows, roomRows}
 use Rattle.rules.specs.Requests.{formRefusal, spaceRefusal}
+use Rattle.rules.proofs.ListLaws.{none-mem}
 use Rattle.rules.proofs.BoolLaws.{cond-cases, and-left, and-right, or-right}
 
 -- no row has the number k
@@ -72,6 +74,14 @@ clear m bs area e =
       txn-room = r 11;
       numbers = r 12;
     }
+
+-- who waits not, of the party of a frame that is no abort
+pub none-waits : (m : Model) (f : Frame) → isAbort (f .op) ≡ false → partyWaits m f ≡ false
+    → {w : LookUp} → List·Memᴰ w (m .waits) → w .party ≡ f .party → ⊥
+unfolding partyWaits
+none-waits m f t e {w} i q =
+    let r = none-mem (λ (v : LookUp). eqb (v .party) (f .party) && not (withdraws f v)) e i in
+    true≢false (sym (rw (eq-eqb (w .party) (f .party) q, t)) ∙ r)
 
 -- ---- the table in parts
 -- and so none is given; k is not 0, which says that none applies

@@ -28,12 +28,12 @@ use Rattle.rules.specs.Service.{serve, service}
 use Rattle.rules.specs.Tick.{tick, endedTxns, abortAll, dropEnded, lapsed, closeWaits}
 use Rattle.rules.specs.Refusals.{wrongParty, partyWaits}
 use Rattle.rules.specs.Step.{Outcome, commitFrame, abortFrame, ownPart, finish, carriedOut, step, accepted, refusedWith}
-use Rattle.rules.proofs.ListLaws.{mem-filter, none-mem, any-filter, all-false, filter-pass, count, count-append}
+use Rattle.rules.proofs.ListLaws.{mem-filter, any-filter, all-false, filter-pass, count, count-append}
 use Rattle.rules.proofs.ListLaws.{count-cons, count-filter}
 use Rattle.rules.proofs.BoolLaws.{bool-cases, cond-cases, or-left, or-right}
-use Rattle.rules.proofs.LayoutLaws.{lookUp-not-tick}
+use Rattle.rules.proofs.LayoutLaws.{lookUp-not-tick, lookUp-not-abort}
 use Rattle.rules.proofs.StepCases.{step-cases, own-cases, serve-ind}
-use Rattle.rules.proofs.RefusalLaws.{Clear, clear, is-one}
+use Rattle.rules.proofs.RefusalLaws.{Clear, clear, is-one, none-waits}
 
 -- ---- at most 16 wait: of the parties 1 to n, at most n
 one-at-most : (b : Bool) → cond b 1 0 ≤ 1
@@ -139,7 +139,7 @@ module _ (w : LookUp) (ws : List LookUp) where
 
 pub sound-arrives : (m : Model) (f : Frame) → isLookUp (f .op) ≡ true → wrongParty f ≡ false → partyWaits m f ≡ false
     → Sound m → Sound (withWaits (m .waits ++ (lookUpOf m f ∷ [])) m)
-unfolding lookUpOf partyWaits
+unfolding lookUpOf
 sound-arrives m f l e free s =
     record {
       parties = λ v i.
@@ -147,7 +147,7 @@ sound-arrives m f l e free s =
           (λ j. subst⁻¹ (λ (x : LookUp). IsParty (x .party)) (List·Memᴰ·eq-of-singleton j)
           (is-party f (lookUp-not-tick (f .op) l) e)) (List·Memᴰ·append-cases (m .waits) i);
       one-each = each-snoc (lookUpOf m f) (m .waits)
-          (λ v i q. eqb-false (v .party) (f .party) (none-mem (ofParty (f .party)) free i) q) (s .one-each);
+          (λ v i q. none-waits m f (lookUp-not-abort (f .op) l) free i q) (s .one-each);
     }
 
 -- so it finds room

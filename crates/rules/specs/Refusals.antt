@@ -16,7 +16,7 @@ use Rattle.rules.specs.Numbers.{entriesRefused, txnsRefused, numberRefus
 use Rattle.rules.specs.State.{Model}
 use Rattle.rules.specs.Template.{bit}
 use Rattle.rules.specs.Holds.{liveTxn}
-use Rattle.rules.specs.Frame.{Frame, decode, frameLength, isOperation, isWrite, isCreate, isTick}
+use Rattle.rules.specs.Frame.{Frame, decode, frameLength, isOperation, isWrite, isCreate, isAbort, isTick}
 use Rattle.rules.specs.Frame.{hasTemplate, hasLeaseOrTimeout, namesNoTxn, endsTxn}
 
 -- 2: empty frame, or operation not 1-9
@@ -51,9 +51,14 @@ malformed f =
 unfoldable pub wrongParty : Frame → Bool
 wrongParty f = cond (isTick (f .op)) (not (eqb (f .party) 0)) (eqb (f .party) 0 || ltb maxParty (f .party))
 
--- 6: the party has a waiting look-up
+-- "An abort of the transaction in which the party's own look-up waits is now carried out. The look-up is withdrawn"
+-- (document 02, T-01). One that waits outside transactions is not.
+abbrev pub withdraws : Frame → LookUp → Bool
+withdraws f w = isAbort (f .op) && not (eqb (f .txn) 0) && eqb (w .txn .0) (f .txn)
+
+-- 6: the party has a waiting look-up, which the frame does not withdraw
 unfoldable pub partyWaits : Model → Frame → Bool
-partyWaits m f = anyb (λ (w : LookUp). eqb (w .party) (f .party)) (m .waits)
+partyWaits m f = anyb (λ (w : LookUp). eqb (w .party) (f .party) && not (withdraws f w)) (m .waits)
 
 -- a frame in a transaction: a number other than 0, and every commit and abort
 abbrev pub inTxn : Frame → Bool

@@ -66,8 +66,8 @@ commit t m =
     withEntries (map (released (m .txns) t) (filterb (λ e. not (takenBy t e)) (m .entries)))
     (withTxns (withoutTxn t (m .txns)) m)
 
--- "Private entries are removed, both kinds of hold go." A look-up that waits inside is closed with it: only the
--- exception of a tick meets one, because its owner's own frames are refused with 6
+-- "Private entries are removed, both kinds of hold go." A look-up that waits inside is closed with it: by the exception
+-- of a tick, or withdrawn by its party's own abort (document 02, T-01)
 unfoldable pub abort : ℕ → Model → Model
 abort t m =
     withEntries (map (released (m .txns) t) (filterb (λ e. not (privateTo t e)) (m .entries)))
