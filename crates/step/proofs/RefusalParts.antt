@@ -1,6 +1,6 @@
 -- The table of refusals in the parts in which the code judges it.
 use Prim.Native.Nat.{ℕ, _+_, _-_, _≤_, _<_}
-use mathlib.Core.Bool.{Bool, true, false, not, cond, _||_, or-false}
+use mathlib.Core.Bool.{Bool, true, false, not, cond, _&&_, _||_, or-false}
 use mathlib.Core.Option.{none, some}
 use mathlib.Core.Path.{_≡_, refl, sym, ap, _∙_}
 use mathlib.Core.List.{List}
@@ -9,18 +9,19 @@ use native.Mathlib.Decide.{decLt}
 use borrow.Author.Tests.{ne-eqb, lt-ltb, le-ltb}
 use lib.Dec.{eqb, ltb}
 use Rattle.rules.specs.declared.Txn.{Txn}
+use Rattle.rules.specs.declared.LookUp.{LookUp}
 use Rattle.rules.specs.declared.FindRequest.{FindRequest}
 use Rattle.rules.specs.declared.Request.the-variants.{Find}
-use Rattle.rules.specs.Numbers.{notLiveRefused, notOwnRefused, clockRefused}
+use Rattle.rules.specs.Numbers.{waitingRefused, notLiveRefused, notOwnRefused, clockRefused}
 use Rattle.rules.specs.State.{Model}
-use Rattle.rules.specs.Frame.{Frame, layoutOf}
+use Rattle.rules.specs.Frame.{Frame, layoutOf, isAbort}
 use Rattle.rules.specs.Holds.{liveTxn}
-use Rattle.rules.specs.Refusals.{admissionRows, roomRows, inTxn, partyWaits, notLive, notOwn}
+use Rattle.rules.specs.Refusals.{admissionRows, roomRows, inTxn, withdraws, partyWaits, notLive, notOwn}
 use Rattle.rules.specs.Refusals.{noLease, tooLate, entriesFull, txnsFull, noNumber}
 use Rattle.rules.specs.Requests.{frame, frameOf, spaceRefusal}
-use Rattle.rules.proofs.ListLaws.{some-any, none-any}
+use Rattle.rules.proofs.ListLaws.{some-any, none-any, any-same}
 use Rattle.rules.proofs.RefusalLaws.{first-append}
-use Rattle.step.specs.Judge.{txnRefusal, partyRefusal, late, admissionRefusal, roomRefusal}
+use Rattle.step.specs.Judge.{bars, txnRefusal, partyRefusal, late, admissionRefusal, roomRefusal}
 use Rattle.step.proofs.KindLaws.{kind-cases}
 
 -- ---- 10: a sum above the last clock, by a difference that cannot wrap
@@ -42,11 +43,26 @@ module _ (party t : ℕ) (ts : List Txn) (n : eqb t 0 ≡ false) where
   unfolding txnRefusal liveTxn
   live-some x e = rw (n, some-any (λ (y : Txn). eqb (y .id .0) t) ts e, e)
 
--- ---- 6 to 8: of a frame that is in a transaction, or is not
-pub admission-parts : (m : Model) (f : Frame) (inside : Bool) → inTxn f ≡ inside
-    → partyRefusal inside (f .party) (f .txn) m ≡ admissionRefusal m f
+-- ---- 6 to 8: of a frame that is in a transaction, or is not, and that leaves one, or does not
+-- a frame withdraws what waits inside the transaction that it aborts
+spares : (aborts : Bool) (t leaving : ℕ) → leaving ≡ cond aborts t 0 → (w : LookUp)
+    → (eqb leaving 0 || not (eqb (w .txn .0) leaving)) ≡ not (aborts && not (eqb t 0) && eqb (w .txn .0) t)
+spares false t leaving e w = rw e
+spares true t leaving e w = rw e (go (eqb t 0))
+  where
+    go : (b : Bool) → (b || not (eqb (w .txn .0) t)) ≡ not (not b && eqb (w .txn .0) t)
+    go true = refl
+    go false = refl
+
+pub admission-parts : (m : Model) (f : Frame) (inside : Bool) (leaving : ℕ) → inTxn f ≡ inside
+    → leaving ≡ cond (isAbort (f .op)) (f .txn) 0
+    → partyRefusal inside (f .party) leaving (f .txn) m ≡ admissionRefusal m f
 unfolding partyRefusal txnRefusal partyWaits notLive notOwn
-admission-parts m f inside e = ap (λ b. partyRefusal b (f .party) (f .txn) m) (sym e)
+admission-parts m f inside leaving e l =
+    ap (λ b. partyRefusal b (f .party) leaving (f .txn) m) (sym e)
+    ∙ ap (λ b. cond b waitingRefused (txnRefusal (inTxn f) (f .party) (f .txn) (m .txns)))
+    (any-same (bars (f .party) leaving) (λ w. eqb (w .party) (f .party) && not (withdraws f w))
+    (λ w. ap (λ b. eqb (w .party) (f .party) && b) (spares (isAbort (f .op)) (f .txn) leaving l w)) (m .waits))
 
 -- a look-up is in a transaction if it names one
 pub find-inside : (l : FindRequest) → inTxn (frameOf (Find l)) ≡ not (eqb (l .txn .0) 0)
@@ -55,6 +71,10 @@ find-inside l =
     let e = or-false (not (eqb (l .txn .0) 0)) in
     kind-cases (λ op. (not (eqb (l .txn .0) 0) || layoutOf op .ends) ≡ not (eqb (l .txn .0) 0)) (l .takes)
     (l .«if_exists») e e e e
+
+-- and leaves none
+pub find-leaves : (l : FindRequest) → 0 ≡ cond (isAbort (frameOf (Find l) .op)) (l .txn .0) 0
+find-leaves l = kind-cases (λ op. 0 ≡ cond (isAbort op) (l .txn .0) 0) (l .takes) (l .«if_exists») refl refl refl refl
 
 -- ---- 9 to 13, of a look-up: its timeout alone is judged
 pub find-room : (m : Model) (l : FindRequest) → roomRefusal m (frameOf (Find l))

@@ -16,9 +16,12 @@ use Rattle.rules.specs.Holds.{liveTxn}
 use Rattle.rules.specs.Frame.{Frame, isLookUp}
 use Rattle.rules.specs.Refusals.{isOf, admissionRows, roomRows}
 
--- 6, of a party
-abbrev pub partyWaiting : ℕ → List LookUp → Bool
-partyWaiting party ws = anyb (λ (w : LookUp). eqb (w .party) party) ws
+-- 6, of a party whose frame aborts the transaction `leaving`, or none (0): whether a look-up bars it, and whether one does
+abbrev pub bars : ℕ → ℕ → LookUp → Bool
+bars party leaving w = eqb (w .party) party && (eqb leaving 0 || not (eqb (w .txn .0) leaving))
+
+abbrev pub partyWaiting : ℕ → ℕ → List LookUp → Bool
+partyWaiting party leaving ws = anyb (bars party leaving) ws
 
 -- 7 and 8, of a party and a transaction's number; `inside`: the frame is in a transaction
 unfoldable pub txnRefusal : Bool → ℕ → ℕ → List Txn → ℕ
@@ -29,9 +32,9 @@ txnRefusal inside party t ts =
     ∷ [])
 
 -- 6 to 8
-unfoldable pub partyRefusal : Bool → ℕ → ℕ → Model → ℕ
-partyRefusal inside party t m =
-    cond (partyWaiting party (m .waits)) waitingRefused (txnRefusal inside party t (m .txns))
+unfoldable pub partyRefusal : Bool → ℕ → ℕ → ℕ → Model → ℕ
+partyRefusal inside party leaving t m =
+    cond (partyWaiting party leaving (m .waits)) waitingRefused (txnRefusal inside party t (m .txns))
 
 -- 10, of a clock and a lease or timeout
 abbrev pub late : ℕ → ℕ → Bool

@@ -2,10 +2,11 @@
 ghost use mathlib.Core.Path.{_≡_};
 ghost use Rattle.rules.specs.Requests.{frameOf, spaceRefusal};
 ghost use Rattle.rules.specs.Words.{view};
-ghost use Rattle.step.specs.Judge.{partyWaiting, txnRefusal, partyRefusal, late, noRoom};
+ghost use Rattle.step.specs.Judge.{bars, partyWaiting, txnRefusal, partyRefusal, late, noRoom};
 ghost use Rattle.step.specs.Judge.{admissionRefusal, roomRefusal};
 use holds::live::Live;
 use holds::live::find_txn;
+use rules::LookUp;
 use rules::Request;
 use rules::TxnId;
 use rules::WriteRequest;
@@ -30,15 +31,23 @@ use words::rows::txn_count;
 use words::rows::wait_at;
 use words::rows::wait_count;
 
-// Whether the party has a waiting look-up.
-pub(crate) fn waits_already(space: &Words, party: u8) -> bool
-    ensures { λ r. ⌜ r ≡ partyWaiting party (view (now (space .entry)) .waits) ⌝ }
+// Whether a waiting look-up bars a frame of the party: its own does, unless the frame aborts the transaction in which it
+// waits. `leaving` is the transaction that the frame aborts; 0: none.
+pub(crate) fn is_barring(w: LookUp, party: u8, leaving: TxnId) -> bool
+    ensures { λ r. ⌜ r ≡ bars party (leaving .0) w ⌝ }
+{
+    (w.party == party) & ((leaving.0 == 0) | (w.txn.0 != leaving.0))
+}
+
+// Whether the party has a waiting look-up that the frame does not withdraw.
+pub(crate) fn waits_already(space: &Words, party: u8, leaving: TxnId) -> bool
+    ensures { λ r. ⌜ r ≡ partyWaiting party (leaving .0) (view (now (space .entry)) .waits) ⌝ }
 {
     let n = wait_count(space);
     let mut i: usize = 0;
     while i < n {
         let w = wait_at(space, i);
-        if w.party == party {
+        if is_barring(w, party, leaving) {
             return true;
         }
         i += 1;
@@ -62,11 +71,11 @@ pub(crate) fn txn_refusal(space: &Words, inside: bool, party: u8, id: TxnId) -> 
     if t.party == party { 0 } else { NOT_OWN_REFUSED }
 }
 
-// 6, 7 or 8, for such a frame; 0: none of them applies.
-pub(crate) fn party_refusal(space: &Words, inside: bool, party: u8, id: TxnId) -> u8
-    ensures { λ r. ⌜ r ≡ partyRefusal inside party (id .0) (view (now (space .entry))) ⌝ }
+// 6, 7 or 8, for such a frame, which may leave a transaction; 0: none of them applies.
+pub(crate) fn party_refusal(space: &Words, inside: bool, party: u8, leaving: TxnId, id: TxnId) -> u8
+    ensures { λ r. ⌜ r ≡ partyRefusal inside party (leaving .0) (id .0) (view (now (space .entry))) ⌝ }
 {
-    if waits_already(space, party) {
+    if waits_already(space, party, leaving) {
         WAITING_REFUSED
     } else {
         txn_refusal(space, inside, party, id)
@@ -77,13 +86,14 @@ pub(crate) fn party_refusal(space: &Words, inside: bool, party: u8, id: TxnId) -
 pub(crate) fn admission(space: &Words, q: Request) -> u8
     ensures { λ r. ⌜ r ≡ admissionRefusal (view (now (space .entry))) (frameOf q) ⌝ }
 {
+    let none = TxnId(0);
     match q {
-        Request::Write(w) => party_refusal(space, w.txn.0 != 0, w.party, w.txn),
-        Request::Find(l) => party_refusal(space, l.txn.0 != 0, l.party, l.txn),
-        Request::Create(party, _) => party_refusal(space, false, party, TxnId(0)),
-        Request::Commit(party, id) => party_refusal(space, true, party, id),
-        Request::Abort(party, id) => party_refusal(space, true, party, id),
-        Request::Tick => party_refusal(space, false, 0, TxnId(0)),
+        Request::Write(w) => party_refusal(space, w.txn.0 != 0, w.party, none, w.txn),
+        Request::Find(l) => party_refusal(space, l.txn.0 != 0, l.party, none, l.txn),
+        Request::Create(party, _) => party_refusal(space, false, party, none, none),
+        Request::Commit(party, id) => party_refusal(space, true, party, none, id),
+        Request::Abort(party, id) => party_refusal(space, true, party, id, id),
+        Request::Tick => party_refusal(space, false, 0, none, none),
     }
 }
 

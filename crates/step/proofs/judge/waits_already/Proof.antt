@@ -1,26 +1,20 @@
--- `step::judge::waits_already` meets its contract. The loop's invariant: none of the look-ups passed is the party's.
+-- `step::judge::waits_already` meets its contract. The loop's invariant: none of the look-ups passed bars the frame.
 -- Assumes nothing.
-use Prim.Native.Nat.{ℕ, _≤_, _-_}
-use mathlib.Core.Bool.{Bool}
-use mathlib.Core.Path.{sym}
+use Prim.Native.Nat.{_≤_, _-_}
+use mathlib.Core.Path.{sym, _∙_}
 use native.Mathlib.Omega.{arith}
-use borrow.Author.Tests.{eq-eqb, ne-eqb}
-use lib.Dec.{eqb}
-use Rattle.rules.specs.declared.LookUp.{LookUp}
 use Rattle.words.specs.Rows.{waitRow}
 use Rattle.words.proofs.SearchLaws.{Searching, search-start, search-more, search-any, search-no}
 use Rattle.words.proofs.Tables.{waits-read}
+use Rattle.step.specs.Judge.{bars}
 use Rattle.step.proofs.judge.waits_already.Statement.{statement}
 use Rattle.step.proofs.judge.waits_already.Tie as tie
 
-abbrev isOf : ℕ → LookUp → Bool
-isOf party w = eqb (w .party) party
-
 abbrev Inv-loop : tie.InvT-loop
-Inv-loop space party n i₀ i = (i ≤ n) × Searching (isOf party) (waitRow space) i
+Inv-loop space party leaving n i₀ i = (i ≤ n) × Searching (bars party (leaving .0)) (waitRow space) i
 
 abbrev μ-loop : tie.MeasureT-loop
-μ-loop space party n i₀ i = n - i
+μ-loop space party leaving n i₀ i = n - i
 
 loop-holds : tie.Need-loop-holds Inv-loop μ-loop
 loop-holds c = (omega arith, search-start)
@@ -29,13 +23,13 @@ returns : tie.Need-returns Inv-loop μ-loop
 returns c =
     let loop = c .before .before .before .before in
     sym (search-any (waits-read (loop .before .before .args .space .now)) (loop .loop .inv .1) (omega arith)
-    (c .before .before .wait-at .ensures) (eq-eqb _ _ (c .if1 .taken)))
+    (c .before .before .wait-at .ensures) (sym (c .before .is-barring .ensures) ∙ c .if1 .taken))
 
 loop-again : tie.Need-loop-again Inv-loop μ-loop
 loop-again c = (
   omega arith,
   search-more (c .before .before .before .before .loop .inv .1) (c .before .before .wait-at .ensures)
-      (ne-eqb _ _ (c .if1 .left)),
+      (sym (c .before .is-barring .ensures) ∙ c .if1 .left),
 )
 
 returns-2 : tie.Need-returns-2 Inv-loop μ-loop
@@ -46,5 +40,5 @@ pub waits-already-spec : {M : Type 1} → statement M
 waits-already-spec =
     tie.close
     (tie.spec
-    Inv-loop μ-loop (λ c κs. tt) loop-holds (λ c κs. omega arith) returns (λ c. omega arith) (λ c. omega arith)
+    Inv-loop μ-loop (λ c κs. tt) loop-holds (λ c κs. omega arith) (λ c κs. tt) returns (λ c. omega arith) (λ c. omega arith)
     loop-again returns-2)
