@@ -51,5 +51,6 @@ pub mod TraysProof
 pub mod Computed
 pub mod CourseProof
 pub mod TidiedProof
+pub mod WithdrawnProof
 pub mod RuledOutProof
 pub mod Theorems

@@ -21,6 +21,7 @@ use Rattle.rules.specs.SerialRun.{listOf, thrownAway, lastTakes, advanced, foll
 use Rattle.rules.specs.SerialRun.{followLog, serialRun, left, committedIn, Serial}
 use Rattle.demands.specs.Machine.{Handed, Stepper, StepsBy, answeredBy, spaceOf}
 use Rattle.demands.specs.History.{History, begun, handed, Made}
+use Rattle.demands.specs.Book.{enters, entersAll, arrives, keepBook, bookOf}
 use Rattle.demands.specs.Told.{Told, readsNumber, whoTakes, whoReads, committedTold, privateTold, told}
 use Rattle.demands.specs.Bounds.{Ascending}
 use Rattle.demands.specs.Demands.{Demand1, Demand2, Demand3}
@@ -29,7 +30,8 @@ use Rattle.demands.specs.RuledOut.{saysNothing, saysWaiting, refusesAll,
 use Rattle.demands.specs.RuledOut.{firstFrameOnly, oneMore, losesCommit, putsBackLate, ownReadBars, nothingFirst}
 use Rattle.demands.specs.RuledOut.{showsPrivate, ignoresWrites, writesTwice, ticksAtWrites, neverExpires}
 use Rattle.demands.specs.RuledOut.{lastExceptionFirst, lastServedFirst, servesEnded, newestFirst}
-use Rattle.demands.specs.RuledOut.{newestInService, takesLongCommits, gives14, RuledOut}
+use Rattle.demands.specs.RuledOut.{newestInService, takesLongCommits, gives14, keepsWithdrawn}
+use Rattle.demands.specs.RuledOut.{withdrawnGetsNothing, abortsAny, RuledOut}
 use Rattle.rules.proofs.ListLaws.{none-mem}
 use Rattle.rules.proofs.BoolLaws.{and-left, and-right}
 use Rattle.demands.proofs.AllLaws.{all-none, all-cons, all-map}
@@ -149,7 +151,7 @@ pub each-ruled-out : RuledOut
 unfolding all-rules all-told lastOf logOf answeredBy orderedb saysNothing saysWaiting refusesAll sameRecord
     storesNothing firstFrameOnly losesCommit putsBackLate ownReadBars nothingFirst showsPrivate ignoresWrites
     writesTwice ticksAtWrites neverExpires lastExceptionFirst lastServedFirst servesEnded newestFirst newestInService
-    takesLongCommits gives14
+    takesLongCommits gives14 keepsWithdrawn withdrawnGetsNothing abortsAny enters entersAll arrives keepBook bookOf
 each-ruled-out =
     record {
       says-nothing = λ d.
@@ -228,5 +230,18 @@ each-ruled-out =
       gives-14 = λ d.
           let q : _≡_ {A = ℕ} 14 6 = by-judged gives14 d (map (λ p. take-by p 0 9 7) parties) (take-by 1 0 9 7) in
           omega arith;
+      -- the book has nobody waiting after the abort
+      keeps-withdrawn = λ d.
+          let fs = create-by 1 9 ∷ take-by 1 1 9 7 ∷ abort-by 1 1 ∷ [] in
+          let b =
+          d .booked (logOf keepsWithdrawn empty fs) (lastOf keepsWithdrawn empty fs) (from-empty keepsWithdrawn fs) in
+          let q : _≡_ {A = ℕ} 0 1 = ap length (b .waiting) in omega arith;
+      withdrawn-gets-nothing = λ d.
+          by-said withdrawnGetsNothing d (create-by 1 9 ∷ take-by 1 1 9 7 ∷ []) (abort-by 1 1) refl refl length
+          (λ (q : 1 ≡ 2). omega arith);
+      -- party 1 waits in transaction 1, and aborts transaction 2
+      aborts-any = λ d.
+          let q : _≡_ {A = ℕ} 0 6 =
+          by-judged abortsAny d (create-by 1 9 ∷ create-by 1 9 ∷ take-by 1 1 9 7 ∷ []) (abort-by 1 2) in omega arith;
       answers-none = λ d. d .answers [] empty (empty, refl, begun empty) (handIn a-tick) .2;
     }

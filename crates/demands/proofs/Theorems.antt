@@ -7,6 +7,7 @@ use Rattle.demands.specs.Consequences.{Consequences, ConsequencesFollow}
 use Rattle.demands.specs.Bounds.{Bounds}
 use Rattle.demands.specs.RuledOut.{RuledOut}
 use Rattle.demands.specs.Tidied.{Tidied}
+use Rattle.demands.specs.Withdrawn.{Withdrawn}
 use Rattle.demands.proofs.ByRule.{space-follows, rules-follow}
 use Rattle.demands.proofs.Follows.{follows-1, follows-2, follows-3, follows-bounds}
 use Rattle.demands.proofs.Answering.{space-begins, space-answers, rules-begin, rules-answer}
@@ -14,6 +15,7 @@ use Rattle.demands.proofs.DeterminedProof.{every-history, every-serial}
 use Rattle.demands.proofs.FixedProof.{every-reply}
 use Rattle.demands.proofs.ConsequencesProof.{every-consequence}
 use Rattle.demands.proofs.TidiedProof.{the-number-is-tidied}
+use Rattle.demands.proofs.WithdrawnProof.{escape-is-carried-out}
 use Rattle.demands.proofs.RuledOutProof.{each-ruled-out}
 
 -- The space that is built.
@@ -63,6 +65,10 @@ consequences = consequences-follow theSpace demand1 demand2
 -- What was shown before the number 14 was removed.
 pub tidied : Tidied
 tidied = the-number-is-tidied
+
+-- What an abort out of a wait changes, and what it leaves.
+pub withdrawn : Withdrawn
+withdrawn = escape-is-carried-out
 
 -- Wrong spaces.
 pub ruled-out : RuledOut

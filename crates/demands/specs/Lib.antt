@@ -17,5 +17,6 @@ pub mod Trays
 pub mod Frames
 pub mod Course
 pub mod RuledOut
--- what was shown before a rule was taken away
+-- the rules as they were before a request, beside the rules as they are
 pub mod Tidied
+pub mod Withdrawn

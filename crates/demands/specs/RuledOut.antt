@@ -1,6 +1,6 @@
 -- What the demands rule out: a small wrong space for each of document 01's Contracts c, for each mistake that students
--- make, for silence, order and time, for the newest mark first, for frames of another length and for number 14; and
--- the statement that the demand named for it fails. (`Determined` says that no wrong space is left.)
+-- make, for silence, order and time, for the newest mark first, for frames of another length, for number 14 and for
+-- aborts out of a wait; and the statement that the demand named for it fails. (`Determined` says that no wrong space is left.)
 use Prim.Native.Nat.{suc, _+_}
 use mathlib.Core.Bool.{Bool, not, cond, _&&_, _||_}
 use mathlib.Core.Path.{_≡_}
@@ -15,8 +15,9 @@ use Rattle.rules.specs.Time.{reached}
 use Rattle.rules.specs.State.{Model, withEntries, withWaits, withClock, withNextEntry}
 use Rattle.rules.specs.Template.{matches}
 use Rattle.rules.specs.Holds.{visible, oldest}
-use Rattle.rules.specs.Frame.{Frame, byteAt, decode, frameLength, isWrite, isLookUp, isCommit, isTick, serves}
-use Rattle.rules.specs.Records.{written, found, committed, exception, ticked}
+use Rattle.rules.specs.Frame.{Frame, byteAt, decode, frameLength, isWrite, isLookUp, isCommit, isAbort, isTick}
+use Rattle.rules.specs.Frame.{serves}
+use Rattle.rules.specs.Records.{written, found, nothing, committed, aborted, exception, ticked}
 use Rattle.rules.specs.Done.{Carried, Done, after, quiet}
 use Rattle.rules.specs.LookUp.{lookUpOf, handOut, answer, answerNothing, answerWaiting}
 use Rattle.rules.specs.Transactions.{abort, takenBy}
@@ -226,6 +227,28 @@ gives14 m bs area =
     let o = step m bs area in
     cond (eqb (o .number) waitingRefused && leb maxWaits (length (m .waits))) (refusedWith m bs 14) o
 
+-- "Abort out of a wait" (document 02, T-01)
+
+-- a withdrawn look-up waits on, to be served later
+unfoldable pub keepsWithdrawn : Stepper
+keepsWithdrawn =
+    carrying (λ f. isAbort (f .op))
+    (λ m f. after (aborted f) (service (withWaits (m .waits) (abort (f .txn) m))))
+
+-- it gets nothing besides the abort's own record
+unfoldable pub withdrawnGetsNothing : Stepper
+withdrawnGetsNothing =
+    carrying (λ f. isAbort (f .op))
+    (λ m f. let gone = filterb (λ w. eqb (w .txn .0) (f .txn)) (m .waits) in
+    let served = service (abort (f .txn) m) in
+    after (aborted f) (record { model = served .model; records = served .records ++ map nothing gone }))
+
+-- an abort is let through for another transaction than the one waited in
+unfoldable pub abortsAny : Stepper
+abortsAny m bs area =
+    let f = decode bs in
+    cond (isAbort (f .op) && eqb (refusal m bs area) waitingRefused) (accepted (carriedOut m f)) (step m bs area)
+
 -- answers no frame at all
 abbrev pub mute : Machine
 mute = record { State = Model; view = λ m. m; Empty = theRules .Empty; Steps = λ m h n a. ⊥ }
@@ -255,4 +278,7 @@ pub record RuledOut : Type 0 where
   pub newest-in-service : Demand2 (spaceOf newestInService) → ⊥
   pub takes-long-commits : Demand1 (spaceOf takesLongCommits) → ⊥
   pub gives-14 : Demand1 (spaceOf gives14) → ⊥
+  pub keeps-withdrawn : Demand2 (spaceOf keepsWithdrawn) → ⊥
+  pub withdrawn-gets-nothing : Demand2 (spaceOf withdrawnGetsNothing) → ⊥
+  pub aborts-any : Demand1 (spaceOf abortsAny) → ⊥
   pub answers-none : Demand1 mute → ⊥
