@@ -26,6 +26,8 @@ struct Lean {
     takes: usize,
     commits: usize,
     stray: usize,
+    /// Of frames, where somebody waits: one of those who wait tries to get out.
+    escapes: usize,
     garbled: usize,
     /// Shares of write, look-up, create, commit or abort, tick.
     shares: [usize; 5],
@@ -45,6 +47,7 @@ impl Lean {
             takes: random.pick(&[20, 50, 80]),
             commits: random.pick(&[30, 60]),
             stray: random.pick(&[0, 2, 10]),
+            escapes: random.pick(&[0, 3, 15]),
             garbled: random.pick(&[0, 2, 15]),
             shares: [random.between(2, 8) as usize, random.between(2, 8) as usize, 2, 2, random.between(1, 4) as usize],
         };
@@ -94,7 +97,14 @@ impl Generator {
         if let Some(frame) = self.script.pop() {
             return frame;
         }
-        let frame = self.sound_frame(guide);
+        let frame = match guide.waiting.len() {
+            0 => self.sound_frame(guide),
+            waiting if self.random.percent(self.lean.escapes) => {
+                let look_up = &guide.waiting[self.random.below(waiting)];
+                self.escape_frame(guide, look_up.party, look_up.transaction)
+            }
+            _ => self.sound_frame(guide),
+        };
         if self.random.percent(self.lean.garbled) {
             self.garble(frame)
         } else {
@@ -129,6 +139,25 @@ impl Generator {
             }
             _ => tick_frame(),
         }
+    }
+
+    /// A party that waits ends a transaction: mostly the one that it waits in, or none; else another of its own, one of
+    /// another's, or any.
+    fn escape_frame(&mut self, guide: &Space, party: u8, inside: u32) -> Vec<u8> {
+        let ending = if self.random.percent(90) { 8 } else { 7 };
+        let own = self.random.percent(50);
+        let others: Vec<u32> = guide
+            .transactions
+            .iter()
+            .filter(|live| (live.owner == party) == own && live.number != inside)
+            .map(|live| live.number)
+            .collect();
+        let transaction = match self.random.below(10) {
+            0 => self.stray_transaction(guide),
+            1..=4 if !others.is_empty() => self.random.pick(&others),
+            _ => inside,
+        };
+        ending_frame(ending, party, transaction)
     }
 
     fn look_up_frame(&mut self, guide: &Space, party: u8) -> Vec<u8> {

@@ -171,7 +171,7 @@ impl Space {
                 self.serve(answers);
             }
             Request::Abort { party, transaction } => {
-                self.check_party(party)?;
+                self.check_leaving(party, transaction)?;
                 self.check_ending(party, transaction)?;
                 answers.put(Record::new(Kind::Aborted, party, transaction));
                 self.abort(transaction);
@@ -188,6 +188,15 @@ impl Space {
             return Err(Refusal::PartyWaits);
         }
         Ok(())
+    }
+
+    /// 6, for an abort. Document 02: "An abort of the transaction in which the party's own look-up waits is now
+    /// carried out"; "6 remains for every other frame of that party".
+    fn check_leaving(&self, party: u8, transaction: u32) -> Result<(), Refusal> {
+        match self.waiting.iter().find(|look_up| look_up.party == party) {
+            Some(look_up) if transaction == NONE || look_up.transaction != transaction => Err(Refusal::PartyWaits),
+            _ => Ok(()),
+        }
     }
 
     /// 7 and 8, for a frame that may name no transaction
@@ -314,8 +323,10 @@ impl Space {
         });
     }
 
+    /// What the transaction has done is undone; a look-up that waits inside is closed by the exception, or withdrawn.
     fn abort(&mut self, transaction: u32) {
         self.transactions.retain(|live| live.number != transaction);
+        self.waiting.retain(|look_up| look_up.transaction != transaction);
         self.entries.retain_mut(|entry| {
             if entry.taken_by == transaction {
                 entry.taken_by = NONE;
@@ -349,7 +360,6 @@ impl Space {
 
         while let Some(ended) = self.transactions.iter().find(|live| live.end.reached(clock)).cloned() {
             self.abort(ended.number);
-            self.waiting.retain(|look_up| look_up.transaction != ended.number);
             answers.put(Record::new(Kind::Exception, ended.owner, ended.number));
         }
         self.entries.retain(|entry| !entry.end.reached(clock));

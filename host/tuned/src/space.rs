@@ -179,10 +179,16 @@ impl Space {
             Request::LookUp { operation, long } => self.look_up(operation, &long, answers),
             Request::Create { party, lease } => self.create(party, lease, answers),
             Request::End { commits, party, transaction } => {
-                self.check_party(party)?;
+                let waits = self.waiting >> party & 1 == 1;
+                if waits && (commits || !self.waits_inside(party, transaction)) {
+                    return Err(6);
+                }
                 let slot = self.slot(party, transaction)?;
                 answers.plain(if commits { COMMITTED } else { ABORTED }, party, transaction);
                 let fresh = self.end_transaction(commits, slot, 0);
+                if waits {
+                    self.keep_waits(|look_up, _| look_up.party != party);
+                }
                 self.serve(fresh, answers);
                 Ok(())
             }
@@ -197,6 +203,12 @@ impl Space {
             return Err(6);
         }
         Ok(())
+    }
+
+    /// Whether the party's look-up waits inside the transaction: an abort of it withdraws the look-up.
+    fn waits_inside(&self, party: u8, transaction: u32) -> bool {
+        let mut waits = self.waits[..self.wait_count.min(WAITS)].iter();
+        transaction != 0 && waits.any(|look_up| look_up.party == party && look_up.transaction == transaction)
     }
 
     /// The slot of a commit's or abort's transaction; 7 and 8.

@@ -2,7 +2,7 @@
 
 use super::hand_outs::{hand_outs, HandOut, FOUNDS};
 use reference::answer::{Kind, Record};
-use reference::frame::{look_up_kind, LOOK_UPS, NONE};
+use reference::frame::{look_up_kind, word, Refusal, LOOK_UPS, NONE};
 use reference::space::{Entry, Space, MOST_ENTRIES, MOST_TRANSACTIONS, MOST_WAITING};
 use std::collections::BTreeMap;
 use tray::record::KINDS;
@@ -10,7 +10,7 @@ use tray::record::KINDS;
 /// Document 02, T-04: "14 is never given out again".
 const NEVER_GIVEN: usize = 14;
 
-const SITUATIONS: [&str; 16] = [
+const SITUATIONS: [&str; 23] = [
     "64 entries stored",
     "8 transactions live",
     "16 look-ups waiting",
@@ -19,6 +19,13 @@ const SITUATIONS: [&str; 16] = [
     "nothing later",
     "found in the tick of the deadline",
     "look-up closed by an exception",
+    "look-up withdrawn by an abort",
+    "withdrawn, and others served in the step",
+    "waits inside, commit of the same",
+    "waits inside, abort of another of its own",
+    "waits inside, abort of another party's",
+    "waits outside, abort of none",
+    "waits outside, abort of its own",
     "lease ended under a take hold",
     "lease ended under a read hold",
     "private entry's lease ended",
@@ -58,8 +65,9 @@ impl Coverage {
             self.kinds[usize::from(record.kind)] += 1;
             self.refusals[usize::from(record.refusal)] += 1;
         }
-        let refused = records.first().is_none_or(|own| own.is(Kind::Refused));
-        if refused {
+        let Some(own) = records.first() else { return };
+        self.escape(before, frame, own, records.len());
+        if own.is(Kind::Refused) {
             return;
         }
         self.note("64 entries stored", usize::from(after.entries.len() == MOST_ENTRIES));
@@ -85,6 +93,27 @@ impl Coverage {
         if LOOK_UPS.contains(&frame[0]) {
             self.look_up(before, frame, records[0]);
         }
+    }
+
+    /// A party that waits ends a transaction, or tries to.
+    fn escape(&mut self, before: &Space, frame: &[u8], own: &Record, records: usize) {
+        let withdrawn = own.is(Kind::Aborted);
+        if !withdrawn && own.refusal != Refusal::PartyWaits as u8 {
+            return;
+        }
+        let Some(look_up) = before.waiting.iter().find(|look_up| look_up.party == frame[1]) else { return };
+        let (operation, transaction) = (frame[0], if frame.len() == 8 { word(frame, 4) } else { return });
+        let live = before.transactions.iter().find(|live| live.number == transaction);
+        let own = live.map(|live| live.owner == frame[1]);
+        let (inside, same) = (look_up.transaction != NONE, look_up.transaction == transaction);
+        self.note("look-up withdrawn by an abort", usize::from(withdrawn));
+        self.note("withdrawn, and others served in the step", usize::from(withdrawn && records > 1));
+        self.note("waits inside, commit of the same", usize::from(inside && same && operation == 7));
+        let aborts = |holds: bool| usize::from(operation == 8 && !withdrawn && holds);
+        self.note("waits inside, abort of another of its own", aborts(inside && own == Some(true)));
+        self.note("waits inside, abort of another party's", aborts(inside && own == Some(false)));
+        self.note("waits outside, abort of none", aborts(!inside && same));
+        self.note("waits outside, abort of its own", aborts(!inside && own == Some(true)));
     }
 
     fn found(&mut self, found: &HandOut) {
