@@ -139,7 +139,7 @@ static inline const char *space_refusal_meaning(uint32_t number)
         "the frame's length is not its operation's",
         "byte 3, the mask, the template or create's transaction is not as it must be",
         "the party is not 1-16, or not 0 for tick",
-        "the party has a waiting look-up",
+        "the party has a waiting look-up that the frame does not withdraw",
         "the transaction is not live",
         "the transaction is another party's",
         "create with lease 0",

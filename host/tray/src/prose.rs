@@ -3,7 +3,7 @@
 use crate::frame::{duration_text, end_text, named_fields, operation_of, plain_fields, template_text};
 use crate::history::History;
 use crate::oracle::{Matcher, Sought, Standing};
-use crate::record::{kind_of, refusal_meaning, Record, Tells, NOTHING, WAITING};
+use crate::record::{kind_of, refusal_meaning, Record, Tells, ABORTED, NOTHING, WAITING};
 use crate::words::{End, Entry, LookUp, Tables, Transaction};
 
 fn inside(record: &Record) -> String {
@@ -43,6 +43,21 @@ pub fn record_words(record: &Record, clock: u32) -> String {
         0 => record_deed(record, clock),
         party => format!("party {party}: {}", record_deed(record, clock)),
     }
+}
+
+/// A record of a frame in words, with what the tables tell besides: whether an abort withdraws a look-up.
+pub fn told(history: &History, place: usize, record: &Record) -> String {
+    let words = record_words(record, history.steps[place].after.clock);
+    match withdraws(record, history.before(place)) {
+        true => words + "; its look-up is withdrawn",
+        false => words,
+    }
+}
+
+/// Whether an abort withdraws the look-up of its party: that waits inside the transaction.
+pub fn withdraws(record: &Record, before: &Tables) -> bool {
+    let waits = before.look_up(record.party);
+    record.kind == ABORTED && waits.is_some_and(|look_up| look_up.transaction == record.transaction)
 }
 
 fn ends(end: End) -> String {

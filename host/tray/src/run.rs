@@ -3,7 +3,7 @@
 use crate::boundary::Done;
 use crate::history::{History, Outcome, Step};
 use crate::oracle::Matcher;
-use crate::prose::{record_words, refusal_words, state_lines, why_record};
+use crate::prose::{record_words, refusal_words, state_lines, told, why_record};
 use crate::record::{Record, NOTHING, RECORD_BYTES};
 use std::fmt::Write;
 
@@ -45,7 +45,7 @@ pub fn step_words(history: &History, place: usize, states: bool, matcher: &mut M
     let step = &history.steps[place];
     let mut text = format!("{:>4}  clock {:<3} {}\n", place + 1, history.before(place).clock, step.asked.text);
     for (at, record) in step.records.iter().enumerate() {
-        let _ = writeln!(text, "        {}", record_words(record, step.after.clock));
+        let _ = writeln!(text, "        {}", told(history, place, record));
         // A look-up that waits has its reasons in the tables.
         if states && record.kind == NOTHING {
             for reason in why_record(history, place, at, matcher) {

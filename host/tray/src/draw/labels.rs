@@ -5,6 +5,7 @@ use super::metrics::width;
 use crate::frame::{duration_text, end_text, plain_fields, template_slots, template_text, Class, Part, Request};
 use crate::history::History;
 use crate::oracle::{Matcher, Sought, Standing};
+use crate::prose::withdraws;
 use crate::record::{
     kind_of, refusal_label, ABORTED, COMMITTED, CREATED, EXCEPTION, FOUND, NOTHING, REFUSED, WAITING, WRITTEN,
 };
@@ -132,10 +133,11 @@ fn effect(life: &EntryLife, transaction: u32, commits: bool, at: Moment) -> Opti
     (was_its && gone == Gone::Expired && end < at).then(|| format!("E{number} had expired"))
 }
 
-fn effects(lives: &Lives, mark: &Mark) -> String {
+fn effects(history: &History, lives: &Lives, mark: &Mark) -> String {
     let (transaction, commits) = (mark.record.transaction, mark.record.kind == COMMITTED);
-    let all: Vec<String> =
-        lives.entries.iter().filter_map(|life| effect(life, transaction, commits, mark.at)).collect();
+    let withdrawn = withdraws(&mark.record, history.before(mark.at.frame)).then(|| "look-up withdrawn".to_string());
+    let others = lives.entries.iter().filter_map(|life| effect(life, transaction, commits, mark.at));
+    let all: Vec<String> = withdrawn.into_iter().chain(others).collect();
     match all.len() {
         0..=2 => all.join(", "),
         more => format!("{}, {} +{}", all[0], all[1], more - 2),
@@ -188,7 +190,7 @@ pub fn labels(history: &History, lives: &Lives, mark: &Mark, matcher: &mut Match
     };
     let (second, barred) = match mark.record.kind {
         NOTHING | WAITING => reason(history, lives, mark, matcher),
-        COMMITTED | ABORTED | EXCEPTION => (effects(lives, mark), Vec::new()),
+        COMMITTED | ABORTED | EXCEPTION => (effects(history, lives, mark), Vec::new()),
         REFUSED => {
             let transaction = request.map_or(0, |request| request.transaction);
             (refusal_label(mark.record.refusal, transaction), Vec::new())

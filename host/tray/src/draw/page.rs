@@ -7,7 +7,7 @@ use super::{rows_html, Style, CSS};
 use crate::frame::plain_fields;
 use crate::history::History;
 use crate::oracle::Matcher;
-use crate::prose::{holds_words, lease_words, look_up_words, record_words, why_record};
+use crate::prose::{holds_words, lease_words, look_up_words, told, why_record};
 use crate::words::{Entry, Tables};
 
 pub const PAGE_CSS: &str = include_str!("page.css");
@@ -106,7 +106,7 @@ fn answers_cell(history: &History, frame: usize, matcher: &mut Matcher) -> Strin
             true => String::new(),
             false => format!(" <span class=\"rem\">{}</span>", escape(&reasons.join("; "))),
         };
-        cell += &format!("<li>{}{reason}</li>", escape(&record_words(record, step.after.clock)));
+        cell += &format!("<li>{}{reason}</li>", escape(&told(history, frame, record)));
     }
     format!("<ul>{cell}</ul>")
 }

@@ -8,7 +8,7 @@ use super::metrics::*;
 use super::svg::{attributes, group, line, n, path, rect, text};
 use crate::frame::{named_fields, operation_of, plain_fields, template_text};
 use crate::history::History;
-use crate::prose::{lease_words, record_words};
+use crate::prose::{lease_words, told};
 use crate::record::{ABORTED, COMMITTED, EXCEPTION, FOUND, NOTHING, REFUSED, WRITTEN};
 use crate::words::End;
 
@@ -284,7 +284,7 @@ impl<'a> Painter<'a> {
 
     fn frame_title(&self, frame: usize) -> String {
         let step = &self.history.steps[frame];
-        let records = step.records.iter().map(|record| record_words(record, step.after.clock));
+        let records = step.records.iter().map(|record| told(self.history, frame, record));
         let lines: Vec<String> =
             std::iter::once(format!("frame {}: {}", frame + 1, step.asked.text)).chain(records).collect();
         lines.join("\n")
@@ -292,7 +292,7 @@ impl<'a> Painter<'a> {
 
     fn record_title(&self, placed: &Placed) -> String {
         let step = &self.history.steps[placed.mark.at.frame];
-        let record = record_words(&placed.mark.record, step.after.clock);
+        let record = told(self.history, placed.mark.at.frame, &placed.mark.record);
         let reason = placed.labels.below.get(1).map_or(String::new(), |reason| format!(" ({reason})"));
         format!("frame {}: {}\n{record}{reason}", placed.mark.at.frame + 1, step.asked.text)
     }
