@@ -44,7 +44,7 @@ use Rattle.demands.proofs.Events.{Admitted, Heard, asking, saying, says
 use Rattle.demands.proofs.Events.{is-nothing, is-waiting, creates, commits, aborts, ticks, excepts, expires}
 use Rattle.demands.proofs.Becomes.{clock-moves}
 use Rattle.demands.proofs.EventsProof.{step-carries}
-use Rattle.demands.proofs.Consistent.{Consistent, not-inside}
+use Rattle.demands.proofs.Consistent.{Consistent}
 use Rattle.demands.proofs.ConsistentProof.{consistent-event, Reader, Keeps, hearsAll, readsLog, reads-log, runs-keep}
 use Rattle.demands.proofs.ConsistentProof.{orderly}
 use Rattle.demands.proofs.SettledProof.{Stable, stable, stable-step}

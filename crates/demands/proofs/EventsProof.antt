@@ -31,12 +31,12 @@ use Rattle.rules.specs.LookUp.{answerNothing, answerWaiting, lookUp}
 use Rattle.rules.specs.Transactions.{create, withoutTxn, abort}
 use Rattle.rules.specs.Service.{serve, service}
 use Rattle.rules.specs.Tick.{tick, endedTxns, abortAll, dropEnded, lapsed, closeWaits}
-use Rattle.rules.specs.Refusals.{isOf, inTxn, partyWaits, notOwn, tooLate, txnsFull, noNumber, refusal}
+use Rattle.rules.specs.Refusals.{isOf, inTxn, notOwn, tooLate, txnsFull, noNumber, refusal}
 use Rattle.rules.specs.Step.{Outcome, commitFrame, abortFrame, finish, carriedOut, step, accepted, refusedWith}
 use Rattle.rules.specs.SerialRun.{wasRefused}
 use Rattle.rules.proofs.BoolLaws.{cond-cases, bool-cases, and-left, and-right, or-left, or-right, or-cases}
 use Rattle.rules.proofs.BoolLaws.{and-false-right}
-use Rattle.rules.proofs.ListLaws.{filter-mem, none-mem, none-any, find-some}
+use Rattle.rules.proofs.ListLaws.{filter-mem, none-any, find-some}
 use Rattle.rules.proofs.LayoutLaws.{write-not-tick, lookUp-not-tick, create-not-tick, commit-not-tick, abort-not-tick}
 use Rattle.rules.proofs.LayoutLaws.{lookUp-not-abort, tick-serves, lookUp-serves, finish-quiet}
 use Rattle.rules.proofs.StepCases.{own-cases, serve-ind}

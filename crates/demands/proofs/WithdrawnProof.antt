@@ -1,15 +1,14 @@
 -- The row of 6 lets one frame through, and no other.
 use Prim.Native.Nat.{ℕ}
-use mathlib.Core.Bool.{Bool, true, false, not, cond, _&&_, _||_, and-false, true≢false}
+use mathlib.Core.Bool.{Bool, true, false, not, cond, _&&_, and-false}
 use mathlib.Core.Logic.{⊎-elim}
 use mathlib.Core.Path.{_≡_, refl, sym, ap, ap₂, _∙_, subst⁻¹}
-use mathlib.Core.List.{List, [], _∷_, _++_, List·Memᴰ}
-use native.Mathlib.Omega.{arith}
-use borrow.Author.Tests.{eqb-true, eqb-false, eq-eqb, ne-eqb, not-true}
-use lib.Dec.{eqb, ltb}
+use mathlib.Core.List.{List, _∷_, _++_, List·Memᴰ}
+use borrow.Author.Tests.{eqb-true, eqb-false, eq-eqb, not-true}
+use lib.Dec.{eqb}
 use Rattle.rules.specs.declared.LookUp.{LookUp}
 use Rattle.rules.specs.declared.Txn.{Txn}
-use Rattle.rules.specs.Lists.{anyb, firstRow}
+use Rattle.rules.specs.Lists.{firstRow}
 use Rattle.rules.specs.Numbers.{opAbort, waitingRefused}
 use Rattle.rules.specs.State.{Model}
 use Rattle.rules.specs.Frame.{Frame, layoutOf, decode, isAbort}
@@ -26,7 +25,7 @@ use Rattle.demands.specs.Machine.{theRules}
 use Rattle.demands.specs.History.{inputsOf}
 use Rattle.demands.specs.Withdrawn.{waitedBefore, aheadOf6, behind6, refusalBefore, stepBefore, Withdrawn}
 use Rattle.rules.proofs.ListLaws.{mem-any, all-false, none-mem, any-find, find-some}
-use Rattle.rules.proofs.BoolLaws.{cond-cases, bool-cases, and-left, and-right}
+use Rattle.rules.proofs.BoolLaws.{bool-cases, and-left, and-right}
 use Rattle.rules.proofs.RefusalLaws.{first-append, first-without}
 
 -- an abort of a live transaction of the party is let pass by the rows behind 6

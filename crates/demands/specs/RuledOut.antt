@@ -1,6 +1,7 @@
 -- What the demands rule out: a small wrong space for each of document 01's Contracts c, for each mistake that students
 -- make, for silence, order and time, for the newest mark first, for frames of another length, for number 14 and for
--- aborts out of a wait; and the statement that the demand named for it fails. (`Determined` says that no wrong space is left.)
+-- aborts out of a wait; and the statement that the demand named for it fails. (`Determined` says that no wrong space is
+-- left.)
 use Prim.Native.Nat.{suc, _+_}
 use mathlib.Core.Bool.{Bool, not, cond, _&&_, _||_}
 use mathlib.Core.Path.{_≡_}

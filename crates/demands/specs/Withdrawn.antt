@@ -1,16 +1,17 @@
--- "An abort of the transaction in which the party's own look-up waits is now carried out. .. From the same space, frames
--- that 6 did not refuse before answer as they did; 6 remains for every other frame of that party" (document 02, T-01):
--- the rules as they were, with the row of 6 as it was, beside the rules as they are.
+-- "An abort of the transaction in which the party's own look-up waits is now carried out. .. From the same space,
+-- frames that 6 did not refuse before answer as they did; 6 remains for every other frame of that party" (document 02,
+-- T-01): the rules as they were, with the row of 6 as it was, beside the rules as they are.
 use Prim.Native.Nat.{ℕ}
 use mathlib.Core.Bool.{Bool, true, false, cond}
 use mathlib.Core.Path.{_≡_}
-use mathlib.Core.List.{List, [], _∷_, _++_, List·Memᴰ}
+use mathlib.Core.List.{List, _∷_, _++_, List·Memᴰ}
 use lib.Dec.{eqb, ltb}
 use Rattle.rules.specs.declared.LookUp.{LookUp}
 use Rattle.rules.specs.Lists.{anyb, firstRow}
 use Rattle.rules.specs.Numbers.{stepArea, areaRefused, waitingRefused, notLiveRefused, notOwnRefused}
 use Rattle.rules.specs.State.{Model}
 use Rattle.rules.specs.Frame.{Frame, decode}
+use Rattle.rules.specs.Sound.{ofParty}
 use Rattle.rules.specs.Refusals.{withdraws, notLive, notOwn, formRows, roomRows, refusal}
 use Rattle.rules.specs.Step.{carriedOut, accepted, refusedWith, step}
 use Rattle.demands.specs.Machine.{Stepper, theRules}
@@ -18,7 +19,7 @@ use Rattle.demands.specs.History.{EveryState}
 
 -- "6: the party has a waiting look-up"
 abbrev pub waitedBefore : Model → Frame → Bool
-waitedBefore m f = anyb (λ (w : LookUp). eqb (w .party) (f .party)) (m .waits)
+waitedBefore m f = anyb (ofParty (f .party)) (m .waits)
 
 -- the table as it was: the rows ahead of 6, 6 itself, and those behind it
 abbrev pub aheadOf6 : List ℕ → ℕ → List (Bool × ℕ)

@@ -16,7 +16,8 @@ use Rattle.rules.specs.Holds.{liveTxn}
 use Rattle.rules.specs.Frame.{Frame, isLookUp}
 use Rattle.rules.specs.Refusals.{isOf, admissionRows, roomRows}
 
--- 6, of a party whose frame aborts the transaction `leaving`, or none (0): whether a look-up bars it, and whether one does
+-- 6, of a party whose frame aborts the transaction `leaving`, or none (0): whether a look-up bars it, and whether one
+-- does
 abbrev pub bars : ℕ → ℕ → LookUp → Bool
 bars party leaving w = eqb (w .party) party && (eqb leaving 0 || not (eqb (w .txn .0) leaving))
 

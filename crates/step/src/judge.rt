@@ -31,8 +31,8 @@ use words::rows::txn_count;
 use words::rows::wait_at;
 use words::rows::wait_count;
 
-// Whether a waiting look-up bars a frame of the party: its own does, unless the frame aborts the transaction in which it
-// waits. `leaving` is the transaction that the frame aborts; 0: none.
+// Whether a waiting look-up bars a frame of the party: its own does, unless the frame aborts the transaction in which
+// it waits. `leaving` is the transaction that the frame aborts; 0: none.
 pub(crate) fn is_barring(w: LookUp, party: u8, leaving: TxnId) -> bool
     ensures { λ r. ⌜ r ≡ bars party (leaving .0) w ⌝ }
 {
