@@ -12,7 +12,6 @@ use lib.Dec.{eqb}
 use lib.ListN.{length}
 use Rattle.rules.specs.declared.Entry.{Entry}
 use Rattle.rules.specs.declared.Record.{Record}
-use Rattle.rules.specs.declared.Txn.{Txn}
 use Rattle.rules.specs.declared.LookUp.{LookUp}
 use Rattle.rules.specs.declared.Until.{Until}
 use Rattle.rules.specs.declared.Until.the-variants.{Tick}
@@ -44,7 +43,7 @@ use Rattle.demands.proofs.Events.{Admitted, Heard, asking, saying, says
 use Rattle.demands.proofs.Events.{is-nothing, is-waiting, creates, commits, aborts, ticks, excepts, expires}
 use Rattle.demands.proofs.Becomes.{clock-moves}
 use Rattle.demands.proofs.EventsProof.{step-carries}
-use Rattle.demands.proofs.Consistent.{Consistent}
+use Rattle.demands.proofs.Consistent.{Consistent, owner-inside}
 use Rattle.demands.proofs.ConsistentProof.{consistent-event, Reader, Keeps, hearsAll, readsLog, reads-log, runs-keep}
 use Rattle.demands.proofs.ConsistentProof.{orderly}
 use Rattle.demands.proofs.SettledProof.{Stable, stable, stable-step}
@@ -85,14 +84,6 @@ nothing-shuts : (w : LookUp) → anyb (shuts w) (saying (nothing w) ∷ []) ≡ 
 unfolding nothing
 nothing-shuts w = rw (itself w (nothing w) refl refl)
 
--- a look-up waits inside a transaction of its party
-owner : (w : LookUp) {m : Model} → Consistent m → {t : Txn} → List·Memᴰ t (m .txns) → List·Memᴰ w (m .waits)
-    → w .txn .0 ≡ t .id .0 → t .party ≡ w .party
-owner w s {t} j i q =
-    ⊎-elim (λ z. absurd (let b = s .txns-ok .above t j in omega arith))
-    (λ x. ap (λ (y : Txn). y .party) (s .txns-ok .unique t (x .0) j (x .1) (sym q ∙ sym (x .2))) ∙ x .3)
-    (s .owned w i)
-
 -- where a transaction ends, it waits on, outside, or inside is closed by the record of the end
 shut-or : (w : LookUp) (a : Record) (t : ℕ) {ws : List LookUp} → List·Memᴰ w ws
     → (w .txn .0 ≡ t → List·Memᴰ w (filterb (λ v. not (eqb (v .txn .0) t)) ws) ⊎ (anyb (shuts w) (saying a ∷ []) ≡ true))
@@ -120,10 +111,11 @@ waits-or w (commits m t a) s i = inl i
 waits-or {f} w (aborts m t a) s i =
     let y = a .ends (abort-ends (f .op) t) in
     shut-or w (aborted f) (f .txn) i
-    (λ q. inr (rw (itself w (aborted f) (sym (y .3) ∙ owner w s (y .1) i (q ∙ sym (y .2))) (sym q))))
+    (λ q. inr (rw (itself w (aborted f) (sym (owner-inside s y w i q)) (sym q))))
 waits-or w (ticks m t a) s i = inl i
 waits-or w (excepts m t k j r) s i =
-    shut-or w (exception t) (t .id .0) i (λ q. inr (rw (itself w (exception t) (owner w s j i q) (sym q))))
+    shut-or w (exception t) (t .id .0) i
+    (λ q. inr (rw (itself w (exception t) (sym (owner-inside s (t, j, refl, refl) w i q)) (sym q))))
 waits-or w (expires m k) s i = inl i
 
 -- the records in order

@@ -79,14 +79,19 @@ pub ok-below : {m : Model} → Consistent m → {t : ℕ} → Ok t (m .txns) →
 ok-below s (inl z) = let p = s .positive in omega arith
 ok-below s (inr l) = let b = s .txns-ok .below (l .0) (l .1) in let q = l .2 in omega arith
 
+-- who waits inside a live transaction is its owner
+pub owner-inside : {m : Model} → Consistent m → {t party : ℕ} → LiveOf t party (m .txns)
+    → All (λ w. w .txn .0 ≡ t → w .party ≡ party) (m .waits)
+owner-inside s y w i q =
+    ⊎-elim (λ n. let z = live-above s (y .0, y .1, y .2) in omega arith)
+    (λ x. sym (x .3) ∙ ap (λ (v : Txn). v .party)
+    (s .txns-ok .unique (x .0) (y .0) (x .1) (y .1) (x .2 ∙ q ∙ sym (y .2))) ∙ y .3) (s .owned w i)
+
 -- nobody waits inside the transaction of a frame that is not refused, unless it is an abort
 pub not-inside : {m : Model} {f : Frame} → Consistent m → Admitted f m → isAbort (f .op) ≡ false
     → LiveOf (f .txn) (f .party) (m .txns)
     → All (λ w. w .txn .0 ≡ f .txn → ⊥) (m .waits)
-not-inside s a t y w i q =
-    ⊎-elim (λ n. let z = live-above s (y .0, y .1, y .2) in omega arith)
-    (λ x. a .free t w i (sym (x .3) ∙ ap (λ (v : Txn). v .party)
-    (s .txns-ok .unique (x .0) (y .0) (x .1) (y .1) (x .2 ∙ q ∙ sym (y .2))) ∙ y .3)) (s .owned w i)
+not-inside s a t y w i q = a .free t w i (owner-inside s y w i q)
 
 -- numbers that are all in use are of as many elements at least
 pub cover : {A : Type 0} (number : A → ℕ) (ps : List ℕ) (xs : List A) → distinct ps ≡ true

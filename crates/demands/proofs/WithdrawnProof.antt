@@ -76,8 +76,9 @@ module _ (m : Model) (bs : List ℕ) (area : ℕ) where
   passed : refusalBefore m bs area ≡ waitingRefused → eqb ahead 0 ≡ true
   passed e =
       ⊎-elim (λ z. z)
-      (λ z. absurd (eqb-false ahead waitingRefused (first-without waitingRefused (aheadOf6 bs area) refl refl)
-      (sym (by-parts (waitedBefore m f) ∙ ap (λ b. cond b (cond (waitedBefore m f) waitingRefused (firstRow (behind6 m f))) ahead) z) ∙ sym before-is ∙ e)))
+      (λ z. let six = cond (waitedBefore m f) waitingRefused (firstRow (behind6 m f)) in
+      absurd (eqb-false ahead waitingRefused (first-without waitingRefused (aheadOf6 bs area) refl refl)
+      (sym (before-is ∙ by-parts (waitedBefore m f) ∙ ap (λ b. cond b six ahead) z) ∙ e)))
       (bool-cases (eqb ahead 0))
 
   same-number : (refusalBefore m bs area ≡ waitingRefused → ⊥) → refusalBefore m bs area ≡ refusal m bs area

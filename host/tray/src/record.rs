@@ -83,7 +83,7 @@ const REFUSALS: [Refusal; 15] = [
         "the frame's form is wrong: byte 3, mask, a field outside the mask, or a create that names a transaction",
     ),
     refusal(5, "no such party", "the party is not 1-16, or not 0 for tick"),
-    refusal(6, "look-up still waits", "the party has a waiting look-up"),
+    refusal(6, "look-up still waits", "the party has a waiting look-up that the frame does not withdraw"),
     refusal(7, "T is not live", "the transaction is not live"),
     refusal(8, "T is another's", "the transaction is another party's"),
     refusal(9, "lease 0", "create with lease 0"),
