@@ -25,7 +25,8 @@ use Rattle.rules.specs.Write.{newEntry, stored, write}
 use Rattle.rules.specs.LookUp.{lookUpOf, givesNothing, answer, answerFound, answerNothing, answerWaiting, lookUp}
 use Rattle.rules.specs.Transactions.{create, released, withoutTxn, commit, abort}
 use Rattle.rules.specs.Service.{service}
-use Rattle.rules.specs.Tick.{tick, endedTxns, abortAll, dropEnded, lapsed, closeWaits}
+use Rattle.rules.specs.Tick.{tick, endedTxns, abortAll, dropEnded, lapsed}
+use Rattle.rules.specs.Closing.{isOver, closeWaits}
 use Rattle.rules.specs.Refusals.{entriesFull, txnsFull}
 use Rattle.rules.specs.Sound.{Sound}
 use Rattle.rules.specs.Step.{Outcome, commitFrame, abortFrame, ownPart, finish, carriedOut, step, accepted, refusedWith}
@@ -154,14 +155,14 @@ service-fits m b =
 close-fits : (m : Model) → Bounded m → Fits (length (m .waits)) (closeWaits m)
 unfolding closeWaits
 close-fits m b =
-    let due : LookUp → Bool = λ w. reached (m .clock) (w .deadline) in
     record {
       model-fits = record {
         entries-fit = b .entries-fit;
         txns-fit = b .txns-fit;
         waits-fit = le-trans (length-filter _ (m .waits)) (b .waits-fit);
       };
-      records-fit = omega (arith, length-map (filterb due (m .waits)) nothing, length-filter due (m .waits));
+      records-fit =
+          omega (arith, length-map (filterb (isOver m) (m .waits)) nothing, length-filter (isOver m) (m .waits));
     }
 
 -- so at most 24 records behind the frame's own
@@ -188,13 +189,10 @@ finish-fits f m b = record { model-fits = closed-fits .model-fits; records-fit =
         (λ t. (ended-fits .model-fits, omega (arith, ended-fits .model-fits .waits-fit)))
 
     closed : Done
-    closed = cond (isTick (f .op)) (closeWaits (served .model)) (quiet (served .model))
+    closed = closeWaits (served .model)
 
     closed-fits : Fits (length (served .model .waits)) closed
-    closed-fits =
-        cond-cases (Fits (length (served .model .waits))) (isTick (f .op))
-        (λ t. close-fits (served .model) (served-fits .0))
-        (λ t. record { model-fits = served-fits .0; records-fit = omega arith })
+    closed-fits = close-fits (served .model) (served-fits .0)
 
     few : length (ended .records ++ served .records ++ closed .records) ≤ maxTxns + maxWaits
     few = simp length-append (omega (arith, ended-fits .records-fit, served-fits .1, closed-fits .records-fit))

@@ -12,7 +12,7 @@ use Rattle.rules.specs.State.{Model}
 use Rattle.rules.specs.Frame.{Frame, layoutOf, isOperation, isWrite, isLookUp, isCreate, isCommit, isAbort, isTick}
 use Rattle.rules.specs.Frame.{layouts, lookUpOp, isTake, isIfExists, serves}
 use Rattle.rules.specs.Frame.{hasLeaseOrTimeout, endsTxn}
-use Rattle.rules.specs.Done.{quiet}
+use Rattle.rules.specs.Closing.{closeWaits}
 use Rattle.rules.specs.Step.{finish}
 use Rattle.rules.proofs.BoolLaws.{and-left, and-right, and-cases, twice-not}
 
@@ -54,9 +54,9 @@ left-is-tick op is w l c k a =
     (⊎-elim (λ q. omega (arith, leb-false opRead op q)) (λ q. omega (arith, leb-false op opTakeIfExists q))
     (and-cases (leb opRead op) (leb op opTakeIfExists) l))
 
--- a frame after which service does not follow, and that is no tick, is over
+-- a frame after which service does not follow, and that is no tick, is over but for who waits in vain
 module _ (f : Frame) (m : Model) where
-  pub finish-quiet : isTick (f .op) ≡ false → serves f ≡ false → finish f m ≡ quiet m
+  pub finish-quiet : isTick (f .op) ≡ false → serves f ≡ false → finish f m ≡ closeWaits m
   unfolding finish
   finish-quiet t s = rw (t, s)
 

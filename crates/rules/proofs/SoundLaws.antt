@@ -25,7 +25,8 @@ use Rattle.rules.specs.Holds.{oldest}
 use Rattle.rules.specs.Write.{stored, write}
 use Rattle.rules.specs.Transactions.{create, commit, abort}
 use Rattle.rules.specs.Service.{serve, service}
-use Rattle.rules.specs.Tick.{tick, endedTxns, abortAll, dropEnded, lapsed, closeWaits}
+use Rattle.rules.specs.Tick.{tick, endedTxns, abortAll, dropEnded, lapsed}
+use Rattle.rules.specs.Closing.{closeWaits}
 use Rattle.rules.specs.Refusals.{wrongParty, partyWaits}
 use Rattle.rules.specs.Step.{Outcome, commitFrame, abortFrame, ownPart, finish, carriedOut, step, accepted, refusedWith}
 use Rattle.rules.proofs.ListLaws.{mem-filter, any-filter, all-false, filter-pass, count, count-append}
@@ -204,11 +205,8 @@ finish-some f m = then ended-some (then served-some closed-some)
         (λ _. served-of (ended .model .txns) (ended .model .entries) (ended .model .waits))
         (λ _. all-of (ended .model .waits))
 
-    closed-some : SomeOf (served .model .waits)
-        (cond (isTick (f .op)) (closeWaits (served .model)) (quiet (served .model)) .model .waits)
-    closed-some =
-        cond-cases (λ (d : Done). SomeOf (served .model .waits) (d .model .waits)) (isTick (f .op))
-        (λ _. left-of _ (served .model .waits)) (λ _. all-of (served .model .waits))
+    closed-some : SomeOf (served .model .waits) (closeWaits (served .model) .model .waits)
+    closed-some = left-of _ (served .model .waits)
 
 pub sound-empty : Sound empty
 sound-empty = record { parties = λ w i. absurd (List·Memᴰ·not-nil i); one-each = λ p. omega arith }

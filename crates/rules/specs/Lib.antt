@@ -20,6 +20,7 @@ pub mod LookUp
 pub mod Transactions
 pub mod Service
 pub mod Tick
+pub mod Closing
 -- Refused frames, a step
 pub mod Refusals
 pub mod Step

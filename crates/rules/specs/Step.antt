@@ -13,7 +13,8 @@ use Rattle.rules.specs.Write.{write}
 use Rattle.rules.specs.LookUp.{lookUp}
 use Rattle.rules.specs.Transactions.{create, commit, abort}
 use Rattle.rules.specs.Service.{service}
-use Rattle.rules.specs.Tick.{tick, lapsed, closeWaits}
+use Rattle.rules.specs.Tick.{tick, lapsed}
+use Rattle.rules.specs.Closing.{closeWaits}
 use Rattle.rules.specs.Refusals.{refusal}
 
 -- "Commit", "Abort": the transaction's own frame ends it
@@ -32,13 +33,14 @@ ownPart m f =
     (cond (isCommit (f .op)) (commitFrame m f)
     (cond (isAbort (f .op)) (abortFrame m f) (tick m)))))
 
--- What it ends with, "in this order": what ends now, in a tick; service, where it follows; look-ups whose deadline is
--- reached, in a tick. "then exceptions, founds in the order served, nothings"
+-- What it ends with, "in this order": what ends now, in a tick; service, where it follows; and "once service is over"
+-- the look-ups that wait in vain (document 02, T-07) or whose deadline is reached. "then exceptions, founds in the order
+-- served, nothings"
 unfoldable pub finish : Frame → Model → Done
 finish f m =
     let ended = cond (isTick (f .op)) (lapsed m) (quiet m) in
     let served = cond (serves f) (service (ended .model)) (quiet (ended .model)) in
-    let closed = cond (isTick (f .op)) (closeWaits (served .model)) (quiet (served .model)) in
+    let closed = closeWaits (served .model) in
     record { model = closed .model; records = ended .records ++ served .records ++ closed .records }
 
 -- what a frame that is not refused does

@@ -5,8 +5,8 @@ use mathlib.Core.List.{List, [], _∷_, map}
 use Rattle.rules.specs.declared.Txn.{Txn}
 use Rattle.rules.specs.Lists.{filterb}
 use Rattle.rules.specs.Time.{reached}
-use Rattle.rules.specs.State.{Model, withEntries, withWaits, withClock}
-use Rattle.rules.specs.Records.{exception, nothing, ticked}
+use Rattle.rules.specs.State.{Model, withEntries, withClock}
+use Rattle.rules.specs.Records.{exception, ticked}
 use Rattle.rules.specs.Done.{Carried, Done}
 use Rattle.rules.specs.Transactions.{abort}
 
@@ -30,10 +30,3 @@ dropEnded m = withEntries (filterb (λ e. not (reached (m .clock) (e .end))) (m 
 unfoldable pub lapsed : Model → Done
 lapsed m = record { model = dropEnded (abortAll (endedTxns m) m); records = map exception (endedTxns m) }
 
--- waiting look-ups whose deadline is reached get nothing, in order of arrival
-unfoldable pub closeWaits : Model → Done
-closeWaits m =
-    record {
-      model = withWaits (filterb (λ w. not (reached (m .clock) (w .deadline))) (m .waits)) m;
-      records = map nothing (filterb (λ w. reached (m .clock) (w .deadline)) (m .waits));
-    }
