@@ -102,7 +102,7 @@ waits-or w (writes m t a) s i = inl i
 waits-or w (is-found m v e ws o j av) s i =
     ⊎-elim (λ q. inr (subst⁻¹ (λ u. anyb (shuts u) (saying (found v e) ∷ []) ≡ true) q (found-shuts v e))) inl
     (out-or o w i)
-waits-or w (is-nothing m v ws o n c) s i =
+waits-or w (is-nothing m v ws o c) s i =
     ⊎-elim (λ q. inr (subst⁻¹ (λ u. anyb (shuts u) (saying (nothing v) ∷ []) ≡ true) q (nothing-shuts v))) inl
     (out-or o w i)
 waits-or w (is-waiting m v j q n d c) s i = inl i

@@ -70,7 +70,7 @@ becomes {f} (is-found m w e ws o i av) s =
     handed-all (m .txns) w e (m .entries) av (λ x. Becomes f m x (m .txns))
     (λ x j q. ascend-unique (λ (y : Entry). y .id .0) (s .entries) j i q) (λ x j _. as-was x j)
     (λ _ _. as-was e i) (λ b t c d. is-held w e b (out-mem o) i av t c d)
-becomes (is-nothing m w ws o n c) s = as-was
+becomes (is-nothing m w ws o c) s = as-was
 becomes (is-waiting m w i q n d c) s = as-was
 becomes (creates m t a) s = as-ever
 becomes {f} (commits m t a) s = freed-all f m (f .txn) (λ e. not (takenBy (f .txn) e))
@@ -103,7 +103,7 @@ waits-on (refuses m bs area q) = waited
 waits-on (asks m t a) = all-snoc (m .waits) waited (is-asked t a)
 waits-on (writes m t a) = waited
 waits-on (is-found m w e ws o i av) = out-all o waited
-waits-on (is-nothing m w ws o n c) = out-all o waited
+waits-on (is-nothing m w ws o c) = out-all o waited
 waits-on (is-waiting m w i q n d c) = waited
 waits-on (creates m t a) = waited-ever
 waits-on (commits m t a) = waited-commit t a
@@ -146,7 +146,7 @@ txns-all T (refuses m bs area q) new h = h
 txns-all T (asks m t a) new h = h
 txns-all T (writes m t a) new h = h
 txns-all T (is-found m w e ws o i av) new h = h
-txns-all T (is-nothing m w ws o n c) new h = h
+txns-all T (is-nothing m w ws o c) new h = h
 txns-all T (is-waiting m w i q n d c) new h = h
 txns-all T (creates m t a) new h = all-snoc (m .txns) h (new t a)
 txns-all T {f} (commits m t a) new h = all-filter (λ x. not (eqb (x .id .0) (f .txn))) (m .txns) (λ x i _. h x i)
@@ -165,7 +165,7 @@ clock-moves (refuses m bs area q) = inl (refl, refl)
 clock-moves (asks m t a) = inl (refl, refl)
 clock-moves (writes m t a) = inl (refl, refl)
 clock-moves (is-found m w e ws o i av) = inl (refl, refl)
-clock-moves (is-nothing m w ws o n c) = inl (refl, refl)
+clock-moves (is-nothing m w ws o c) = inl (refl, refl)
 clock-moves (is-waiting m w i q n d c) = inl (refl, refl)
 clock-moves (creates m t a) = inl (refl, refl)
 clock-moves (commits m t a) = inl (refl, refl)

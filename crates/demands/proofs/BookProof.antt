@@ -111,7 +111,7 @@ book-event {f} b (is-found m w x ws o i av) s h =
     let r = named (found w x) w (itself w) (s .each) o in
     booked (counted h _ 1 (ap (count (names (found w x))) (h .waiting) ∙ r .1)) (h .clock) (h .next-entry) (h .next-txn)
     (h .live) (ap (filterb (λ v. not (names (found w x) v))) (h .waiting) ∙ r .0)
-book-event {f} b (is-nothing m w ws o n c) s h =
+book-event {f} b (is-nothing m w ws o c) s h =
     let r = named (nothing w) w (itself w) (s .each) o in
     booked (counted h _ 1 (ap (count (names (nothing w))) (h .waiting) ∙ r .1)) (h .clock) (h .next-entry) (h .next-txn)
     (h .live) (ap (filterb (λ v. not (names (nothing w) v))) (h .waiting) ∙ r .0)

@@ -147,7 +147,7 @@ module _ {f : Frame} (h : FrameIn f) where
       let l = a .entry-number t in
       (says-in (written-in f (m .nextEntry) h (omega arith)), (omega arith, r .next .1))
   heard-in (is-found m w e ws o i av) r = (says-in (found-in w e (r .waits w (out-mem o)) (r .entries e i)), r .next)
-  heard-in (is-nothing m w ws o n c) r =
+  heard-in (is-nothing m w ws o c) r =
       let k = r .waits w (out-mem o) in (says-in (plain-in 3 _ _ (omega arith) (k .1) (k .0)), r .next)
   heard-in (is-waiting m w i q n d c) r =
       let k = r .waits w i in (says-in (plain-in 4 _ _ (omega arith) (k .1) (k .0)), r .next)

@@ -56,10 +56,11 @@ pub data Heard : Type 0 where
   asking : Heard
   saying : Record → Heard
 
--- why a look-up without an available entry is given nothing
-abbrev pub Closes : Frame → Model → LookUp → Type 0
-Closes f m w = (reached (m .clock) (w .deadline) ≡ true)
-    ⊎ ((w ≡ lookUpOf m f) × (w .«if_exists» ≡ true) × (someConflicts (m .txns) w (m .entries) ≡ false))
+-- why a look-up is given nothing: its deadline is reached, or an IfExists kind has no conflicting entry. (That none is
+-- available is told of whole steps: EventsProof, AnswersProof.)
+abbrev pub Closes : Model → LookUp → Type 0
+Closes m w = (reached (m .clock) (w .deadline) ≡ true)
+    ⊎ ((w .«if_exists» ≡ true) × (someConflicts (m .txns) w (m .entries) ≡ false))
 
 pub data Event (f : Frame) : Model → List Heard → Model → Type 0 where
   refuses : (m : Model) (bs : List ℕ) (area : ℕ) → decode bs ≡ f
@@ -74,8 +75,7 @@ pub data Event (f : Frame) : Model → List Heard → Model → Type 0 where
       → available (m .txns) w e ≡ true
       → Event f m (saying (found w e) ∷ []) (withEntries (handOut (m .txns) w e (m .entries)) (withWaits ws m))
   is-nothing : (m : Model) (w : LookUp) (ws : List LookUp) → Out w (m .waits) ws
-      → someAvailable (m .txns) w (m .entries) ≡ false → Closes f m w
-      → Event f m (saying (nothing w) ∷ []) (withWaits ws m)
+      → Closes m w → Event f m (saying (nothing w) ∷ []) (withWaits ws m)
   -- it stays, since none is available, its deadline lies ahead, and for an IfExists kind some entry conflicts
   is-waiting : (m : Model) (w : LookUp) → List·Memᴰ w (m .waits) → w ≡ lookUpOf m f
       → someAvailable (m .txns) w (m .entries) ≡ false → reached (m .clock) (w .deadline) ≡ false

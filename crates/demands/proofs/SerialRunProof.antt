@@ -313,7 +313,7 @@ linked-event {f} r (is-found m w e ws o i av) s h =
       tracks = took f w e s (out-mem o) i av (h .knows w (out-mem o)) (h .tracks);
       knows = still-knows f (found w e) ws r (out-all o (h .knows));
     }
-linked-event {f} r (is-nothing m w ws o n c) s h = record { tracks = h .tracks; knows = out-all o (h .knows) }
+linked-event {f} r (is-nothing m w ws o c) s h = record { tracks = h .tracks; knows = out-all o (h .knows) }
 linked-event {f} r (is-waiting m w i q n d c) s h = h
 linked-event {f} r (creates m t a) s h =
     record { tracks = with-agree (h .tracks) (agree-create f s (h .tracks .agree) t a); knows = h .knows }

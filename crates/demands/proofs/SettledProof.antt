@@ -89,7 +89,7 @@ none-event {f} z (writes m t a) s h =
         (available-free (m .txns) w (newEntry m f) u .owner)
 none-event z (is-found m w e ws o i av) s h =
     out-all o (λ v j. ⊎-elim inl (λ n. inr (handOut-unavailable (m .txns) v w e av (m .entries) n)) (h v j))
-none-event z (is-nothing m w ws o n c) s h = out-all o h
+none-event z (is-nothing m w ws o c) s h = out-all o h
 none-event z (is-waiting m w i q n d c) s h = h
 none-event {f} z (creates m t a) s h =
     λ w i. ⊎-elim inl (λ n. inr (all-false (available (m .txns ++ (newTxn m f ∷ [])) w) (m .entries)

@@ -3,7 +3,8 @@
 use Prim.Native.Nat.{ℕ}
 use mathlib.Core.Bool.{Bool, true, false, cond, _&&_, _||_}
 use mathlib.Core.Path.{_≡_}
-use mathlib.Core.List.{List, [], _∷_, _++_, List·Memᴰ}
+use mathlib.Core.Logic.{_⊎_}
+use mathlib.Core.List.{List, [], _∷_, _++_, map, List·Memᴰ}
 use lib.Dec.{eqb}
 use Rattle.rules.specs.declared.Entry.{Entry}
 use Rattle.rules.specs.declared.LookUp.{LookUp}
@@ -11,38 +12,51 @@ use Rattle.rules.specs.declared.Record.{Record}
 use Rattle.rules.specs.Numbers.{kindFound, kindNothing, kindAborted, kindException, kindTicked}
 use Rattle.rules.specs.Time.{reached}
 use Rattle.rules.specs.State.{Model, withWaits}
-use Rattle.rules.specs.Holds.{someAvailable}
+use Rattle.rules.specs.Holds.{someAvailable, someConflicts}
 use Rattle.rules.specs.Frame.{Frame, isLookUp}
 use Rattle.rules.specs.Records.{found, nothing, waiting}
 use Rattle.rules.specs.LookUp.{lookUpOf, givesNothing}
 use Rattle.demands.specs.Said.{Oldest}
 
--- The one record of a look-up that is not refused, for the four kinds together: found exactly when an entry is
+-- a step's first record, and the nothings of those who wait in vain from now on
+abbrev pub FirstOf : Record → List Record → Type 0
+FirstOf own records = (ws : List LookUp) × (records ≡ own ∷ map nothing ws)
+
+-- The own record of a look-up that is not refused, for the four kinds together: found exactly when an entry is
 -- available, then with the oldest of those; nothing exactly under document 01's conditions (`givesNothing`); else
 -- waiting, behind those that wait. (The cases exclude each other, and so do the kinds of their records.)
 pub record AnsweredNow (m : Model) (w : LookUp) (timeout : ℕ) (records : List Record) (n : Model) : Type 0 where
   pub found-case : someAvailable (m .txns) w (m .entries) ≡ true
-      → (e : Entry) × Oldest (m .txns) w (m .entries) e × (records ≡ found w e ∷ [])
+      → (e : Entry) × Oldest (m .txns) w (m .entries) e × FirstOf (found w e) records
   pub nothing-case : someAvailable (m .txns) w (m .entries) ≡ false
       → givesNothing m w timeout ≡ true
-      → records ≡ nothing w ∷ []
+      → FirstOf (nothing w) records
   pub waiting-case : someAvailable (m .txns) w (m .entries) ≡ false
       → givesNothing m w timeout ≡ false
-      → (records ≡ waiting w ∷ []) × (n .waits ≡ m .waits ++ (w ∷ []))
+      → FirstOf (waiting w) records × List·Memᴰ w (n .waits)
 
 -- a step begins with the frame's look-up, if it is one: it arrives last
 unfoldable pub asked : Model → Frame → Model
 asked m f = cond (isLookUp (f .op)) (withWaits (m .waits ++ (lookUpOf m f ∷ [])) m) m
 
--- an open look-up that a step gives nothing has no available entry when the step is over
-abbrev pub NothingLeft : Model → List Record → Model → Type 0
-NothingLeft m records n = (w : LookUp) → List·Memᴰ w (m .waits) → List·Memᴰ (nothing w) records
-    → someAvailable (n .txns) w (n .entries) ≡ false
+-- a permitted nothing, "read this way for the whole space" (document 02, T-07): no entry is available, and the deadline
+-- is reached (at once, with timeout 0), or the look-up is of an IfExists kind and no entry conflicts
+pub record Permitted (n : Model) (w : LookUp) : Type 0 where
+  pub none-available : someAvailable (n .txns) w (n .entries) ≡ false
+  pub in-vain : (reached (n .clock) (w .deadline) ≡ true)
+      ⊎ ((w .«if_exists» ≡ true) × (someConflicts (n .txns) w (n .entries) ≡ false))
 
--- after each step no waiting look-up has an available entry, and every deadline lies ahead
+-- an open look-up that a step gives nothing is permitted it when the step is over
+abbrev pub NothingLeft : Model → List Record → Model → Type 0
+NothingLeft m records n = (w : LookUp) → List·Memᴰ w (m .waits) → List·Memᴰ (nothing w) records → Permitted n w
+
+-- after each step no waiting look-up has an available entry, every deadline lies ahead, and each of an IfExists kind has
+-- a conflicting entry: so none waits in vain, FOREVER or not
 pub record Settled (m : Model) : Type 0 where
   pub none-available : (w : LookUp) → List·Memᴰ w (m .waits) → someAvailable (m .txns) w (m .entries) ≡ false
   pub not-reached : (w : LookUp) → List·Memᴰ w (m .waits) → reached (m .clock) (w .deadline) ≡ false
+  pub not-in-vain : (w : LookUp) → List·Memᴰ w (m .waits) → w .«if_exists» ≡ true
+      → someConflicts (m .txns) w (m .entries) ≡ true
 
 abbrev pub isTicked : Record → Bool
 isTicked a = eqb (a .kind) kindTicked

@@ -56,29 +56,30 @@ pub data Own (f : Frame) (m : Model) : Record → Model → Type 0 where
   ticks : isTick (f .op) ≡ true → Own f m ticked (withClock (m .clock + 1) m)
 
 -- "The waiting look-ups are gone through once in order of arrival, and each with an available entry is answered found":
--- from the entries and the waiting look-ups to the founds in the order served, and the look-ups that wait on
-pub data Serves (ts : List Txn) : List Entry → List LookUp → List Record → List LookUp → Type 0 where
-  gone-through : (es : List Entry) → Serves ts es [] [] []
+-- from the entries and the waiting look-ups to the founds in the order served, the look-ups that wait on, and the
+-- entries then
+pub data Serves (ts : List Txn) : List Entry → List LookUp → List Record → List LookUp → List Entry → Type 0 where
+  gone-through : (es : List Entry) → Serves ts es [] [] [] es
   -- found, with the oldest entry that is available at its turn
-  is-found : (w : LookUp) (e : Entry) {es : List Entry} {ws left : List LookUp} {founds : List Record}
+  is-found : (w : LookUp) (e : Entry) {es xs : List Entry} {ws left : List LookUp} {founds : List Record}
       → Oldest ts w es e
-      → Serves ts (handOut ts w e es) ws founds left
-      → Serves ts es (w ∷ ws) (found w e ∷ founds) left
+      → Serves ts (handOut ts w e es) ws founds left xs
+      → Serves ts es (w ∷ ws) (found w e ∷ founds) left xs
   -- passed over, since none is available at its turn
-  waits-on : (w : LookUp) {es : List Entry} {ws left : List LookUp} {founds : List Record}
+  waits-on : (w : LookUp) {es xs : List Entry} {ws left : List LookUp} {founds : List Record}
       → someAvailable ts w es ≡ false
-      → Serves ts es ws founds left
-      → Serves ts es (w ∷ ws) founds (w ∷ left)
+      → Serves ts es ws founds left xs
+      → Serves ts es (w ∷ ws) founds (w ∷ left) xs
 
 -- "Service. After a write outside transactions, a commit, an abort, and within a tick"
 abbrev pub isServed : Frame → Bool
 isServed f = cond (isWrite (f .op)) (eqb (f .txn) 0) (isCommit (f .op) || isAbort (f .op) || isTick (f .op))
 
-pub data Service (f : Frame) (m : Model) : List Record → List LookUp → Type 0 where
-  follows : {founds : List Record} {left : List LookUp} → isServed f ≡ true
-      → Serves (m .txns) (m .entries) (m .waits) founds left
-      → Service f m founds left
-  follows-not : isServed f ≡ false → Service f m [] (m .waits)
+pub data Service (f : Frame) (m : Model) : List Record → List LookUp → List Entry → Type 0 where
+  follows : {founds : List Record} {left : List LookUp} {xs : List Entry} → isServed f ≡ true
+      → Serves (m .txns) (m .entries) (m .waits) founds left xs
+      → Service f m founds left xs
+  follows-not : isServed f ≡ false → Service f m [] (m .waits) (m .entries)
 
 -- In a tick: "transactions that end now are aborted, by number, each with an exception ..; stored entries that end now
 -- are removed, held or not"
@@ -94,14 +95,20 @@ exceptions f m = cond (isTick (f .op)) (map exception (endNow m)) []
 abbrev pub lapsed : Frame → Model → Model
 lapsed f m = let n = abortAll (endNow m) m in cond (isTick (f .op)) (withEntries (entriesLeft n) n) m
 
--- in a tick: "waiting look-ups whose deadline is reached get nothing, in order of arrival"
-abbrev pub nothings : Frame → Model → List LookUp → List Record
-nothings f m left = cond (isTick (f .op)) (map nothing (filterb (λ w. reached (m .clock) (w .deadline)) left)) []
+-- "After every frame that is not refused, once service is over, a waiting IfExists look-up with no conflicting entry
+-- left gets nothing, in order of arrival, with the other nothings. .. except that the deadline still ends them" (document
+-- 02, T-07): whether a look-up that waits is given nothing, when the entries are these
+abbrev pub givenNothing : Model → List Entry → LookUp → Bool
+givenNothing m es w =
+    reached (m .clock) (w .deadline) || w .«if_exists» && not (someConflicts (m .txns) w es)
+
+abbrev pub nothings : Model → List Entry → List LookUp → List Record
+nothings m es left = map nothing (filterb (givenNothing m es) left)
 
 -- What every step ends with: "then exceptions, founds in the order served, nothings."
 pub data Ends (f : Frame) (m : Model) : List Record → Type 0 where
-  in-order : {founds : List Record} {left : List LookUp} → Service f (lapsed f m) founds left
-      → Ends f m (exceptions f m ++ founds ++ nothings f m left)
+  in-order : {founds : List Record} {left : List LookUp} {xs : List Entry} → Service f (lapsed f m) founds left xs
+      → Ends f m (exceptions f m ++ founds ++ nothings (lapsed f m) xs left)
 
 -- "The frame's own record comes first"
 pub data Said (f : Frame) (m : Model) : List Record → Type 0 where
