@@ -33,20 +33,20 @@ use Rattle.rules.proofs.BoolLaws.{cond-cases, bool-cases}
 use Rattle.rules.proofs.ListLaws.{filter-mem, any-append, count, count-append, count-cons}
 use Rattle.rules.proofs.LayoutLaws.{abort-ends}
 use Rattle.demands.specs.Machine.{Input}
-use Rattle.demands.specs.Answers.{AnsweredNow, asked, NothingLeft, isTicked, closes}
+use Rattle.demands.specs.Answers.{AnsweredNow, asked, Permitted, NothingLeft, isTicked, closes}
 use Rattle.demands.specs.History.{recordsOf}
 use Rattle.demands.proofs.Runs.{runs, made, answersTo, runs-keep as keep-runs}
 use Rattle.demands.proofs.AllLaws.{out-or}
 use Rattle.demands.proofs.HoldLaws.{equal-or, eqb-cases}
 use Rattle.demands.proofs.EachLaws.{Each, same-party}
-use Rattle.demands.proofs.Events.{Admitted, Heard, asking, saying, says, Event, refuses, asks, writes, is-found}
+use Rattle.demands.proofs.Events.{Admitted, Closes, Heard, asking, saying, says, Event, refuses, asks, writes, is-found}
 use Rattle.demands.proofs.Events.{is-nothing, is-waiting, creates, commits, aborts, ticks, excepts, expires}
 use Rattle.demands.proofs.Becomes.{clock-moves}
-use Rattle.demands.proofs.EventsProof.{step-carries}
-use Rattle.demands.proofs.Consistent.{Consistent, owner-inside}
+use Rattle.demands.proofs.EventsProof.{over-is, Shut, AtOnce, Rested, Carries, step-carries}
+use Rattle.demands.proofs.Consistent.{Consistent, not-inside, owner-inside}
 use Rattle.demands.proofs.ConsistentProof.{consistent-event, Reader, Keeps, hearsAll, readsLog, reads-log, runs-keep}
 use Rattle.demands.proofs.ConsistentProof.{orderly}
-use Rattle.demands.proofs.SettledProof.{Stable, stable, stable-step}
+use Rattle.demands.proofs.SettledProof.{Stable, none-mid, stable, stable-step}
 use Rattle.demands.proofs.OwnPartLaws.{answered-now}
 
 each-asked : (m : Model) (f : Frame) → Consistent m → Admitted f m → Each (asked m f .waits)
@@ -55,17 +55,41 @@ each-asked m f s a =
     cond-cases (λ (n : Model). Each (n .waits)) (isLookUp (f .op)) (λ t. consistent-event (asks m t a) s .each)
     (λ _. s .each)
 
--- a look-up that a step gives nothing has no available entry when the step is over
+-- a look-up that a step gives nothing is permitted it when the step is over
+permitted : (m n : Model) (w : LookUp) → m ≡ closeWaits n .model → someAvailable (n .txns) w (n .entries) ≡ false
+    → Closes n w → Permitted m w
+unfolding closeWaits
+permitted m n w q u c = subst⁻¹ (λ k. Permitted k w) q (record { none-available = u; in-vain = c })
+
 pub nothing-left : (m : Model) → Stable m → (bs : List ℕ) (area : ℕ) → refusal m bs area ≡ 0
     → NothingLeft (asked m (decode bs)) (step m bs area .records) (step m bs area .model)
 unfolding nothing
-nothing-left m k bs area n w i j =
-    let s = k .consistent-model in
-    let o = step m bs area in
-    let c = step-carries m bs area (s .ordered .txns) n in
-    let r = c .1 .rested .closed (nothing w) j refl in
-    subst (λ u. someAvailable (o .model .txns) u (o .model .entries) ≡ false)
-    (same-party (each-asked m (decode bs) s (c .0)) (r .1) i (ap (λ (a : Record). a .party) (r .2))) (r .3)
+nothing-left m k bs area n w i j = ⊎-elim over-now at-once (r .closed (nothing w) j refl)
+  where
+    f : Frame
+    f = decode bs
+
+    c : Admitted f m × Carries f m (step m bs area .records) (step m bs area .model)
+    c = step-carries m bs area (k .consistent-model .ordered .txns) n
+
+    r : Rested f m (step m bs area .records) (step m bs area .model)
+    r = c .1 .rested
+
+    o : Model
+    o = step m bs area .model
+
+    -- the look-up that is told of is this one
+    same : (v : LookUp) → List·Memᴰ v (asked m f .waits) → nothing v ≡ nothing w → v ≡ w
+    same v l q =
+        same-party (each-asked m f (k .consistent-model) (c .0)) l i (ap (λ (a : Record). a .party) q)
+
+    over-now : Shut (r .mid) (nothing w) → Permitted o w
+    over-now (v, l, q, e) =
+        subst (Permitted o) (same v (r .among v l) q)
+        (permitted o (r .mid) v (r .left) (none-mid k (c .1) v l) (over-is (r .mid) v e))
+
+    at-once : AtOnce f m (r .mid) (nothing w) → Permitted o w
+    at-once (v, l, q, u, e) = subst (Permitted o) (same v l q) (permitted o (r .mid) v (r .left) u e)
 
 -- whether what is heard closes a look-up
 abbrev shuts : LookUp → Heard → Bool
@@ -243,15 +267,19 @@ in-time is i js n l f h =
           ap (count isTicked) (answersTo-cons m i []) ∙ count-append isTicked (o .records) [],
         )
 
-    later : o .model .waits ≡ m .waits ++ (w ∷ []) → anyb p (answersTo (o .model) js) ≡ true
-    later r =
-        closed (o .model) js w (m .clock + timeout) (stable-step i m (stable is))
-        (subst⁻¹ (List·Memᴰ w) r (Memᴰ·append-right (m .waits) (List·Memᴰ·head refl))) due enough
+    later : List·Memᴰ w (o .model .waits) → anyb p (answersTo (o .model) js) ≡ true
+    later r = closed (o .model) js w (m .clock + timeout) (stable-step i m (stable is)) r due enough
+
+    -- by the step's first record
+    first : {r : Record} (ws : List LookUp) → o .records ≡ r ∷ map nothing ws → anyb (shuts w) (saying r ∷ []) ≡ true
+        → anyb p (o .records) ≡ true
+    first {r} ws q c =
+        ap (anyb p) q ∙ ap (λ x. x || anyb p (map nothing ws)) (sym (or-false (p r)) ∙ c)
 
     go : (someAvailable (m .txns) w (m .entries) ≡ true) ⊎ (someAvailable (m .txns) w (m .entries) ≡ false)
         → (givesNothing m w timeout ≡ true) ⊎ (givesNothing m w timeout ≡ false)
         → (anyb p (o .records) || anyb p (answersTo (o .model) js)) ≡ true
-    go (inl t) g = let r = a .found-case t in now (ap (anyb p) (r .2) ∙ found-shuts w (r .0))
-    go (inr t) (inl g) = now (ap (anyb p) (a .nothing-case t g) ∙ nothing-shuts w)
+    go (inl t) g = let r = a .found-case t in now (first (r .2 .0) (r .2 .1) (found-shuts w (r .0)))
+    go (inr t) (inl g) = let r = a .nothing-case t g in now (first (r .0) (r .1) (nothing-shuts w))
     go (inr t) (inr g) =
         ap (λ x. anyb p (o .records) || x) (later (a .waiting-case t g .1)) ∙ or-true (anyb p (o .records))

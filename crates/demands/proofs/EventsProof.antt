@@ -1,11 +1,11 @@
 -- Every step of the rules is a sequence of events; and what holds when it is over.
 use Prim.Native.Nat.{ℕ, _+_, _<_}
 use mathlib.Core.Bool.{Bool, true, false, cond, not, _&&_, or-true, and-false, true≢false}
-use mathlib.Core.Logic.{inl, inr, ⊎-elim}
+use mathlib.Core.Logic.{_⊎_, inl, inr, ⊎-elim}
 use mathlib.Core.Path.{_≡_, refl, sym, ap, _∙_, subst, subst⁻¹}
 use mathlib.Core.Option.{Option, none, some}
 use mathlib.Core.List.{List, [], _∷_, _++_, map, map-append, append-nil, List·Memᴰ, List·Memᴰ·head, List·Memᴰ·tail}
-use mathlib.Core.List.{Memᴰ·append-right, Memᴰ·map}
+use mathlib.Core.List.{Memᴰ·append-left, Memᴰ·append-right, Memᴰ·map}
 use native.Mathlib.Omega.{arith}
 use borrow.Author.Tests.{eqb-true, eqb-false, ne-eqb, le-leb, lt-leb, leb-false, ltb-false, not-true, not-false}
 use lib.Dec.{eqb, leb, ltb}
@@ -30,8 +30,9 @@ use Rattle.rules.specs.LookUp.{removes, isEntry, marked, lookUpOf, handOut, giv
 use Rattle.rules.specs.LookUp.{answerNothing, answerWaiting, lookUp}
 use Rattle.rules.specs.Transactions.{create, withoutTxn, abort}
 use Rattle.rules.specs.Service.{serve, service}
-use Rattle.rules.specs.Tick.{tick, endedTxns, abortAll, dropEnded, lapsed, closeWaits}
-use Rattle.rules.specs.Refusals.{isOf, inTxn, notOwn, tooLate, txnsFull, noNumber, refusal}
+use Rattle.rules.specs.Tick.{tick, endedTxns, abortAll, dropEnded, lapsed}
+use Rattle.rules.specs.Closing.{isOver, closeWaits}
+use Rattle.rules.specs.Refusals.{isOf, inTxn, partyWaits, notOwn, tooLate, txnsFull, noNumber, refusal}
 use Rattle.rules.specs.Step.{Outcome, commitFrame, abortFrame, finish, carriedOut, step, accepted, refusedWith}
 use Rattle.rules.specs.SerialRun.{wasRefused}
 use Rattle.rules.proofs.BoolLaws.{cond-cases, bool-cases, and-left, and-right, or-left, or-right, or-cases}
@@ -46,23 +47,13 @@ use Rattle.demands.specs.Answers.{asked}
 use Rattle.demands.proofs.AllLaws.{All, all-none, all-cons, all-append, all-snoc, all-filter, all-map, Out, here}
 use Rattle.demands.proofs.AllLaws.{there, out-last}
 use Rattle.demands.proofs.HoldLaws.{mark-cases}
+use Rattle.demands.proofs.OwnPartLaws.{until-later, until-now}
 use Rattle.demands.proofs.Events.{LiveOf, Ordered, Admitted, Heard, saying, heard, Closes, Event, refuses, asks}
 use Rattle.demands.proofs.Events.{writes, is-found, is-nothing, is-waiting, creates, commits, aborts, ticks}
 use Rattle.demands.proofs.Events.{excepts, expires, Events, over, then, join}
 use Rattle.demands.proofs.Becomes.{waits-all}
 use Rattle.demands.proofs.Unavailable.{serve-settled}
 use Rattle.demands.proofs.AscendingLaws.{ascend-filter}
-
--- a lease or timeout other than 0 is not over as it starts, and one of 0 is
-pub until-later : (clock lease : ℕ) → (lease ≡ 0 → ⊥) → reached clock (until clock lease) ≡ false
-unfolding until reached
-until-later clock lease h =
-    cond-cases (λ (u : Until). reached clock u ≡ false) (eqb lease forever) (λ e. refl)
-    (λ e. lt-leb (clock + lease) clock (omega arith))
-
-pub until-now : (clock : ℕ) → reached clock (until clock 0) ≡ true
-unfolding until reached
-until-now clock = le-leb (clock + 0) clock (omega arith)
 
 -- what it lets pass, row by row
 module _ (f : Frame) (m : Model) where
@@ -113,6 +104,23 @@ admitted m bs area c =
           (or-right (isWrite (f .op) && leb forever (m .nextEntry)) _ (c .numbers)));
     }
 
+-- a look-up that is over is given nothing with reason; one that is not has its deadline ahead, and an IfExists kind a
+-- conflicting entry
+pub over-is : (m : Model) (w : LookUp) → isOver m w ≡ true → Closes m w
+unfolding isOver
+over-is m w e =
+    ⊎-elim inl (λ z. inr (and-left _ (not (someConflicts (m .txns) w (m .entries))) z, not-true _ (and-right (w .«if_exists») _ z)))
+    (or-cases (reached (m .clock) (w .deadline)) _ e)
+
+module _ (m : Model) (w : LookUp) (e : isOver m w ≡ false) where
+  pub not-over : reached (m .clock) (w .deadline) ≡ false
+  unfolding isOver
+  not-over = or-left (reached (m .clock) (w .deadline)) _ e
+
+  pub in-hope : w .«if_exists» ≡ true → someConflicts (m .txns) w (m .entries) ≡ true
+  unfolding isOver
+  in-hope t = not-false _ (and-false-right (w .«if_exists») _ t (or-right (reached (m .clock) (w .deadline)) _ e))
+
 -- parts of a step that ask for nothing
 abbrev Part : Frame → Model → Done → Type 0
 Part f m d = Events f m (map saying (d .records)) (d .model)
@@ -135,31 +143,26 @@ module _ (f : Frame) where
       then (is-found (withEntries es (withWaits (pre (w ∷ ws)) m)) w x (pre ws) o (s .0) (s .1)) (below pre l))
       (m .entries) (m .waits) (λ ws. ws) (λ x ys zs o. o)
 
-  -- look-ups whose deadline is reached, none of which has an available entry
-  pub close-events : (m : Model) → All (λ w. someAvailable (m .txns) w (m .entries) ≡ false) (m .waits)
-      → Part f m (closeWaits m)
+  -- look-ups that are over
+  pub close-events : (m : Model) → Part f m (closeWaits m)
   unfolding closeWaits
-  close-events m h = go (m .waits) h (λ ws. ws) (λ x ys zs o. o)
+  close-events m = go (m .waits) (λ ws. ws) (λ x ys zs o. o)
     where
-      due : LookUp → Bool
-      due w = reached (m .clock) (w .deadline)
-
-      go : (ws : List LookUp) → All (λ w. someAvailable (m .txns) w (m .entries) ≡ false) ws
-          → (pre : List LookUp → List LookUp) → Lifts pre
-          → Events f (withWaits (pre ws) m) (map saying (map nothing (filterb due ws)))
-          (withWaits (pre (filterb (λ w. not (due w)) ws)) m)
-      go [] h pre l = over
-      go (w ∷ ws) h pre l = each (due w) refl (go ws (λ v i. h v (List·Memᴰ·tail i)))
+      go : (ws : List LookUp) (pre : List LookUp → List LookUp) → Lifts pre
+          → Events f (withWaits (pre ws) m) (map saying (map nothing (filterb (isOver m) ws)))
+          (withWaits (pre (filterb (λ w. not (isOver m w)) ws)) m)
+      go [] pre l = over
+      go (w ∷ ws) pre l = each (isOver m w) refl (go ws)
         where
-          each : (b : Bool) → due w ≡ b → ((pre : List LookUp → List LookUp) → Lifts pre
-              → Events f (withWaits (pre ws) m) (map saying (map nothing (filterb due ws)))
-              (withWaits (pre (filterb (λ w. not (due w)) ws)) m)) → Events f (withWaits (pre (w ∷ ws)) m)
-              (map saying (map nothing (cond b (w ∷ filterb due ws) (filterb due ws))))
-              (withWaits (pre (cond (not b) (w ∷ filterb (λ w. not (due w)) ws) (filterb (λ w. not (due w)) ws))) m)
+          each : (b : Bool) → isOver m w ≡ b → ((pre : List LookUp → List LookUp) → Lifts pre
+              → Events f (withWaits (pre ws) m) (map saying (map nothing (filterb (isOver m) ws)))
+              (withWaits (pre (filterb (λ w. not (isOver m w)) ws)) m)) → Events f (withWaits (pre (w ∷ ws)) m)
+              (map saying (map nothing (cond b (w ∷ filterb (isOver m) ws) (filterb (isOver m) ws))))
+              (withWaits (pre (cond (not b) (w ∷ filterb (λ w. not (isOver m w)) ws)
+              (filterb (λ w. not (isOver m w)) ws))) m)
           each true e below =
               let o = l w (w ∷ ws) ws (here ws) in
-              then (is-nothing (withWaits (pre (w ∷ ws)) m) w (pre ws) o (h w (List·Memᴰ·head refl)) (inl e))
-              (below pre l)
+              then (is-nothing (withWaits (pre (w ∷ ws)) m) w (pre ws) o (over-is m w e)) (below pre l)
           each false e below = below (λ vs. pre (w ∷ vs)) (λ x ys zs o. l x (w ∷ ys) (w ∷ zs) (there o))
 
   -- the transactions that end now, by number
@@ -188,19 +191,18 @@ module _ (f : Frame) where
       subst (λ hs. Events f m hs (lapsed m .model)) (append-nil (map saying (lapsed m .records)))
       (join gone (then (expires _ tk) over))
 
--- nobody who waits has an available entry; no deadline is reached; no entry is past its lease
+-- nobody who waits has an available entry; no deadline is reached; nobody waits in vain; no entry is past its lease
 abbrev pub NoneFor : Model → Type 0
 NoneFor m = All (λ w. someAvailable (m .txns) w (m .entries) ≡ false) (m .waits)
 
 abbrev pub OpenIn : Model → Type 0
 OpenIn m = All (λ w. reached (m .clock) (w .deadline) ≡ false) (m .waits)
 
+abbrev pub Hopeful : Model → Type 0
+Hopeful m = All (λ w. w .«if_exists» ≡ true → someConflicts (m .txns) w (m .entries) ≡ true) (m .waits)
+
 abbrev pub Lasting : Model → Type 0
 Lasting m = All (λ e. reached (m .clock) (e .end) ≡ false) (m .entries)
-
--- a record is of a look-up that waited, and that has no available entry now
-abbrev pub Closed : List LookUp → Record → Model → Type 0
-Closed ws a n = (w : LookUp) × List·Memᴰ w ws × (nothing w ≡ a) × (someAvailable (n .txns) w (n .entries) ≡ false)
 
 -- service hands out what lasts, and says nothing but found
 serve-lasting : (clock : ℕ) (ts : List Txn) (es : List Entry) (ws : List LookUp)
@@ -224,6 +226,14 @@ serve-founds ts =
     serve-ind ts (λ es ws r. All (λ a. a .kind ≡ kindFound) (r .records))
     (λ es. all-none (λ a. a .kind ≡ kindFound)) (λ es w ws q below. below) (λ es w ws x q below. all-cons refl below)
 
+-- a record is the nothing of a look-up that waited on and is over; or that of the frame's own look-up, answered at once
+abbrev pub Shut : Model → Record → Type 0
+Shut n a = (w : LookUp) × List·Memᴰ w (n .waits) × (nothing w ≡ a) × (isOver n w ≡ true)
+
+abbrev pub AtOnce : Frame → Model → Model → Record → Type 0
+AtOnce f m n a = (w : LookUp) × List·Memᴰ w (asked m f .waits) × (nothing w ≡ a)
+    × (someAvailable (n .txns) w (n .entries) ≡ false) × Closes n w
+
 -- no look-up waits that did not wait before
 events-waits : {f : Frame} {m n : Model} {hs : List Heard} → isLookUp (f .op) ≡ false → Events f m hs n
     → All (λ w. List·Memᴰ w (m .waits)) (n .waits)
@@ -240,61 +250,35 @@ module _ (f : Frame) (m : Model) where
   abbrev served : Done
   served = cond (serves f) (service (ended .model)) (quiet (ended .model))
 
-  abbrev closed : Done
-  closed = cond (isTick (f .op)) (closeWaits (served .model)) (quiet (served .model))
-
   service-settles : serves f ≡ true → NoneFor (served .model)
   unfolding service
   service-settles t = rw t (serve-settled (ended .model .txns) (ended .model .entries) (ended .model .waits))
 
-  module _ (ordered : isTick (f .op) ≡ true → Ordered (m .txns)) where
-    until-served : Events f m (map saying (ended .records) ++ map saying (served .records)) (served .model)
-    until-served =
-        join (cond-cases (Part f m) (isTick (f .op)) (λ t. lapsed-events f t m (ordered t)) (λ _. over))
-        (cond-cases (Part f (ended .model)) (serves f) (λ _. service-events f (ended .model)) (λ _. over))
+  until-served : (isTick (f .op) ≡ true → Ordered (m .txns))
+      → Events f m (map saying (ended .records) ++ map saying (served .records)) (served .model)
+  until-served ordered =
+      join (cond-cases (Part f m) (isTick (f .op)) (λ t. lapsed-events f t m (ordered t)) (λ _. over))
+      (cond-cases (Part f (ended .model)) (serves f) (λ _. service-events f (ended .model)) (λ _. over))
 
-    finish-events : Part f m (finish f m)
-    unfolding finish
-    finish-events =
-        rw (map-append, map-append) (join until-served
-        (cond-cases (Part f (served .model)) (isTick (f .op))
-        (λ t. close-events f (served .model) (service-settles (tick-serves f t))) (λ _. over)))
+  finish-events : (isTick (f .op) ≡ true → Ordered (m .txns)) → Part f m (finish f m)
+  unfolding finish
+  finish-events ordered =
+      rw (map-append, map-append) (join (until-served ordered) (close-events f (served .model)))
 
-    -- what is given nothing waited, and has no available entry now
-    finish-closes : isLookUp (f .op) ≡ false
-        → All (λ a. a .kind ≡ kindNothing → Closed (m .waits) a (finish f m .model)) (finish f m .records)
-    unfolding finish closeWaits lapsed exception service
-    finish-closes z =
-        all-append (ended .records ++ served .records) (all-append (ended .records)
-        (cond-cases (λ (d : Done). All Q (d .records)) (isTick (f .op))
-        (λ _. all-map Q exception (endedTxns m) (λ t i (k : 8 ≡ 3). absurd (omega arith))) (λ _. all-none Q))
-        (cond-cases (λ (d : Done). All Q (d .records)) (serves f)
-        (λ _ a i k. absurd (let l = serve-founds (ended .model .txns) (ended .model .entries)
-        (ended .model .waits) a i in omega arith)) (λ _. all-none Q)))
-        (cond-cases (λ (d : Done). All (λ a. a .kind ≡ kindNothing → Closed (m .waits) a (d .model)) (d .records))
-        (isTick (f .op))
-        (λ t. all-map (λ a. a .kind ≡ kindNothing → Closed (m .waits) a (closeWaits (served .model) .model)) nothing _
-        (all-filter (λ w. reached (served .model .clock) (w .deadline)) (served .model .waits)
-        (λ w i _ _. (w, events-waits z until-served w i, refl, service-settles (tick-serves f t) w i))))
-        (λ _. all-none (λ a. a .kind ≡ kindNothing → Closed (m .waits) a (served .model))))
-      where
-        Q : Record → Type 0
-        Q a = a .kind ≡ kindNothing → Closed (m .waits) a (closed .model)
-
-  -- after service nobody who waits has an available entry; after a tick nothing is past its end
-  finish-settles : serves f ≡ true → NoneFor (finish f m .model)
-  unfolding finish closeWaits
-  finish-settles t =
-      cond-cases (λ (d : Done). NoneFor (d .model)) (isTick (f .op))
-      (λ _. all-filter (λ w. not (reached (served .model .clock) (w .deadline))) (served .model .waits)
-      (λ w i _. service-settles t w i)) (λ _. service-settles t)
-
-  finish-opens : isTick (f .op) ≡ true → OpenIn (finish f m .model)
-  unfolding finish closeWaits
-  finish-opens t =
-      cond-cases (λ (d : Done). OpenIn (d .model)) (isTick (f .op))
-      (λ _. all-filter (λ w. not (reached (served .model .clock) (w .deadline))) (served .model .waits)
-      (λ w i r. not-true _ r)) (λ z. absurd (true≢false (sym t ∙ z)))
+  -- what is given nothing waited on after service, and is over
+  finish-closes : All (λ a. a .kind ≡ kindNothing → Shut (served .model) a) (finish f m .records)
+  unfolding finish closeWaits lapsed exception service
+  finish-closes =
+      all-append (ended .records ++ served .records) (all-append (ended .records)
+      (cond-cases (λ (d : Done). All Q (d .records)) (isTick (f .op))
+      (λ _. all-map Q exception (endedTxns m) (λ t i (k : 8 ≡ 3). absurd (omega arith))) (λ _. all-none Q))
+      (cond-cases (λ (d : Done). All Q (d .records)) (serves f)
+      (λ _ a i k. absurd (let l = serve-founds (ended .model .txns) (ended .model .entries)
+      (ended .model .waits) a i in omega arith)) (λ _. all-none Q)))
+      (all-map Q nothing _ (all-filter (isOver (served .model)) (served .model .waits) (λ w i r _. (w, i, refl, r))))
+    where
+      Q : Record → Type 0
+      Q a = a .kind ≡ kindNothing → Shut (served .model) a
 
   finish-lasts : isTick (f .op) ≡ true → Lasting (finish f m .model)
   unfolding finish closeWaits service lapsed dropEnded
@@ -303,17 +287,22 @@ module _ (f : Frame) (m : Model) where
       rw (t, tick-serves f t) (serve-lasting (left .clock) (left .txns) _ (left .waits)
       (all-filter (λ e. not (reached (left .clock) (e .end))) (left .entries) (λ e i r. not-true _ r)))
 
--- what holds when a frame is carried out
+-- what holds when a frame is carried out: service is over with the tables `mid`, and then look-ups are closed
 pub record Rested (f : Frame) (m : Model) (rs : List Record) (n : Model) : Type 0 where
+  pub mid : Model
+  pub so-far : List Heard
+  pub until-mid : Events f m so-far mid
+  pub left : n ≡ closeWaits mid .model
+  -- nobody waits then who did not wait before, or whose look-up it is
+  pub among : All (λ w. List·Memᴰ w (asked m f .waits)) (mid .waits)
   -- after service nobody who waits has an available entry, after a tick nothing is past its end
-  pub settled : serves f ≡ true → NoneFor n
-  pub ahead : isTick (f .op) ≡ true → OpenIn n
+  pub settled : serves f ≡ true → NoneFor mid
   pub lasting : isTick (f .op) ≡ true → Lasting n
-  -- the frame's look-up, if it waits on, has no available entry, and its deadline lies ahead
-  pub waits-well : isLookUp (f .op) ≡ true → All (λ w. w .party ≡ f .party
-      → (someAvailable (n .txns) w (n .entries) ≡ false) × (reached (n .clock) (w .deadline) ≡ false)) (n .waits)
-  -- what is given nothing has no available entry now
-  pub closed : All (λ a. a .kind ≡ kindNothing → Closed (asked m f .waits) a n) rs
+  -- the frame's look-up, if it waits on, has no available entry
+  pub waits-well : isLookUp (f .op) ≡ true
+      → All (λ w. w .party ≡ f .party → someAvailable (mid .txns) w (mid .entries) ≡ false) (mid .waits)
+  -- what is given nothing waited on and is over, or is the frame's own look-up
+  pub closed : All (λ a. a .kind ≡ kindNothing → Shut mid a ⊎ AtOnce f m mid a) rs
 
 pub record Carries (f : Frame) (m : Model) (rs : List Record) (n : Model) : Type 0 where
   pub events : Events f m (heard f rs) n
@@ -327,18 +316,21 @@ module _ (f : Frame) (m : Model) (a : Admitted f m)
 
   plain : (c : Carried) → isLookUp (f .op) ≡ false → (c .own .kind ≡ kindNothing → ⊥)
       → (isTick (f .op) ≡ true → Ordered (c .model .txns)) → Event f m (saying (c .own) ∷ []) (c .model) → Whole c
-  unfolding asked
+  unfolding asked finish
   plain c z k o e =
+      let until = then e (until-served f (c .model) o) in
       record {
         events = rw z (then e (finish-events f (c .model) o));
         rested = record {
-          settled = finish-settles f (c .model);
-          ahead = finish-opens f (c .model);
+          mid = served f (c .model) .model;
+          so-far = _;
+          until-mid = until;
+          left = refl;
+          among = rw z (events-waits z until);
+          settled = service-settles f (c .model);
           lasting = finish-lasts f (c .model);
           waits-well = λ t. absurd (true≢false (sym t ∙ z));
-          closed = rw z (all-cons (λ q. absurd (k q))
-              (λ b i q. let r = finish-closes f (c .model) o z b i q in
-              (r .0, events-waits z (then e over) (r .0) (r .1), r .2, r .3)));
+          closed = all-cons (λ q. absurd (k q)) (λ b i q. inl (finish-closes f (c .model) b i q));
         };
       }
 
@@ -348,42 +340,49 @@ module _ (f : Frame) (m : Model) (a : Admitted f m)
 
   answered : (c : Carried) → isLookUp (f .op) ≡ true → eqb (c .own .kind) kindRefused ≡ false
       → Event f grown (saying (c .own) ∷ []) (c .model)
-      → All (λ w. w .party ≡ f .party → (someAvailable (c .model .txns) w (c .model .entries) ≡ false)
-      × (reached (c .model .clock) (w .deadline) ≡ false)) (c .model .waits)
-      → (c .own .kind ≡ kindNothing → Closed (grown .waits) (c .own) (c .model)) → Whole c
-  unfolding wasRefused asked
-  answered c t z e well shut =
+      → All (λ w. List·Memᴰ w (grown .waits)) (c .model .waits)
+      → All (λ w. w .party ≡ f .party → someAvailable (c .model .txns) w (c .model .entries) ≡ false) (c .model .waits)
+      → (c .own .kind ≡ kindNothing → AtOnce f m (c .model) (c .own)) → Whole c
+  unfolding wasRefused asked closeWaits
+  answered c t z e inside well shut =
       let k = lookUp-not-tick (f .op) t in
-      let quiet-after = finish-quiet f (c .model) k (lookUp-serves f t) in
-      subst⁻¹ (λ (d : Done). Carries f m (c .own ∷ d .records) (d .model)) quiet-after
+      let n = c .model in
+      subst⁻¹ (λ (d : Done). Carries f m (c .own ∷ d .records) (d .model)) (finish-quiet f n k (lookUp-serves f t))
       (record {
-        events = rw (t, z) (then (asks m t a) (then e over));
+        events = rw (t, z) (then (asks m t a) (then e (close-events f n)));
         rested = record {
+          mid = n;
+          so-far = _;
+          until-mid = then (asks m t a) (then e over);
+          left = refl;
+          among = rw t inside;
           settled = λ q. absurd (true≢false (sym q ∙ lookUp-serves f t));
-          ahead = λ q. absurd (true≢false (sym q ∙ k));
           lasting = λ q. absurd (true≢false (sym q ∙ k));
           waits-well = λ _. well;
-          closed = rw t (all-cons shut (all-none (λ b. b .kind ≡ kindNothing → Closed (grown .waits) b (c .model))));
+          closed = all-cons (λ q. inr (shut q))
+              (all-map (λ b. b .kind ≡ kindNothing → Shut n b ⊎ AtOnce f m n b) nothing _
+              (all-filter (isOver n) (n .waits) (λ w i r _. inl (w, i, refl, r))));
         };
       })
 
   look-up : isLookUp (f .op) ≡ true → (o : Option Entry)
       → oldest (m .txns) (lookUpOf m f) (m .entries) ≡ o
       → Whole (answer m (lookUpOf m f) (f .leaseOrTimeout) o)
-  unfolding answer answerFound answerNothing answerWaiting givesNothing lookUpOf found nothing waiting
+  unfolding answer answerFound answerNothing answerWaiting givesNothing lookUpOf found nothing waiting asked
   look-up t (some x) q =
       let s = find-some (available (m .txns) (lookUpOf m f)) (m .entries) q in
       answered (answerFound m (lookUpOf m f) x) t refl
       (is-found grown (lookUpOf m f) x (m .waits) (out-last (m .waits) (lookUpOf m f)) (s .0) (s .1))
-      (λ v i p. absurd (a .free (lookUp-not-abort (f .op) t) v i p)) (λ (p : 2 ≡ 3). absurd (omega arith))
+      (λ v i. Memᴰ·append-left _ i) (λ v i p. absurd (a .free (lookUp-not-abort (f .op) t) v i p))
+      (λ (p : 2 ≡ 3). absurd (omega arith))
   look-up t none q =
       cond-cases Whole (givesNothing m w timeout) (λ g. answered (answerNothing m w) t refl
-      (is-nothing grown w (m .waits) (out-last (m .waits) w) nobody (reason g))
-      (λ v i p. absurd (a .free (lookUp-not-abort (f .op) t) v i p)) (λ _. (w, there-last, refl, nobody)))
+      (is-nothing grown w (m .waits) (out-last (m .waits) w) (reason g)) (λ v i. Memᴰ·append-left _ i)
+      (λ v i p. absurd (a .free (lookUp-not-abort (f .op) t) v i p)) (λ _. (w, rw t there-last, refl, nobody, reason g)))
       (λ g. let later = until-later (m .clock) timeout (eqb-false timeout 0 (or-left _ _ g)) in
       answered (answerWaiting m w) t refl (is-waiting grown w there-last refl nobody later
-      (λ z. not-false _ (and-false-right (w .«if_exists») _ z (or-right (eqb timeout 0) _ g))))
-      (all-snoc (m .waits) (λ v i p. absurd (a .free (lookUp-not-abort (f .op) t) v i p)) (λ _. (nobody, later)))
+      (λ z. not-false _ (and-false-right (w .«if_exists») _ z (or-right (eqb timeout 0) _ g)))) (λ v i. i)
+      (all-snoc (m .waits) (λ v i p. absurd (a .free (lookUp-not-abort (f .op) t) v i p)) (λ _. nobody))
       (λ (p : 4 ≡ 3). absurd (omega arith)))
     where
       w : LookUp
@@ -398,14 +397,12 @@ module _ (f : Frame) (m : Model) (a : Admitted f m)
       nobody : someAvailable (m .txns) w (m .entries) ≡ false
       nobody = none-any (available (m .txns) w) (m .entries) q
 
-      reason : givesNothing m w timeout ≡ true → Closes f grown w
+      reason : givesNothing m w timeout ≡ true → Closes grown w
       reason g =
           ⊎-elim (λ z. inl (rw (eqb-true timeout 0 z) (until-now (m .clock))))
           (λ z. inr (
-            refl,
             and-left _ (not (someConflicts (m .txns) w (m .entries))) z,
-            not-true _
-                (and-right (w .«if_exists») _ z),
+            not-true _ (and-right (w .«if_exists») _ z),
           )) (or-cases (eqb timeout 0) _ g)
 
   pub carries : isOperation (f .op) ≡ true → Carries f m (carriedOut m f .records) (carriedOut m f .model)

@@ -1,22 +1,42 @@
 -- A frame's own part, by its operation; and what a look-up frame is answered, for the four kinds together.
-use Prim.Native.Nat.{ℕ}
-use mathlib.Core.Bool.{true, cond}
-use mathlib.Core.Path.{_≡_, refl, ap, _∙_}
-use mathlib.Core.List.{List, [], _∷_}
+use Prim.Native.Nat.{ℕ, _+_}
+use mathlib.Core.Bool.{true, false, cond, not, _||_}
+use mathlib.Core.Path.{_≡_, refl, ap, ap₂, _∙_}
+use mathlib.Core.List.{List, _∷_, List·Memᴰ, List·Memᴰ·head, Memᴰ·append-right}
+use native.Mathlib.Omega.{arith}
+use borrow.Author.Tests.{eqb-false, le-leb, lt-leb}
+use lib.Dec.{eqb}
+use Rattle.rules.specs.declared.LookUp.{LookUp}
+use Rattle.rules.specs.declared.Until.{Until}
+use Rattle.rules.specs.Numbers.{forever}
+use Rattle.rules.specs.Time.{until, reached}
 use Rattle.rules.specs.State.{Model}
 use Rattle.rules.specs.Holds.{available}
 use Rattle.rules.specs.Frame.{Frame, decode, isWrite, isLookUp, isCreate, isCommit, isAbort}
-use Rattle.rules.specs.Done.{Carried, after, quiet}
+use Rattle.rules.specs.Done.{Carried, after}
 use Rattle.rules.specs.Write.{write}
-use Rattle.rules.specs.LookUp.{lookUpOf, answerFound, answerNothing, answerWaiting, answer, lookUp}
+use Rattle.rules.specs.LookUp.{lookUpOf, givesNothing, answerFound, answerNothing, answerWaiting, answer, lookUp}
 use Rattle.rules.specs.Transactions.{create}
 use Rattle.rules.specs.Tick.{tick}
+use Rattle.rules.specs.Closing.{isOver, closeWaits}
 use Rattle.rules.specs.Refusals.{refusal}
 use Rattle.rules.specs.Step.{step, accepted, ownPart, finish, carriedOut, commitFrame, abortFrame}
 use Rattle.demands.specs.Answers.{AnsweredNow}
-use Rattle.rules.proofs.ListLaws.{any-none, any-find}
+use Rattle.rules.proofs.ListLaws.{any-none, any-find, filter-mem}
+use Rattle.rules.proofs.BoolLaws.{cond-cases, or-left, or-right}
 use Rattle.rules.proofs.LayoutLaws.{lookUp-cases, finish-quiet, lookUp-serves, lookUp-not-tick}
 use Rattle.demands.proofs.OrderLaws.{InOrder, oldest-said}
+
+-- a lease or timeout other than 0 is not over as it starts, and one of 0 is
+pub until-later : (clock lease : ℕ) → (lease ≡ 0 → ⊥) → reached clock (until clock lease) ≡ false
+unfolding until reached
+until-later clock lease h =
+    cond-cases (λ (u : Until). reached clock u ≡ false) (eqb lease forever) (λ e. refl)
+    (λ e. lt-leb (clock + lease) clock (omega arith))
+
+pub until-now : (clock : ℕ) → reached clock (until clock 0) ≡ true
+unfolding until reached
+until-now clock = le-leb (clock + 0) clock (omega arith)
 
 -- a frame that is not refused is carried out
 pub step-accepted : (m : Model) (bs : List ℕ) (area : ℕ) → refusal m bs area ≡ 0
@@ -42,27 +62,40 @@ module _ (m : Model) (f : Frame) where
   unfolding ownPart
   part-lookUp t = lookUp-cases (λ op. partOf op ≡ lookUp m f) (f .op) t refl refl refl refl
 
-  -- a look-up's is all that it does
+  -- a look-up's is all that it does, but for who waits in vain from then on
   pub carried-lookUp : isLookUp (f .op) ≡ true
-      → carriedOut m f ≡ after (lookUp m f .own) (quiet (lookUp m f .model))
+      → carriedOut m f ≡ after (lookUp m f .own) (closeWaits (lookUp m f .model))
   unfolding carriedOut
   carried-lookUp t =
       let c = lookUp m f in
       ap (λ (p : Carried). after (p .own) (finish f (p .model))) (part-lookUp t)
       ∙ ap (after (c .own)) (finish-quiet f (c .model) (lookUp-not-tick (f .op) t) (lookUp-serves f t))
 
-  look-up-answered : InOrder m → let c = lookUp m f in AnsweredNow m (lookUpOf m f) (f .leaseOrTimeout) (c .own ∷ [])
-      (c .model)
-  unfolding lookUp answer answerFound answerNothing answerWaiting
+  abbrev asked-for : LookUp
+  asked-for = lookUpOf m f
+
+  -- one that waits is not over
+  waits-there : givesNothing m asked-for (f .leaseOrTimeout) ≡ false
+      → List·Memᴰ asked-for (closeWaits (answerWaiting m asked-for .model) .model .waits)
+  unfolding closeWaits isOver answerWaiting givesNothing lookUpOf
+  waits-there g =
+      filter-mem (λ w. not (isOver (answerWaiting m asked-for .model) w))
+      (Memᴰ·append-right (m .waits) (List·Memᴰ·head refl))
+      (ap₂ (λ x y. not (x || y)) (until-later (m .clock) (f .leaseOrTimeout) (eqb-false _ 0 (or-left _ _ g)))
+      (or-right (eqb (f .leaseOrTimeout) 0) _ g))
+
+  look-up-answered : InOrder m → let c = lookUp m f in
+      let d = closeWaits (c .model) in
+      AnsweredNow m asked-for (f .leaseOrTimeout) (c .own ∷ d .records) (d .model)
+  unfolding lookUp answer answerFound answerNothing closeWaits
   look-up-answered h =
-      let w = lookUpOf m f in
-      let none-there = any-none (available (m .txns) w) (m .entries) in
+      let none-there = any-none (available (m .txns) asked-for) (m .entries) in
       record {
         found-case = λ t.
-            let r = any-find (available (m .txns) w) (m .entries) t in
-            (r .0, oldest-said h (r .1), rw (r .1));
-        nothing-case = λ t g. rw (none-there t, g);
-        waiting-case = λ t g. (rw (none-there t, g), rw (none-there t, g));
+            let r = any-find (available (m .txns) asked-for) (m .entries) t in
+            (r .0, oldest-said h (r .1), (_, rw (r .1)));
+        nothing-case = λ t g. (_, rw (none-there t, g));
+        waiting-case = λ t g. ((_, rw (none-there t, g)), rw (none-there t, g) (waits-there g));
       }
 
 pub answered-now : (m : Model) (bs : List ℕ) (area : ℕ) → InOrder m → refusal m bs area ≡ 0

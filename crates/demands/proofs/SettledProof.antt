@@ -1,4 +1,5 @@
--- Between frames no entry is past its lease, every deadline lies ahead, and no waiting look-up has an available entry.
+-- Between frames no entry is past its lease, every deadline lies ahead, no waiting look-up has an available entry, and
+-- each of an IfExists kind has a conflicting one.
 use Prim.Native.Nat.{ℕ}
 use mathlib.Core.Bool.{true, false, cond, not, _&&_, true≢false}
 use mathlib.Core.Logic.{_⊎_, inl, inr, ⊎-elim}
@@ -6,7 +7,7 @@ use mathlib.Core.Path.{_≡_, refl, sym, ap, _∙_, subst⁻¹}
 use mathlib.Core.Option.{some}
 use mathlib.Core.List.{List, [], _∷_, _++_, List·Memᴰ}
 use native.Mathlib.Omega.{arith}
-use borrow.Author.Tests.{eqb-false, ne-eqb}
+use borrow.Author.Tests.{eqb-false, ne-eqb, not-true}
 use lib.Dec.{eqb}
 use Rattle.rules.specs.declared.Entry.{Entry}
 use Rattle.rules.specs.declared.Record.{Record}
@@ -15,25 +16,27 @@ use Rattle.rules.specs.declared.LookUp.{LookUp}
 use Rattle.rules.specs.Time.{reached}
 use Rattle.rules.specs.State.{Model}
 use Rattle.rules.specs.Template.{matches}
-use Rattle.rules.specs.Holds.{liveTxn, dropReaderOf, readByOther, visible, available, someAvailable}
+use Rattle.rules.specs.Holds.{liveTxn, dropReaderOf, readByOther, visible, available, someAvailable, someConflicts}
 use Rattle.rules.specs.Frame.{Frame, decode, isLookUp, isTick, serves}
 use Rattle.rules.specs.Write.{newEntry, stored}
 use Rattle.rules.specs.LookUp.{lookUpOf}
 use Rattle.rules.specs.Transactions.{create}
+use Rattle.rules.specs.Closing.{isOver, closeWaits}
 use Rattle.rules.specs.Step.{step}
 use Rattle.rules.proofs.BoolLaws.{bool-cases}
 use Rattle.rules.proofs.ListLaws.{none-mem, all-false}
 use Rattle.rules.proofs.LayoutLaws.{write-not-abort, write-serves, commit-serves, abort-serves, tick-serves}
 use Rattle.demands.specs.Machine.{Input}
 use Rattle.demands.proofs.Runs.{made, made-keep}
-use Rattle.demands.proofs.AllLaws.{All, all-none, all-snoc, out-all}
+use Rattle.demands.proofs.AllLaws.{All, all-none, all-snoc, all-filter, out-all}
 use Rattle.demands.proofs.HoldLaws.{eqb-cases, not-so, available-free}
+use Rattle.demands.proofs.OwnPartLaws.{until-later}
 use Rattle.demands.proofs.Unavailable.{handOut-unavailable}
 use Rattle.demands.proofs.Events.{Heard, Event, refuses, asks, writes, is-found, is-nothing, is-waiting, creates}
 use Rattle.demands.proofs.Events.{commits, aborts, ticks, excepts, expires, Events, over, then}
-use Rattle.demands.proofs.Becomes.{newTxn, kept-all, waits-all, clock-moves}
-use Rattle.demands.proofs.EventsProof.{until-later, NoneFor, OpenIn, Lasting, StepIs, is-carried, is-refused}
-use Rattle.demands.proofs.EventsProof.{step-is}
+use Rattle.demands.proofs.Becomes.{newTxn, kept-all, clock-moves}
+use Rattle.demands.proofs.EventsProof.{not-over, in-hope, NoneFor, OpenIn, Hopeful, Lasting}
+use Rattle.demands.proofs.EventsProof.{Carries, StepIs, is-carried, is-refused, step-is}
 use Rattle.demands.proofs.Consistent.{Consistent, ok-below, not-inside}
 use Rattle.demands.proofs.ConsistentProof.{consistent-event, consistent-events, consistent-empty}
 
@@ -42,6 +45,7 @@ pub record Stable (m : Model) : Type 0 where
   pub lasting : Lasting m
   pub ahead : OpenIn m
   pub none-for : NoneFor m
+  pub hopeful : Hopeful m
 
 -- in the midst of a frame's step: so but for its own look-up, and for what a tick or service mends
 abbrev Own : Frame → LookUp → Type 0
@@ -52,7 +56,6 @@ NoneElse f m = All (λ w. Own f w ⊎ (someAvailable (m .txns) w (m .entries) �
 
 record Steady (f : Frame) (m : Model) : Type 0 where
   lasting : (isTick (f .op) ≡ true) ⊎ Lasting m
-  ahead : (isTick (f .op) ≡ true) ⊎ All (λ w. Own f w ⊎ (reached (m .clock) (w .deadline) ≡ false)) (m .waits)
   none-for : (serves f ≡ true) ⊎ NoneElse f m
 
 -- a transaction made later changes nothing for a look-up
@@ -108,7 +111,6 @@ unfolding newEntry lookUpOf
 steady-event {f} {m} {n} e s h =
     record {
       lasting = ⊎-elim inl (λ k. ⊎-elim (λ q. inr (lasts (q .0) k)) (λ t. inl (t .2)) (clock-moves e)) (h .lasting);
-      ahead = ⊎-elim inl (λ k. ⊎-elim (λ q. inr (lie-ahead (q .0) k)) (λ t. inl (t .2)) (clock-moves e)) (h .ahead);
       none-for = ⊎-elim inl (λ k. ⊎-elim inl (λ z. inr (none-event z e s k)) (bool-cases (serves f))) (h .none-for);
     }
   where
@@ -118,49 +120,63 @@ steady-event {f} {m} {n} e s h =
         (kept-all (λ x. reached (m .clock) (x .end) ≡ false) e (s .ordered)
         (λ t a d. until-later (m .clock) (f .leaseOrTimeout) d) k)
 
-    lie-ahead : n .clock ≡ m .clock → All (λ w. Own f w ⊎ (reached (m .clock) (w .deadline) ≡ false)) (m .waits)
-        → All (λ w. Own f w ⊎ (reached (n .clock) (w .deadline) ≡ false)) (n .waits)
-    lie-ahead q k =
-        subst⁻¹ (λ c. All (λ w. Own f w ⊎ (reached c (w .deadline) ≡ false)) (n .waits)) q
-        (waits-all (λ w. Own f w ⊎ (reached (m .clock) (w .deadline) ≡ false)) e (λ t a. inl (t, refl)) k)
-
 steady-events : {f : Frame} {m n : Model} {hs : List Heard} → Events f m hs n → Consistent m → Steady f m → Steady f n
 steady-events over s h = h
 steady-events (then e t) s h = steady-events t (consistent-event e s) (steady-event e s h)
 
--- and when it is over
+-- and when it is over: who waits on after the closings is not over
+module _ {f : Frame} {m n : Model} {rs : List Record} (k : Stable m) (c : Carries f m rs n) where
+  abbrev mid : Model
+  mid = c .rested .mid
+
+  begins : Steady f m
+  begins = record { lasting = inr (k .lasting); none-for = inr (λ w i. inr (k .none-for w i)) }
+
+  pub none-mid : NoneFor mid
+  none-mid =
+      let r = c .rested in
+      ⊎-elim (r .settled) (λ x w i. ⊎-elim (λ o. r .waits-well (o .0) w i (o .1)) (λ y. y) (x w i))
+      (steady-events (r .until-mid) (k .consistent-model) begins .none-for)
+
+  waits-on : (P : LookUp → Type 0) → ((w : LookUp) → List·Memᴰ w (mid .waits) → isOver mid w ≡ false → P w)
+      → All P (closeWaits mid .model .waits)
+  unfolding closeWaits
+  waits-on P h = all-filter (λ w. not (isOver mid w)) (mid .waits) (λ w i r. h w i (not-true _ r))
+
+  carried-stable : Stable n
+  unfolding closeWaits
+  carried-stable =
+      let r = c .rested in
+      let q = r .left in
+      record {
+        consistent-model = consistent-events (c .events) (k .consistent-model);
+        lasting =
+            ⊎-elim (r .lasting) (λ x. x) (steady-events (c .events) (k .consistent-model) begins .lasting);
+        ahead = subst⁻¹ OpenIn q (waits-on (λ w. reached (mid .clock) (w .deadline) ≡ false) (λ w i e. not-over mid w e));
+        none-for = subst⁻¹ NoneFor q
+            (waits-on (λ w. someAvailable (mid .txns) w (mid .entries) ≡ false) (λ w i e. none-mid w i));
+        hopeful = subst⁻¹ Hopeful q
+            (waits-on (λ w. w .«if_exists» ≡ true → someConflicts (mid .txns) w (mid .entries) ≡ true)
+            (λ w i e. in-hope mid w e));
+      }
+
 pub stable-step : (i : Input) (m : Model) → Stable m → Stable (step m (i .frame) (i .area) .model)
 stable-step i m k = go (step-is m (i .frame) (i .area) (k .consistent-model .ordered .txns))
   where
-    f : Frame
-    f = decode (i .frame)
-
-    go : {rs : List Record} {n : Model} → StepIs f m rs n → Stable n
+    go : {rs : List Record} {n : Model} → StepIs (decode (i .frame)) m rs n → Stable n
     go (is-refused e q) = subst⁻¹ Stable q k
-    go (is-carried a c) =
-        let r = c .rested in
-        let h =
-        steady-events (c .events) (k .consistent-model)
-        (record {
-          lasting = inr (k .lasting);
-          ahead = inr (λ w i. inr (k .ahead w i));
-          none-for = inr
-              (λ w i. inr (k .none-for w i));
-        }) in
-        record {
-          consistent-model = consistent-events (c .events) (k .consistent-model);
-          lasting = ⊎-elim (r .lasting) (λ x. x) (h .lasting);
-          ahead =
-              ⊎-elim (r .ahead) (λ x w i. ⊎-elim (λ o. r .waits-well (o .0) w i (o .1) .1) (λ y. y) (x w i)) (h .ahead);
-          none-for =
-              ⊎-elim (r .settled) (λ x w i. ⊎-elim (λ o. r .waits-well (o .0) w i (o .1) .0) (λ y. y) (x w i))
-              (h .none-for);
-        }
+    go (is-carried a c) = carried-stable k c
 
 pub stable : (is : List Input) → Stable (made is)
 stable =
     made-keep Stable stable-step
-    (record { consistent-model = consistent-empty; lasting = all-none _; ahead = all-none _; none-for = all-none _ })
+    (record {
+      consistent-model = consistent-empty;
+      lasting = all-none _;
+      ahead = all-none _;
+      none-for = all-none _;
+      hopeful = all-none _;
+    })
 
 pub lasting : (is : List Input) → Lasting (made is)
 lasting is = stable is .lasting
