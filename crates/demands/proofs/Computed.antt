@@ -9,7 +9,8 @@ use Rattle.rules.specs.LookUp.{lookUpOf, removes, withHold, marked, handOut, gi
 use Rattle.rules.specs.LookUp.{answerNothing, answerWaiting, answer, lookUp}
 use Rattle.rules.specs.Transactions.{freeSlot, create, released, withoutTxn, commit, abort}
 use Rattle.rules.specs.Service.{serve, service}
-use Rattle.rules.specs.Tick.{endedTxns, abortAll, dropEnded, lapsed, closeWaits, tick}
+use Rattle.rules.specs.Tick.{endedTxns, abortAll, dropEnded, lapsed, tick}
+use Rattle.rules.specs.Closing.{isOver, closeWaits}
 use Rattle.rules.specs.Refusals.{noOperation, wrongLength, malformed, wrongParty, partyWaits, notLive, notOwn, noLease}
 use Rattle.rules.specs.Refusals.{tooLate, entriesFull, txnsFull, noNumber, refusal}
 use Rattle.rules.specs.Write.{newEntry, stored, write}
@@ -21,8 +22,8 @@ unfoldable pub all-rules : Unit {0}
 unfolding until reached bit matches liveTxn addReader dropReader readByOther visible available conflicts numberAt decode
     layoutOf frameLength serves written found nothing waiting created committed aborted exception ticked refused
     lookUpOf removes withHold marked handOut givesNothing answerFound answerNothing answerWaiting answer lookUp
-    freeSlot create released withoutTxn commit abort serve service endedTxns abortAll dropEnded lapsed closeWaits tick
-    noOperation wrongLength malformed wrongParty partyWaits notLive notOwn noLease tooLate entriesFull txnsFull noNumber
+    freeSlot create released withoutTxn commit abort serve service endedTxns abortAll dropEnded lapsed isOver
+    closeWaits tick noOperation wrongLength malformed wrongParty partyWaits notLive notOwn noLease tooLate entriesFull txnsFull noNumber
     refusal newEntry stored write ownPart finish commitFrame abortFrame carriedOut refusedWith accepted step
 all-rules = tt
 

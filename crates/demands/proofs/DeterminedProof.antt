@@ -6,7 +6,7 @@ use mathlib.Core.Path.{_≡_, refl, sym, ap, ap₂, _∙_, subst, subst⁻¹}
 use mathlib.Core.Option.{Option, none}
 use mathlib.Core.List.{List, [], _∷_, _++_, map, List·Memᴰ, Memᴰ·of-map, Memᴰ·cast}
 use native.Mathlib.Omega.{arith}
-use borrow.Author.Tests.{eqb-true, eqb-false, eq-eqb}
+use borrow.Author.Tests.{eqb-true, eqb-false, eq-eqb, leb-false}
 use lib.Dec.{eqb}
 use lib.ListN.{length, take, drop, length-map, take-append-drop}
 use Rattle.rules.specs.declared.Entry.{Entry}
@@ -16,7 +16,8 @@ use Rattle.rules.specs.declared.TxnId.{TxnId}
 use Rattle.rules.specs.Lists.{filterb, anyb, distinct}
 use Rattle.rules.specs.State.{Model, empty}
 use Rattle.rules.specs.Holds.{liveTxn}
-use Rattle.rules.specs.Frame.{decode}
+use Rattle.rules.specs.Numbers.{maxTxns}
+use Rattle.rules.specs.Frame.{decode, isCreate}
 use Rattle.rules.specs.Records.{waiting, refused, answerBytes, areaAfter}
 use Rattle.rules.specs.Transactions.{privateTo}
 use Rattle.rules.specs.Refusals.{partyWaits, notLive, isOf, notOwn, tooLate, entriesFull, txnsFull, noNumber}
@@ -34,7 +35,8 @@ use Rattle.demands.specs.Demands.{Demand1, Demand2, Demand3}
 use Rattle.demands.specs.Consequences.{Consequences}
 use Rattle.demands.specs.Determined.{ruled, Determined, ThirdFollows}
 use Rattle.rules.proofs.ListLaws.{mem-any}
-use Rattle.rules.proofs.BoolLaws.{bool-cases}
+use Rattle.rules.proofs.BoolLaws.{bool-cases, and-false-right}
+use Rattle.rules.proofs.RefusalLaws.{clear}
 use Rattle.rules.proofs.DistinctLaws.{distinct-filter}
 use Rattle.demands.proofs.AscendingLaws.{ascend-unique}
 use Rattle.demands.proofs.Consistent.{TxnsOk, Consistent, cover}
@@ -46,7 +48,7 @@ use Rattle.demands.proofs.JudgedProof.{number-is, refused-record, no-re
 use Rattle.demands.proofs.OwnPartLaws.{step-accepted}
 use Rattle.demands.proofs.SaidProof.{said-given}
 use Rattle.demands.proofs.Twins.{same-test, cond-both, Matched, matched-filter, matched-map, SameLive, live-ind}
-use Rattle.demands.proofs.Twins.{other-live, Like, Twins, said-twins}
+use Rattle.demands.proofs.Twins.{other-live, Like, Twins, Roomy, some-same, gives-same, said-twins}
 
 -- ---- two spaces with the same log are twins
 
@@ -116,9 +118,11 @@ twins-told m n p q x y s =
     record {
       same = cc;
       peers = record {
-        next = n .nextTxn;
-        ok = ok-told (n .nextTxn) (m .txns) (n .txns) live (s .txns-ok) (s .ordered .txns) (x .own-slot);
-        ok′ = s .txns-ok;
+        counted = subst⁻¹ (λ k. 0 < k) txn (s .positive);
+        ok =
+            subst⁻¹ (λ k. TxnsOk k (m .txns)) txn
+            (ok-told (n .nextTxn) (m .txns) (n .txns) live (s .txns-ok) (s .ordered .txns) (x .own-slot));
+        ok′ = subst⁻¹ (λ k. TxnsOk k (n .txns)) txn (s .txns-ok);
         live = live;
       };
       entries = entries-told x y;
@@ -196,6 +200,13 @@ pub made-snoc : (S : Machine) {log : List Logged} {t u : S .State} {h : Handed} 
     → S .Steps t h u a → Made S (log ++ (logged h a ∷ [])) u
 made-snoc S (s, e, r) p = (s, e, history-snoc S r p)
 
+-- a create that is not refused finds room
+roomy : (m : Model) (bs : List ℕ) (area : ℕ) → refusal m bs area ≡ 0 → Roomy (decode bs) m
+unfolding txnsFull
+roomy m bs area z t =
+    leb-false maxTxns (length (m .txns))
+    (and-false-right (isCreate (decode bs .op)) _ t (clear m bs area z .txn-room))
+
 module _ (S : Machine) (d1 : Demand1 S) (d2 : Demand2 S) where
   module _ {log : List Logged} {t : S .State} {n : Model} (made : Made S log t) (run : Made theRules log n) where
     pub twins : Twins (S .view t) n
@@ -242,7 +253,10 @@ module _ (S : Machine) (d1 : Demand1 S) (d2 : Demand2 S) where
               → a .records ≡ step n (h .frame) (length (h .area)) .records
           go (inl z) k =
               let none = eqb-true _ 0 z in
-              sym (said-given (said-twins twins (d2 .said log t u h a made p (same-refusal h ∙ none))) stands)
+              let here = same-refusal h ∙ none in
+              let room : (k : Model) → refusal k (h .frame) (length (h .area)) ≡ 0 → Roomy (decode (h .frame)) k =
+              λ k. roomy k (h .frame) (length (h .area)) in
+              sym (said-given (said-twins twins (room _ here) (room n none) (d2 .said log t u h a made p here)) stands)
               ∙ ap (λ (o : Outcome). o .records) (sym (step-accepted n (h .frame) (length (h .area)) none))
           go (inr z) (inl k) =
               let one = eqb-true _ 1 k in

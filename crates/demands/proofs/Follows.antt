@@ -191,7 +191,8 @@ module _ (S : Machine) (f : Follows S) where
             (length (h .area)));
         in-time = closed-in-time;
         settled = λ log t r.
-            let s = of-made Stable stable r in record { none-available = s .none-for; not-reached = s .ahead };
+            let s = of-made Stable stable r in
+            record { none-available = s .none-for; not-reached = s .ahead; not-in-vain = s .hopeful };
         one-each = λ log t r. of-made Stable stable r .consistent-model .each;
         few = of-step (λ t h rs m. length rs ≤ 25)
             (λ log t u h a r q. step-fits (S .view t) (h .frame) (length (h .area)) (made-sound S f r)

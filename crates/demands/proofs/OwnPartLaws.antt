@@ -9,6 +9,7 @@ use lib.Dec.{eqb}
 use Rattle.rules.specs.declared.LookUp.{LookUp}
 use Rattle.rules.specs.declared.Until.{Until}
 use Rattle.rules.specs.Numbers.{forever}
+use Rattle.rules.specs.Lists.{filterb}
 use Rattle.rules.specs.Time.{until, reached}
 use Rattle.rules.specs.State.{Model}
 use Rattle.rules.specs.Holds.{available}
@@ -87,15 +88,17 @@ module _ (m : Model) (f : Frame) where
   look-up-answered : InOrder m → let c = lookUp m f in
       let d = closeWaits (c .model) in
       AnsweredNow m asked-for (f .leaseOrTimeout) (c .own ∷ d .records) (d .model)
-  unfolding lookUp answer answerFound answerNothing closeWaits
+  unfolding lookUp answer answerFound answerNothing answerWaiting closeWaits
   look-up-answered h =
       let none-there = any-none (available (m .txns) asked-for) (m .entries) in
+      let over : Carried → List LookUp = λ c. filterb (isOver (c .model)) (c .model .waits) in
       record {
         found-case = λ t.
             let r = any-find (available (m .txns) asked-for) (m .entries) t in
-            (r .0, oldest-said h (r .1), (_, rw (r .1)));
-        nothing-case = λ t g. (_, rw (none-there t, g));
-        waiting-case = λ t g. ((_, rw (none-there t, g)), rw (none-there t, g) (waits-there g));
+            (r .0, oldest-said h (r .1), (over (answerFound m asked-for (r .0)), rw (r .1)));
+        nothing-case = λ t g. (over (answerNothing m asked-for), rw (none-there t, g));
+        waiting-case = λ t g.
+            ((over (answerWaiting m asked-for), rw (none-there t, g)), rw (none-there t, g) (waits-there g));
       }
 
 pub answered-now : (m : Model) (bs : List ℕ) (area : ℕ) → InOrder m → refusal m bs area ≡ 0

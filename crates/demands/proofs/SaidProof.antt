@@ -21,7 +21,8 @@ use Rattle.rules.specs.Write.{stored, write}
 use Rattle.rules.specs.LookUp.{lookUpOf, givesNothing, answer, answerFound, answerNothing, answerWaiting, lookUp}
 use Rattle.rules.specs.Transactions.{create, commit, abort}
 use Rattle.rules.specs.Service.{Served, serve, service}
-use Rattle.rules.specs.Tick.{tick, endedTxns, abortAll, dropEnded, lapsed as lapsedPart, closeWaits}
+use Rattle.rules.specs.Tick.{tick, endedTxns, abortAll, dropEnded, lapsed as lapsedPart}
+use Rattle.rules.specs.Closing.{isOver, closeWaits}
 use Rattle.rules.specs.Refusals.{refusal}
 use Rattle.rules.specs.Step.{step, Outcome, ownPart, finish, carriedOut, accepted, commitFrame, abortFrame}
 use Rattle.demands.specs.Said.{endNow, entriesLeft, inVain, Own, writes, finds, finds-none, waits, creates}
@@ -62,43 +63,36 @@ own-serves {f} (ticks t) = tick-serves f t ∙ sym (served-at f (eqb-true (f .op
 
 -- ---- the end of a step, in its parts
 
-abortAll-clock : (ts : List Txn) (m : Model) → abortAll ts m .clock ≡ m .clock
-unfolding abortAll abort
-abortAll-clock [] m = refl
-abortAll-clock (t ∷ ts) m = abortAll-clock ts (abort (t .id .0) m)
-
 -- service, where it follows
 abbrev servedBy : Frame → Model → Done
 servedBy f m = cond (isServed f) (service m) (quiet m)
 
+-- what is said from there on, in a space that service has changed so
+abbrev saidThen : Frame → Model → Done → List Record
+saidThen f m d = exceptions f m ++ d .records ++ nothings (lapsed f m) (d .model .entries) (d .model .waits)
+
 module _ (f : Frame) (m : Model) where
   -- in a tick or not, with service or not
-  abbrev then : Bool → Bool → Done
+  abbrev then : Bool → Bool → List Record
   then b c =
       let n = abortAll (endNow m) m in
       let k = cond b (withEntries (entriesLeft n) n) m in
-      cond c (service k) (quiet k)
+      let d = cond c (service k) (quiet k) in
+      cond b (map exception (endNow m)) [] ++ d .records ++ nothings k (d .model .entries) (d .model .waits)
 
-  abbrev said : Bool → Bool → ℕ → List Record
-  said b c clock =
-      cond b (map exception (endNow m)) [] ++ then b c .records
-      ++ cond b (map nothing (filterb (λ (w : LookUp). reached clock (w .deadline)) (then b c .model .waits))) []
-
-  finish-is : serves f ≡ isServed f
-      → finish f m .records
-      ≡ exceptions f m ++ servedBy f (lapsed f m) .records ++ nothings f m (servedBy f (lapsed f m) .model .waits)
-  unfolding finish lapsedPart closeWaits endedTxns dropEnded service
+  finish-is : serves f ≡ isServed f → finish f m .records ≡ saidThen f m (servedBy f (lapsed f m))
+  unfolding finish lapsedPart closeWaits isOver endedTxns dropEnded service
   finish-is q = ap (ended (isTick (f .op))) q ∙ go (isTick (f .op)) (isServed f)
     where
       ended : Bool → Bool → List Record
       ended b c =
           let e = cond b (lapsedPart m) (quiet m) in
           let s = cond c (service (e .model)) (quiet (e .model)) in
-          e .records ++ s .records ++ cond b (closeWaits (s .model)) (quiet (s .model)) .records
+          e .records ++ s .records ++ closeWaits (s .model) .records
 
-      go : (b c : Bool) → ended b c ≡ said b c (m .clock)
-      go true true = ap (said true true) (abortAll-clock (endNow m) m)
-      go true false = ap (said true false) (abortAll-clock (endNow m) m)
+      go : (b c : Bool) → ended b c ≡ then b c
+      go true true = refl
+      go true false = refl
       go false true = refl
       go false false = refl
 
@@ -145,19 +139,20 @@ own-said m f h is =
     own-cases (λ (c : Carried). Own f m (c .own) (c .model)) m f is writes (λ t. answer-own f m h t _ refl) creates
     commits aborts ticks
 
-service-said : (f : Frame) (m : Model) → InOrder m → Service f m (servedBy f m .records) (servedBy f m .model .waits)
+service-said : (f : Frame) (m : Model) → InOrder m
+    → let d = servedBy f m in Service f m (d .records) (d .model .waits) (d .model .entries)
 unfolding service
 service-said f m h =
-    cond-cases (λ (d : Done). Service f m (d .records) (d .model .waits)) (isServed f)
+    cond-cases (λ (d : Done). Service f m (d .records) (d .model .waits) (d .model .entries)) (isServed f)
     (λ t. follows t (serves-all (m .entries) (m .waits) h)) follows-not
   where
     ts : List Txn
     ts = m .txns
 
     serves-all : (es : List Entry) (ws : List LookUp) → Numbered (m .nextEntry) es
-        → Serves ts es ws (serve ts es ws .records) (serve ts es ws .waits)
+        → let r = serve ts es ws in Serves ts es ws (r .records) (r .waits) (r .entries)
     serves-all =
-        serve-ind ts (λ es ws r. Numbered (m .nextEntry) es → Serves ts es ws (r .records) (r .waits))
+        serve-ind ts (λ es ws r. Numbered (m .nextEntry) es → Serves ts es ws (r .records) (r .waits) (r .entries))
         (λ es h. gone-through es) (λ es w ws q below h. waits-on w (none-any (available ts w) es q) (below h))
         (λ es w ws x q below h. is-found w x (oldest-said h q) (below (handed-numbered ts w x es h)))
 
@@ -175,38 +170,34 @@ step-said m bs area h z =
 -- ---- what is said is what the rules give
 
 -- service, and the end of a step
-serves-given : {n : ℕ} {ts : List Txn} {es : List Entry} {ws left : List LookUp} {founds : List Record}
-    → Serves ts es ws founds left → Numbered n es
-    → (serve ts es ws .records ≡ founds) × (serve ts es ws .waits ≡ left)
+serves-given : {n : ℕ} {ts : List Txn} {es xs : List Entry} {ws left : List LookUp} {founds : List Record}
+    → Serves ts es ws founds left xs → Numbered n es
+    → serve ts es ws ≡ record { entries = xs; waits = left; records = founds }
 unfolding serve
-serves-given (gone-through es) h = (refl, refl)
-serves-given {ts = ts} (waits-on w {es} {ws} u s) h =
-    let one = serve-none ts es w ws (any-none (available ts w) es u) in
-    let rest = serves-given s h in (
-      ap (λ (x : Served). x .records) one ∙ rest .0,
-      ap (λ (x : Served). x .waits) one ∙ ap {B = List LookUp} (λ l. w ∷ l) (rest .1),
-    )
-serves-given {ts = ts} (is-found w e {es} {ws} o s) h =
-    let one = serve-some ts es w ws e (oldest-given h o) in
-    let rest = serves-given s (handed-numbered ts w e es h) in (
-      ap (λ (x : Served). x .records) one ∙ ap {B = List Record} (λ l. found w e ∷ l) (rest .0),
-      ap (λ (x : Served). x .waits) one ∙ rest .1,
-    )
+serves-given (gone-through es) h = refl
+serves-given {ts = ts} (waits-on w {es} {xs} {ws} u s) h =
+    serve-none ts es w ws (any-none (available ts w) es u)
+    ∙ ap (λ (r : Served). record { entries = r .entries; waits = w ∷ r .waits; records = r .records })
+    (serves-given s h)
+serves-given {ts = ts} (is-found w e {es} {xs} {ws} o s) h =
+    serve-some ts es w ws e (oldest-given h o)
+    ∙ ap (λ (r : Served). record { entries = r .entries; waits = r .waits; records = found w e ∷ r .records })
+    (serves-given s (handed-numbered ts w e es h))
 
 ends-given : {f : Frame} {m : Model} {rs : List Record} → Ends f m rs → serves f ≡ isServed f → InOrder m
     → finish f m .records ≡ rs
 unfolding service
-ends-given {f} {m} (in-order {founds} {left} (follows t s)) q h =
+ends-given {f} {m} (in-order (follows t s)) q h =
     let n = lapsed f m in
-    let g = serves-given s (lapsed-order f m h) in
     let is : servedBy f n ≡ service n = rw t in
     finish-is f m q
-    ∙ ap (λ (d : Done). exceptions f m ++ d .records ++ nothings f m (d .model .waits)) is
-    ∙ ap₂ (λ (x : List Record) (ws : List LookUp). exceptions f m ++ x ++ nothings f m ws) (g .0) (g .1)
+    ∙ ap (saidThen f m) is
+    ∙ ap (λ (r : Served). exceptions f m ++ r .records ++ nothings n (r .entries) (r .waits))
+    (serves-given s (lapsed-order f m h))
 ends-given {f} {m} (in-order (follows-not t)) q h =
     let n = lapsed f m in
     let is : servedBy f n ≡ quiet n = rw t in
-    finish-is f m q ∙ ap (λ (d : Done). exceptions f m ++ d .records ++ nothings f m (d .model .waits)) is
+    finish-is f m q ∙ ap (saidThen f m) is
 
 -- the own part
 none-given : (f : Frame) (m : Model) (b : Bool) → isLookUp (f .op) ≡ true

@@ -1,46 +1,46 @@
 -- Two spaces that agree in all that frames and records tell, but for slots and the order of the entries: the same
 -- look-ups find, wait and conflict in both, each part of a step keeps it so, and a step of both says the same.
-use Prim.Native.Nat.{ℕ, _+_, _≤_}
+use Prim.Native.Nat.{ℕ, _+_, _≤_, _<_}
 use mathlib.Core.Bool.{Bool, true, false, not, cond, _&&_, _||_, true≢false}
-use mathlib.Core.Logic.{_⊎_, inl, inr, ⊎-elim}
+use mathlib.Core.Logic.{⊎-elim}
 use mathlib.Core.Path.{_≡_, refl, sym, ap, ap₂, _∙_, subst, subst⁻¹}
 use mathlib.Core.List.{List, [], _∷_, _++_, map, List·Memᴰ, List·Memᴰ·head, Memᴰ·append-left, Memᴰ·append-right}
 use mathlib.Core.List.{Memᴰ·of-map, Memᴰ·map}
 use native.Mathlib.Omega.{arith}
 use borrow.Author.Tests.{eqb-true, eq-eqb}
 use lib.Dec.{eqb}
+use lib.ListN.{length}
 use Rattle.rules.specs.declared.Entry.{Entry}
 use Rattle.rules.specs.declared.Record.{Record}
 use Rattle.rules.specs.declared.Txn.{Txn}
 use Rattle.rules.specs.declared.TxnId.{TxnId}
 use Rattle.rules.specs.declared.LookUp.{LookUp}
 use Rattle.rules.specs.Lists.{filterb, anyb}
-use Rattle.rules.specs.Time.{reached}
+use Rattle.rules.specs.Time.{until, reached}
 use Rattle.rules.specs.Template.{bit}
-use Rattle.rules.specs.State.{Model, withEntries, withTxns, withWaits, withClock, withNextEntry}
+use Rattle.rules.specs.State.{Model, withEntries, withTxns, withWaits, withClock, withNextEntry, withNextTxn}
 use Rattle.rules.specs.Holds.{liveTxn, addReaderOf, dropReaderOf, readByOther, visible, available, conflicts}
 use Rattle.rules.specs.Holds.{someAvailable, someConflicts}
-use Rattle.rules.specs.Frame.{Frame, isLookUp, isTick}
-use Rattle.rules.specs.Numbers.{kindException}
+use Rattle.rules.specs.Frame.{Frame, isCreate, isTick}
+use Rattle.rules.specs.Numbers.{kindException, maxTxns}
 use Rattle.rules.specs.Records.{plain, written, found, nothing, waiting, created, exception}
 use Rattle.rules.specs.Write.{newEntry, stored}
 use Rattle.rules.specs.LookUp.{lookUpOf, removes, withHold, marked, isEntry, handOut, givesNothing}
-use Rattle.rules.specs.Transactions.{noTxn, released, withoutTxn, commit, abort, privateTo, takenBy}
+use Rattle.rules.specs.Transactions.{create, noTxn, released, withoutTxn, commit, abort, privateTo, takenBy}
 use Rattle.rules.specs.Tick.{abortAll}
 use Rattle.rules.specs.SerialRun.{Kept, keptOf}
 use Rattle.demands.specs.Book.{LiveTold}
 use Rattle.demands.specs.Said.{endNow, entriesLeft, inVain, Own, writes, finds, finds-none, waits, creates}
 use Rattle.demands.specs.Said.{commits, aborts, ticks, Serves, gone-through, is-found, waits-on, isServed}
-use Rattle.demands.specs.Said.{Service, follows, follows-not, exceptions, lapsed, nothings, Ends, in-order, Said}
-use Rattle.demands.specs.Said.{own-first, Oldest}
-use Rattle.rules.proofs.ListLaws.{mem-filter, filter-mem, any-mem, mem-any}
-use Rattle.rules.proofs.LayoutLaws.{lookUp-not-tick, create-not-tick}
+use Rattle.demands.specs.Said.{Service, follows, follows-not, exceptions, lapsed, givenNothing, nothings, Ends}
+use Rattle.demands.specs.Said.{in-order, Said, own-first, Oldest}
+use Rattle.rules.proofs.ListLaws.{mem-filter, filter-mem, any-mem, mem-any, filter-same}
 use Rattle.rules.proofs.ReaderLaws.{bit-of-zero, no-bits}
 use Rattle.demands.proofs.AllLaws.{All, all-filter, all-map, all-snoc}
 use Rattle.demands.proofs.HoldLaws.{equal-or, not-so}
-use Rattle.demands.proofs.Consistent.{At, TxnsOk, txns-filter}
+use Rattle.demands.proofs.Consistent.{At, TxnsOk, slot-free, txns-filter, txns-snoc}
+use Rattle.demands.proofs.Becomes.{newTxn}
 use Rattle.demands.proofs.HolderLaws.{add-live, drop-live, add-own, drop-own, add-other, drop-other, freed-at}
-use Rattle.demands.proofs.SaidProof.{served-at, lookUp-not-served}
 
 -- ---- tests and lists
 
@@ -80,6 +80,13 @@ module _ {A B : Type 0} {R : A → B → Type 0} {xs : List A} {ys : List B} (h 
             (k (y .0), Memᴰ·map k (y .1), keeps x (y .0) (y .2)));
         back = all-map (λ z. (x : A′) × List·Memᴰ x (map g xs) × R′ x z) k ys (λ y i. let x = h .back y i in
             (g (x .0), Memᴰ·map g (x .1), keeps (x .0) y (x .2)));
+      }
+
+  matched-so : (R′ : A → B → Type 0) → ((x : A) (y : B) → R x y → R′ x y) → Matched R′ xs ys
+  matched-so R′ so =
+      record {
+        forth = λ x i. let y = h .forth x i in (y .0, y .1, so x (y .0) (y .2));
+        back = λ y j. let x = h .back y j in (x .0, x .1, so (x .0) y (x .2));
       }
 
   matched-snoc : {x : A} {y : B} → R x y → Matched R (xs ++ (x ∷ [])) (ys ++ (y ∷ []))
@@ -143,19 +150,20 @@ filter-live p =
     (λ x y ts us q below. cond-both SameLive (p (liveOf x)) (p (liveOf y)) (ap p q)
     (ap₂ {C = List LiveTold} (λ l ls. l ∷ ls) q below) below)
 
-pub record Peers (ts us : List Txn) : Type 0 where
-  pub next : ℕ
-  pub ok : TxnsOk next ts
-  pub ok′ : TxnsOk next us
+-- numbers below k
+pub record Peers (k : ℕ) (ts us : List Txn) : Type 0 where
+  pub counted : 0 < k
+  pub ok : TxnsOk k ts
+  pub ok′ : TxnsOk k us
   pub live : SameLive ts us
 
-peers-without : {ts us : List Txn} (t : ℕ) → Peers ts us → Peers (withoutTxn t ts) (withoutTxn t us)
+peers-without : {k : ℕ} {ts us : List Txn} (t : ℕ) → Peers k ts us → Peers k (withoutTxn t ts) (withoutTxn t us)
 unfolding withoutTxn
-peers-without {ts} {us} t p =
+peers-without {k} {ts} {us} t p =
     record {
-      next = p .next;
-      ok = txns-filter (p .next) _ ts (p .ok);
-      ok′ = txns-filter (p .next) _ us (p .ok′);
+      counted = p .counted;
+      ok = txns-filter k _ ts (p .ok);
+      ok′ = txns-filter k _ us (p .ok′);
       live = filter-live (λ l. not (eqb (l .number) t)) ts us (p .live);
     }
 
@@ -177,7 +185,7 @@ none-held ts us =
       live′ = λ p b. absurd (true≢false (sym b ∙ bit-of-zero p));
     }
 
-module _ {ts us : List Txn} (p : Peers ts us) (t : ℕ) {r q : ℕ} (h : Held ts us r q) where
+module _ {k : ℕ} {ts us : List Txn} (p : Peers k ts us) (t : ℕ) {r q : ℕ} (h : Held ts us r q) where
   -- t's own bit becomes v, the others' stay
   bits-same : (v : Bool) (s z : ℕ) → ((x : Txn) → List·Memᴰ x ts → x .id .0 ≡ t → bit (x .slot) s ≡ v)
       → ((x : Txn) → List·Memᴰ x ts → (x .id .0 ≡ t → ⊥) → bit (x .slot) s ≡ bit (x .slot) r)
@@ -242,7 +250,7 @@ pub record Like (ts us : List Txn) (e x : Entry) : Type 0 where
   pub taker : e .«taken_by» ≡ x .«taken_by»
   pub held : Held ts us (e .readers) (x .readers)
 
-module _ {ts us : List Txn} (p : Peers ts us) where
+module _ {k : ℕ} {ts us : List Txn} (p : Peers k ts us) where
   read-same : (t : ℕ) {e x : Entry} → Like ts us e x → readByOther ts t e ≡ readByOther us t x
   unfolding readByOther
   read-same t {e} {x} l = ap not (zero-same (p .live) (held-dropped p t (l .held)))
@@ -347,15 +355,21 @@ found-same w {e} {x} l =
     rw (number, fields)
 
 -- service says the same
-serves-alike : {ts us : List Txn} {es xs : List Entry} {ws left : List LookUp} {founds : List Record} → Peers ts us
-    → Matched (Like ts us) es xs → Serves ts es ws founds left → Serves us xs ws founds left
-serves-alike {xs = xs} p h (gone-through es) = gone-through xs
-serves-alike {us = us} {xs = xs} p h (is-found w e {es} {ws} {left} {founds} o s) =
+serves-alike : {k : ℕ} {ts us : List Txn} {es xs fs : List Entry} {ws left : List LookUp} {founds : List Record}
+    → Peers k ts us
+    → Matched (Like ts us) es xs → Serves ts es ws founds left fs
+    → (ys : List Entry) × Serves us xs ws founds left ys × Matched (Like ts us) fs ys
+serves-alike {xs = xs} p h (gone-through es) = (xs, gone-through xs, h)
+serves-alike {us = us} {xs = xs} p h (is-found w e {ws = ws} {left} {founds} o s) =
     let x = h .forth e (o .stored) in
-    subst⁻¹ (λ (r : Record). Serves us xs (w ∷ ws) (r ∷ founds) left) (found-same w (x .2))
-    (is-found w (x .0) (oldest-forth p h w (x .2) (x .1) o)
-    (serves-alike p (handOut-like p w (x .2) h) s))
-serves-alike p h (waits-on w q s) = waits-on w (sym (available-in p h w) ∙ q) (serves-alike p h s)
+    let r = serves-alike p (handOut-like p w (x .2) h) s in (
+      r .0,
+      subst⁻¹ (λ (a : Record). Serves us xs (w ∷ ws) (a ∷ founds) left (r .0)) (found-same w (x .2))
+          (is-found w (x .0) (oldest-forth p h w (x .2) (x .1) o) (r .1)),
+      r .2,
+    )
+serves-alike p h (waits-on w q s) =
+    let r = serves-alike p h s in (r .0, waits-on w (sym (available-in p h w) ∙ q) (r .1), r .2)
 
 -- ---- whole spaces
 
@@ -365,7 +379,7 @@ rest m = withEntries [] (withTxns [] m)
 
 pub record Twins (m n : Model) : Type 0 where
   pub same : rest m ≡ rest n
-  pub peers : Peers (m .txns) (n .txns)
+  pub peers : Peers (m .nextTxn) (m .txns) (n .txns)
   pub entries : Matched (Like (m .txns) (n .txns)) (m .entries) (n .entries)
 
 stored-twins : (f : Frame) {m n : Model} → Twins m n → Twins (stored m f) (stored n f)
@@ -457,40 +471,36 @@ module _ (f : Frame) {m n : Model} (t : Twins m n) where
   exceptions-same =
       ap (λ (rs : List Record). cond (isTick (f .op)) rs []) (exceptions-told (endNow m) (endNow n) ended-same)
 
-  nothings-same : (left : List LookUp) → nothings f m left ≡ nothings f n left
-  nothings-same left = ap (λ (k : Model). nothings f k left) (t .same)
-
-service-twins : {f : Frame} {m n : Model} {founds : List Record} {left : List LookUp} → Twins m n
-    → Service f m founds left → Service f n founds left
+service-twins : {f : Frame} {m n : Model} {founds : List Record} {left : List LookUp} {es : List Entry} → Twins m n
+    → Service f m founds left es
+    → (xs : List Entry) × Service f n founds left xs × Matched (Like (m .txns) (n .txns)) es xs
 service-twins {n = n} {founds} {left} t (follows s h) =
-    follows s (subst (λ (k : Model). Serves (n .txns) (n .entries) (k .waits) founds left) (t .same)
-    (serves-alike (t .peers) (t .entries) h))
-service-twins {f} {n = n} t (follows-not s) =
-    subst⁻¹ (λ (k : Model). Service f n [] (k .waits)) (t .same) (follows-not s)
+    let r = serves-alike (t .peers) (t .entries) h in (
+      r .0,
+      follows s (subst (λ (k : Model). Serves (n .txns) (n .entries) (k .waits) founds left (r .0)) (t .same) (r .1)),
+      r .2,
+    )
+service-twins {f} {n = n} t (follows-not s) = (
+  n .entries,
+  subst⁻¹ (λ (k : Model). Service f n [] (k .waits) (n .entries)) (t .same) (follows-not s),
+  t .entries,
+)
 
--- where nothing follows, the tables do not matter
-record Quiet (f : Frame) : Type 0 where
-  no-tick : isTick (f .op) ≡ false
-  not-served : isServed f ≡ false
+-- the same look-ups are given nothing
+nothings-same : {m n : Model} {es xs : List Entry} → Twins m n → Matched (Like (m .txns) (n .txns)) es xs
+    → (left : List LookUp) → nothings m es left ≡ nothings n xs left
+nothings-same {m} {n} {es} {xs} t h left =
+    ap (map nothing)
+    (filter-same (givenNothing m es) (givenNothing n xs)
+    (λ w. ap₂ (λ (k : Model) b. reached (k .clock) (w .deadline) || w .«if_exists» && not b) (t .same)
+    (conflicts-in (t .peers) h w)) left)
 
-lookUp-quiet : {f : Frame} → isLookUp (f .op) ≡ true → Quiet f
-lookUp-quiet {f} t = record { no-tick = lookUp-not-tick (f .op) t; not-served = lookUp-not-served f t }
-
-quiet-ends : {f : Frame} {m : Model} {rs : List Record} → Quiet f → Ends f m rs → rs ≡ []
-quiet-ends q (in-order (follows s h)) = absurd (true≢false (sym s ∙ q .not-served))
-quiet-ends {f} {m} q (in-order (follows-not s)) =
-    ap (λ b. cond b (map exception (endNow m)) [] ++ []
-    ++ cond b (map nothing (filterb (λ (w : LookUp). reached (m .clock) (w .deadline)) (lapsed f m .waits))) [])
-    (q .no-tick)
-
-ends-twins : {f : Frame} {m n : Model} {rs : List Record} → Twins m n ⊎ Quiet f → Ends f m rs → Ends f n rs
-ends-twins {f} {m} {n} (inl t) (in-order {founds} {left} s) =
-    subst⁻¹ (Ends f n) (ap₂ (λ (x y : List Record). x ++ founds ++ y) (exceptions-same f t) (nothings-same f t left))
-    (in-order (service-twins (lapsed-twins f t) s))
-ends-twins {f} {m} {n} (inr q) e =
-    subst⁻¹ (Ends f n) (quiet-ends q e)
-    (subst (Ends f n) (quiet-ends {m = n} q (in-order (follows-not (q .not-served))))
-    (in-order (follows-not (q .not-served))))
+ends-twins : {f : Frame} {m n : Model} {rs : List Record} → Twins m n → Ends f m rs → Ends f n rs
+ends-twins {f} {m} {n} t (in-order {founds} {left} s) =
+    let r = service-twins (lapsed-twins f t) s in
+    subst⁻¹ (Ends f n)
+    (ap₂ (λ (x y : List Record). x ++ founds ++ y) (exceptions-same f t) (nothings-same (lapsed-twins f t) (r .2) left))
+    (in-order (r .1))
 
 -- a frame's own part
 module _ (f : Frame) {m n : Model} (t : Twins m n) where
@@ -517,36 +527,108 @@ module _ (f : Frame) {m n : Model} (t : Twins m n) where
 renamed : {f : Frame} {m n : Model} {a b : Record} → a ≡ b → Own f m b n → Own f m a n
 renamed {f} {m} {n} q o = subst⁻¹ (λ r. Own f m r n) q o
 
-own-twins : {f : Frame} {m n m′ : Model} {a : Record} → Twins m n → Own f m a m′
-    → (n′ : Model) × Own f n a n′ × (Twins m′ n′ ⊎ Quiet f)
-own-twins {f} t (writes o) =
-    (_, renamed (ap (λ (k : Model). written f (k .nextEntry)) (t .same)) (writes o), inl (stored-twins f t))
-own-twins {f} {m} {n} t (finds e l o) =
+-- a transaction more, at a slot that is free in both: it holds nothing yet
+module _ {ts us : List Txn} {x y : Txn} (p : Peers (x .id .0) ts us) (same : liveOf x ≡ liveOf y)
+  (free : All (λ t. t .slot ≡ x .slot → ⊥) ts) (free′ : All (λ t. t .slot ≡ y .slot → ⊥) us) where
+  numbers : x .id .0 ≡ y .id .0
+  numbers = ap (λ (l : LiveTold). l .number) same
+
+  peers-snoc : Peers (x .id .0 + 1) (ts ++ (x ∷ [])) (us ++ (y ∷ []))
+  peers-snoc =
+      record {
+        counted = omega arith;
+        ok = txns-snoc x ts (p .counted) free (p .ok);
+        ok′ =
+            subst⁻¹ (λ n. TxnsOk (n + 1) (us ++ (y ∷ []))) numbers
+            (txns-snoc y us (subst (λ n. 0 < n) numbers (p .counted)) free′ (subst (λ n. TxnsOk n us) numbers (p .ok′)));
+        live =
+            live-ind (λ ts us. SameLive (ts ++ (x ∷ [])) (us ++ (y ∷ [])))
+            (ap {B = List LiveTold} (λ l. l ∷ []) same)
+            (λ a b ts us q below. ap₂ {C = List LiveTold} (λ l ls. l ∷ ls) q below) ts us (p .live);
+      }
+
+  held-snoc : {r q : ℕ} → Held ts us r q → Held (ts ++ (x ∷ [])) (us ++ (y ∷ [])) r q
+  held-snoc {r} {q} h =
+      record {
+        bits = λ a b i j.
+            all-snoc {Q = λ a. All (λ b. a .id .0 ≡ b .id .0 → bit (a .slot) r ≡ bit (b .slot) q) (us ++ (y ∷ []))} ts
+            (λ a i. all-snoc us (λ b j. h .bits a b i j) (λ e. absurd (let l = p .ok .below a i in let n = numbers in omega arith)))
+            (all-snoc us (λ b j e. absurd (let l = p .ok′ .below b j in omega arith))
+            (λ e. not-so (bit (x .slot) r) (λ t. let z = h .live (x .slot) t in free (z .0) (z .1) (z .2))
+            ∙ sym (not-so (bit (y .slot) q) (λ t. let z = h .live′ (y .slot) t in free′ (z .0) (z .1) (z .2)))))
+            a i b j;
+        live = λ k t. let z = h .live k t in (z .0, Memᴰ·append-left (x ∷ []) (z .1), z .2);
+        live′ = λ k t. let z = h .live′ k t in (z .0, Memᴰ·append-left (y ∷ []) (z .1), z .2);
+      }
+
+  entries-snoc : {es xs : List Entry} → Matched (Like ts us) es xs
+      → Matched (Like (ts ++ (x ∷ [])) (us ++ (y ∷ []))) es xs
+  entries-snoc h =
+      matched-so h (Like (ts ++ (x ∷ [])) (us ++ (y ∷ [])))
+      (λ e u l. record { kept = l .kept; owner = l .owner; taker = l .taker; held = held-snoc (l .held) })
+
+create-twins : (f : Frame) {m n : Model} → Twins m n → length (m .txns) < maxTxns → length (n .txns) < maxTxns
+    → Twins (create m f .model) (create n f .model)
+unfolding create
+create-twins f {m} {n} t r r′ =
+    let told : Model → LiveTold =
+    λ k. record { number = k .nextTxn; party = f .party; end = until (k .clock) (f .leaseOrTimeout) } in
+    let new : liveOf (newTxn m f) ≡ liveOf (newTxn n f) = ap told (t .same) in
+    let free = slot-free (m .txns) r in
+    let free′ = slot-free (n .txns) r′ in
+    record {
+      same = ap (λ k. withNextTxn (k .nextTxn + 1) k) (t .same);
+      peers = peers-snoc (t .peers) new free free′;
+      entries = entries-snoc (t .peers) new free free′ (t .entries);
+    }
+
+-- there is room for a transaction, if the frame creates one
+abbrev pub Roomy : Frame → Model → Type 0
+Roomy f m = isCreate (f .op) ≡ true → length (m .txns) < maxTxns
+
+own-twins : {f : Frame} {m n m′ : Model} {a : Record} → Twins m n → Roomy f m → Roomy f n → Own f m a m′
+    → (n′ : Model) × Own f n a n′ × Twins m′ n′
+own-twins {f} t r r′ (writes o) =
+    (_, renamed (ap (λ (k : Model). written f (k .nextEntry)) (t .same)) (writes o), stored-twins f t)
+own-twins {f} {m} {n} t r r′ (finds e l o) =
     let x = t .entries .forth e (o .stored) in
     let first = oldest-forth (t .peers) (t .entries) (lookUpOf m f) (x .2) (x .1) o in (
       _,
       renamed (found-same (lookUpOf m f) (x .2) ∙ ap (λ w. found w (x .0)) (asks-same f t))
           (finds (x .0) l (subst (λ w. Oldest (n .txns) w (n .entries) (x .0)) (asks-same f t) first)),
-      inr (lookUp-quiet l),
+      record {
+        same = t .same;
+        peers = t .peers;
+        entries =
+            subst
+            (λ w. Matched (Like (m .txns) (n .txns)) (handOut (m .txns) (lookUpOf m f) e (m .entries))
+            (handOut (n .txns) w (x .0) (n .entries)))
+            (asks-same f t) (handOut-like (t .peers) (lookUpOf m f) (x .2) (t .entries));
+      },
     )
-own-twins {f} t (finds-none o u g) = (
-  _,
+own-twins {f} {m} {n} t r r′ (finds-none o u g) = (
+  n,
   renamed (ap nothing (asks-same f t)) (finds-none o (sym (some-same f t) ∙ u) (sym (vain-same f t) ∙ g)),
-  inr (lookUp-quiet o),
+  t,
 )
-own-twins {f} t (waits o u g) = (
+own-twins {f} t r r′ (waits o u g) = (
   _,
   renamed (ap waiting (asks-same f t)) (waits o (sym (some-same f t) ∙ u) (sym (vain-same f t) ∙ g)),
-  inr (lookUp-quiet o),
+  record {
+    same = ap₂ (λ (k : Model) (w : LookUp). withWaits (k .waits ++ (w ∷ [])) k) (t .same) (asks-same f t);
+    peers = t .peers;
+    entries = t .entries;
+  },
 )
-own-twins {f} t (creates o) = (
+own-twins {f} t r r′ (creates o) = (
   _,
   renamed (ap (λ (k : Model). created f (k .nextTxn)) (t .same)) (creates o),
-  inr (record { no-tick = create-not-tick (f .op) o; not-served = served-at f (eqb-true (f .op) 6 o) }),
+  create-twins f t (r o) (r′ o),
 )
-own-twins {f} t (commits o) = (_, commits o, inl (commit-twins (f .txn) t))
-own-twins {f} t (aborts o) = (_, aborts o, inl (abort-twins (f .txn) t))
-own-twins t (ticks o) = (_, ticks o, inl (clock-twins t))
+own-twins {f} t r r′ (commits o) = (_, commits o, commit-twins (f .txn) t)
+own-twins {f} t r r′ (aborts o) = (_, aborts o, abort-twins (f .txn) t)
+own-twins t r r′ (ticks o) = (_, ticks o, clock-twins t)
 
-pub said-twins : {f : Frame} {m n : Model} {rs : List Record} → Twins m n → Said f m rs → Said f n rs
-said-twins t (own-first o e) = let r = own-twins t o in own-first (r .1) (ends-twins (r .2) e)
+pub said-twins : {f : Frame} {m n : Model} {rs : List Record} → Twins m n → Roomy f m → Roomy f n → Said f m rs
+    → Said f n rs
+said-twins t r r′ (own-first o e) = let n = own-twins t r r′ o in own-first (n .1) (ends-twins (n .2) e)

@@ -23,7 +23,8 @@ use Rattle.rules.specs.Done.{Carried, Done, after, quiet}
 use Rattle.rules.specs.LookUp.{lookUpOf, handOut, answer, answerNothing, answerWaiting}
 use Rattle.rules.specs.Transactions.{abort, takenBy}
 use Rattle.rules.specs.Service.{serve, service}
-use Rattle.rules.specs.Tick.{endedTxns, abortAll, dropEnded, closeWaits}
+use Rattle.rules.specs.Tick.{endedTxns, abortAll, dropEnded}
+use Rattle.rules.specs.Closing.{closeWaits}
 use Rattle.rules.specs.Refusals.{refusal}
 use Rattle.rules.specs.Write.{newEntry, stored}
 use Rattle.rules.specs.Step.{ownPart, carriedOut, accepted, refusedWith, step}
