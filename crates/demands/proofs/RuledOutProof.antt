@@ -25,11 +25,12 @@ use Rattle.demands.specs.Book.{enters, entersAll, arrives, keepBook, boo
 use Rattle.demands.specs.Told.{Told, readsNumber, whoTakes, whoReads, committedTold, privateTold, told}
 use Rattle.demands.specs.Bounds.{Ascending}
 use Rattle.demands.specs.Demands.{Demand1, Demand2, Demand3}
-use Rattle.demands.specs.Frames.{E, write-by, read-by, take-by, create-by, commit-by, abort-by, a-tick}
+use Rattle.demands.specs.Frames.{E, write-by, read-by, take-by, readIfExists-by, create-by, commit-by, abort-by, a-tick}
 use Rattle.demands.specs.RuledOut.{saysNothing, saysWaiting, refusesAll, sameRecord, storesNothing}
 use Rattle.demands.specs.RuledOut.{firstFrameOnly, oneMore, losesCommit, putsBackLate, ownReadBars, nothingFirst}
 use Rattle.demands.specs.RuledOut.{showsPrivate, ignoresWrites, writesTwice, ticksAtWrites, neverExpires}
 use Rattle.demands.specs.RuledOut.{lastExceptionFirst, lastServedFirst, servesEnded, newestFirst}
+use Rattle.demands.specs.RuledOut.{waitsInVain, givesUpFirst, byParty, nothingsByParty}
 use Rattle.demands.specs.RuledOut.{newestInService, takesLongCommits, gives14, keepsWithdrawn}
 use Rattle.demands.specs.RuledOut.{withdrawnGetsNothing, abortsAny, RuledOut}
 use Rattle.rules.proofs.ListLaws.{none-mem}
@@ -151,7 +152,8 @@ pub each-ruled-out : RuledOut
 unfolding all-rules all-told lastOf logOf answeredBy orderedb saysNothing saysWaiting refusesAll sameRecord
     storesNothing firstFrameOnly losesCommit putsBackLate ownReadBars nothingFirst showsPrivate ignoresWrites
     writesTwice ticksAtWrites neverExpires lastExceptionFirst lastServedFirst servesEnded newestFirst newestInService
-    takesLongCommits gives14 keepsWithdrawn withdrawnGetsNothing abortsAny enters entersAll arrives keepBook bookOf
+    takesLongCommits gives14 keepsWithdrawn withdrawnGetsNothing abortsAny waitsInVain givesUpFirst nothingsByParty
+    byParty enters entersAll arrives keepBook bookOf
 each-ruled-out =
     record {
       says-nothing = λ d.
@@ -243,5 +245,18 @@ each-ruled-out =
       aborts-any = λ d.
           let q : _≡_ {A = ℕ} 0 6 =
           by-judged abortsAny d (create-by 1 9 ∷ create-by 1 9 ∷ take-by 1 1 9 7 ∷ []) (abort-by 1 2) in omega arith;
+      -- the entry that party 2 asks for is taken by the transaction that wrote it: no point in waiting on
+      waits-in-vain = λ d.
+          by-said waitsInVain d (create-by 1 9 ∷ write-by 1 1 9 E ∷ readIfExists-by 2 0 9 7 ∷ []) (take-by 1 1 0 7) refl
+          refl length (λ (q : 2 ≡ 1). omega arith);
+      -- it is committed: found, where it would be given up before service
+      gives-up-first = λ d.
+          by-said givesUpFirst d (create-by 1 9 ∷ write-by 1 1 9 E ∷ readIfExists-by 2 0 9 7 ∷ []) (commit-by 1 1) refl
+          refl (kindAt 1) (λ (q : 2 ≡ 3). omega arith);
+      -- party 3 asked before party 2
+      nothings-by-party = λ d.
+          by-said nothingsByParty d
+          (create-by 1 9 ∷ write-by 1 1 9 E ∷ readIfExists-by 3 0 9 7 ∷ readIfExists-by 2 0 9 7 ∷ []) (abort-by 1 1)
+          refl refl (partyAt 1) (λ (q : 3 ≡ 2). omega arith);
       answers-none = λ d. d .answers [] empty (empty, refl, begun empty) (handIn a-tick) .2;
     }

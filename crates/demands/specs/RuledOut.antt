@@ -1,11 +1,11 @@
 -- What the demands rule out: a small wrong space for each of document 01's Contracts c, for each mistake that students
--- make, for silence, order and time, for the newest mark first, for frames of another length, for number 14 and for
--- aborts out of a wait; and the statement that the demand named for it fails. (`Determined` says that no wrong space is
--- left.)
+-- make, for silence, order and time, for the newest mark first, for frames of another length, for number 14, for
+-- aborts out of a wait and for waits in vain; and the statement that the demand named for it fails. (`Determined` says
+-- that no wrong space is left.)
 use Prim.Native.Nat.{suc, _+_}
-use mathlib.Core.Bool.{Bool, not, cond, _&&_, _||_}
+use mathlib.Core.Bool.{Bool, true, not, cond, _&&_, _||_}
 use mathlib.Core.Path.{_≡_}
-use mathlib.Core.List.{List, [], _∷_, _++_, map, reverse}
+use mathlib.Core.List.{List, [], _∷_, _++_, map, foldr, reverse}
 use lib.Dec.{eqb, leb}
 use lib.ListN.{length, take}
 use Rattle.rules.specs.declared.Entry.{Entry}
@@ -24,7 +24,7 @@ use Rattle.rules.specs.LookUp.{lookUpOf, handOut, answer, answerNothing, answer
 use Rattle.rules.specs.Transactions.{abort, takenBy}
 use Rattle.rules.specs.Service.{serve, service}
 use Rattle.rules.specs.Tick.{endedTxns, abortAll, dropEnded}
-use Rattle.rules.specs.Closing.{closeWaits}
+use Rattle.rules.specs.Closing.{isOver, closeWaits}
 use Rattle.rules.specs.Refusals.{refusal}
 use Rattle.rules.specs.Write.{newEntry, stored}
 use Rattle.rules.specs.Step.{ownPart, carriedOut, accepted, refusedWith, step}
@@ -42,9 +42,20 @@ carrying some wrongly m bs area =
 abbrev pub lookUps : Frame → Bool
 lookUps f = isLookUp (f .op)
 
--- a frame's own part, and no more
+-- a frame's own part, and who waits in vain from then on
 abbrev pub alone : Carried → Done
-alone c = after (c .own) (quiet (c .model))
+alone c = after (c .own) (closeWaits (c .model))
+
+-- one step's part, and then another
+abbrev pub then : (Model → Done) → (Model → Done) → Model → Done
+then first second m =
+    let a = first m in
+    let b = second (a .model) in
+    record { model = b .model; records = a .records ++ b .records }
+
+-- service, and then the nothings
+abbrev pub ending : Model → Done
+ending = then service closeWaits
 
 -- Contracts c, in its order
 
@@ -67,7 +78,7 @@ sameRecord m bs area = record { model = step m bs area .model; records = ticked 
 unfoldable pub storesNothing : Stepper
 storesNothing =
     carrying (λ f. isWrite (f .op))
-    (λ m f. record { model = withNextEntry (m .nextEntry + 1) m; records = written f (m .nextEntry) ∷ [] })
+    (λ m f. alone (record { model = withNextEntry (m .nextEntry + 1) m; own = written f (m .nextEntry) }))
 
 -- works on the first frame only: once a number has been given out, every frame is refused
 unfoldable pub firstFrameOnly : Stepper
@@ -89,7 +100,7 @@ inventedCount =
 
 -- honours a commit and loses it: the record says committed, the private entries go
 unfoldable pub losesCommit : Stepper
-losesCommit = carrying (λ f. isCommit (f .op)) (λ m f. after (committed f) (service (abort (f .txn) m)))
+losesCommit = carrying (λ f. isCommit (f .op)) (λ m f. after (committed f) (ending (abort (f .txn) m)))
 
 -- Mistakes that students make
 
@@ -101,20 +112,13 @@ tickWith drops closes m =
     let last = closes (drops (abortAll ended later)) in
     record { model = last .model; records = ticked ∷ map exception ended ++ last .records }
 
-abbrev pub then : (Model → Done) → (Model → Done) → Model → Done
-then first second m =
-    let a = first m in
-    let b = second (a .model) in
-    record { model = b .model; records = a .records ++ b .records }
-
 -- puts an entry back on abort after its lease ended: what is take-held is not dropped when its lease ends
 abbrev pub dropFree : Model → Model
 dropFree m = withEntries (filterb (λ e. not (reached (m .clock) (e .end)) || not (takenBy 0 e)) (m .entries)) m
 
 unfoldable pub putsBackLate : Stepper
 putsBackLate =
-    carrying (λ f. isTick (f .op))
-    (λ m f. tickWith dropFree (then service closeWaits) m)
+    carrying (λ f. isTick (f .op)) (λ m f. tickWith dropFree ending m)
 
 -- lets a transaction's own read bar its own take
 abbrev pub unreadByAny : LookUp → Entry → Bool
@@ -141,7 +145,8 @@ shown e m (w ∷ ws) =
 unfoldable pub showsPrivate : Stepper
 showsPrivate =
     carrying (λ f. isWrite (f .op) && not (eqb (f .txn) 0))
-    (λ m f. after (written f (m .nextEntry)) (shown (newEntry m f) (stored m f) (m .waits)))
+    (λ m f. after (written f (m .nextEntry))
+    (then (λ n. shown (newEntry m f) n (n .waits)) closeWaits (stored m f)))
 
 -- Silence, order and time
 
@@ -159,13 +164,13 @@ writesTwice =
 unfoldable pub ticksAtWrites : Stepper
 ticksAtWrites =
     carrying (λ f. isWrite (f .op))
-    (λ m f. then (λ n. carriedOut n f) (tickWith dropEnded (then service closeWaits)) m)
+    (λ m f. then (λ n. carriedOut n f) (tickWith dropEnded ending) m)
 
 -- lets no transaction expire
 unfoldable pub neverExpires : Stepper
 neverExpires =
     carrying (λ f. isTick (f .op))
-    (λ m f. after ticked (then service closeWaits (dropEnded (withClock (m .clock + 1) m))))
+    (λ m f. after ticked (ending (dropEnded (withClock (m .clock + 1) m))))
 
 -- gives the exceptions of a tick in another order than by number
 unfoldable pub lastExceptionFirst : Stepper
@@ -173,17 +178,19 @@ lastExceptionFirst =
     carrying (λ f. isTick (f .op))
     (λ m f. let later = withClock (m .clock + 1) m in
     let ended = reverse (endedTxns later) in
-    let last = then service closeWaits (dropEnded (abortAll ended later)) in
+    let last = ending (dropEnded (abortAll ended later)) in
     record { model = last .model; records = ticked ∷ map exception ended ++ last .records })
 
 -- serves the last that arrived first
+abbrev pub lastServed : Model → Done
+lastServed m =
+    let r = serve (m .txns) (m .entries) (reverse (m .waits)) in
+    record { model = withEntries (r .entries) (withWaits (reverse (r .waits)) m); records = r .records }
+
 unfoldable pub lastServedFirst : Stepper
 lastServedFirst =
     carrying (λ f. isWrite (f .op))
-    (λ m f. let n = stored m f in
-    let r = serve (n .txns) (n .entries) (reverse (n .waits)) in
-    let left = withEntries (r .entries) (withWaits (reverse (r .waits)) n) in
-    after (written f (m .nextEntry)) (record { model = left; records = r .records }))
+    (λ m f. after (written f (m .nextEntry)) (then lastServed closeWaits (stored m f)))
 
 -- serves before it removes the entries that end now
 unfoldable pub servesEnded : Stepper
@@ -210,8 +217,8 @@ unfoldable pub newestInService : Stepper
 newestInService =
     carrying serves
     (λ m f. let c = ownPart m f in
-    let others = after (c .own) (newestServed (c .model)) in
-    cond (isTick (f .op)) (tickWith dropEnded (then newestServed closeWaits) m) others)
+    let last = then newestServed closeWaits in
+    cond (isTick (f .op)) (tickWith dropEnded last m) (after (c .own) (last (c .model))))
 
 -- "Every frame is judged as before" (document 02, T-06)
 
@@ -235,14 +242,14 @@ gives14 m bs area =
 unfoldable pub keepsWithdrawn : Stepper
 keepsWithdrawn =
     carrying (λ f. isAbort (f .op))
-    (λ m f. after (aborted f) (service (withWaits (m .waits) (abort (f .txn) m))))
+    (λ m f. after (aborted f) (ending (withWaits (m .waits) (abort (f .txn) m))))
 
 -- it gets nothing besides the abort's own record
 unfoldable pub withdrawnGetsNothing : Stepper
 withdrawnGetsNothing =
     carrying (λ f. isAbort (f .op))
     (λ m f. let gone = filterb (λ w. eqb (w .txn .0) (f .txn)) (m .waits) in
-    let served = service (abort (f .txn) m) in
+    let served = ending (abort (f .txn) m) in
     after (aborted f) (record { model = served .model; records = served .records ++ map nothing gone }))
 
 -- an abort is let through for another transaction than the one waited in
@@ -250,6 +257,44 @@ unfoldable pub abortsAny : Stepper
 abortsAny m bs area =
     let f = decode bs in
     cond (isAbort (f .op) && eqb (refusal m bs area) waitingRefused) (accepted (carriedOut m f)) (step m bs area)
+
+-- "No point in waiting on" (document 02, T-07)
+
+-- a step whose nothings are others than the rules'
+abbrev pub closingBy : (Model → Done) → Stepper
+closingBy closes =
+    carrying (λ f. true)
+    (λ m f. let c = ownPart m f in
+    let last = cond (serves f) (then service closes) closes in
+    cond (isTick (f .op)) (tickWith dropEnded last m) (after (c .own) (last (c .model))))
+
+-- the old rule: waits on to its deadline
+unfoldable pub waitsInVain : Stepper
+waitsInVain =
+    closingBy
+    (λ m. record {
+      model = withWaits (filterb (λ w. not (reached (m .clock) (w .deadline))) (m .waits)) m;
+      records = map nothing (filterb (λ w. reached (m .clock) (w .deadline)) (m .waits));
+    })
+
+-- gives up a look-up before service has looked for it
+unfoldable pub givesUpFirst : Stepper
+givesUpFirst =
+    carrying (λ f. serves f && not (isTick (f .op)))
+    (λ m f. let c = ownPart m f in after (c .own) (then closeWaits service (c .model)))
+
+-- gives the nothings by party, not in order of arrival
+unfoldable pub byParty : LookUp → List LookUp → List LookUp
+byParty w [] = w ∷ []
+byParty w (v ∷ vs) = cond (leb (w .party) (v .party)) (w ∷ v ∷ vs) (v ∷ byParty w vs)
+
+unfoldable pub nothingsByParty : Stepper
+nothingsByParty =
+    closingBy
+    (λ m. record {
+      model = closeWaits m .model;
+      records = map nothing (foldr byParty [] (filterb (isOver m) (m .waits)));
+    })
 
 -- answers no frame at all
 abbrev pub mute : Machine
@@ -283,4 +328,7 @@ pub record RuledOut : Type 0 where
   pub keeps-withdrawn : Demand2 (spaceOf keepsWithdrawn) → ⊥
   pub withdrawn-gets-nothing : Demand2 (spaceOf withdrawnGetsNothing) → ⊥
   pub aborts-any : Demand1 (spaceOf abortsAny) → ⊥
+  pub waits-in-vain : Demand2 (spaceOf waitsInVain) → ⊥
+  pub gives-up-first : Demand2 (spaceOf givesUpFirst) → ⊥
+  pub nothings-by-party : Demand2 (spaceOf nothingsByParty) → ⊥
   pub answers-none : Demand1 mute → ⊥
