@@ -138,13 +138,13 @@ module _ (ws : List ℕ) (t : TxnId) (p : ℕ) (q : p ≡ slotOf (liveTxn (t .0)
 
   -- the pass, the look-ups inside, and then the transaction is live no longer
   pub aborted-model : (m₁ m₂ m₃ : Model) → m₁ ≡ sweepModel (Abort t p) (view ws)
-      → m₂ ≡ withWaits (filterb (stays (Inside t)) (m₁ .waits)) m₁
+      → m₂ ≡ withWaits (filterb (stays m₁ (Inside t)) (m₁ .waits)) m₁
       → m₃ ≡ withTxns (withoutTxn (t .0) (m₂ .txns)) m₂ → m₃ ≡ abort (t .0) (view ws)
   unfolding sweepModel abort released releasedAt
   aborted-model m₁ m₂ m₃ e f g =
       g
       ∙ ap (λ (m : Model). withTxns (withoutTxn (t .0) (m .txns)) m) (f
-      ∙ ap (λ (m : Model). withWaits (filterb (stays (Inside t)) (m .waits)) m) e)
+      ∙ ap (λ (m : Model). withWaits (filterb (stays m (Inside t)) (m .waits)) m) e)
       ∙ sym (ap (λ drop. ended (map (releasedBy drop (t .0))
       (filterb (λ x. not (privateTo (t .0) x)) (view ws .entries)))
-      (withWaits (filterb (stays (Inside t)) (view ws .waits)) (view ws))) (drops ws (t .0) p q))
+      (withWaits (filterb (stays (view ws) (Inside t)) (view ws .waits)) (view ws))) (drops ws (t .0) p q))

@@ -5,6 +5,7 @@ ghost use Rattle.rules.specs.Lists.{filterb};
 ghost use Rattle.rules.specs.Words.{view};
 ghost use Rattle.rules.specs.Transactions.{commit, abort};
 ghost use Rattle.holds.specs.Leave.{leaves, stays};
+use crate::find::is_over;
 use crate::live::remove_txn;
 use crate::live::slot_of;
 use crate::sweep::Sweep;
@@ -16,39 +17,36 @@ use words::rows::move_wait;
 use words::rows::set_wait_count;
 use words::rows::wait_at;
 use words::rows::wait_count;
-use words::time::reached_at;
 
 // Look-ups that leave together.
 pub enum Leave {
     // Those that wait inside the transaction: it is aborted.
     Inside(TxnId),
-    // Those whose deadline the clock has reached.
-    Reached(u32),
+    // Those whose deadline is reached, or that wait in vain.
+    Over,
 }
 
-pub(crate) fn is_leaving(l: Leave, w: LookUp) -> bool
-    ensures { λ r. ⌜ r ≡ leaves l w ⌝ }
+pub(crate) fn is_leaving(space: &Words, l: Leave, w: LookUp) -> bool
+    ensures { λ r. ⌜ r ≡ leaves (view (now (space .entry))) l w ⌝ }
 {
     match l {
         Leave::Inside(t) => w.txn.0 == t.0,
-        Leave::Reached(clock) => {
-            let deadline = w.deadline;
-            reached_at(clock, deadline)
-        }
+        Leave::Over => is_over(space, w),
     }
 }
 
 // The others wait on, in order of arrival.
 pub fn leave_waits(space: &mut Words, l: Leave)
     ensures { λ _. ⌜ view (now (space .exit))
-        ≡ withWaits (filterb (stays l) (view (now (space .entry)) .waits)) (view (now (space .entry))) ⌝ }
+        ≡ withWaits (filterb (stays (view (now (space .entry))) l) (view (now (space .entry)) .waits))
+        (view (now (space .entry))) ⌝ }
 {
     let count = wait_count(space);
     let mut i: usize = 0;
     let mut n: usize = 0;
     while i < count {
         let w = wait_at(space, i);
-        if is_leaving(l, w) {
+        if is_leaving(space, l, w) {
             i += 1;
             continue;
         }

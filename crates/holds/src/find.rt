@@ -1,17 +1,21 @@
-// The search of the entries for a look-up.
+// The search of the entries for a look-up, and whether it waits in vain.
 ghost use mathlib.Core.Path.{_≡_};
 ghost use Prim.Native.Nat.{_≤_};
 ghost use Rattle.rules.specs.Words.{view};
+ghost use Rattle.rules.specs.Closing.{isOver};
 ghost use Rattle.rules.specs.Holds.{liveTxn, oldest, someConflicts};
 ghost use Rattle.holds.specs.Live.{noSlot, slotOf};
 ghost use Rattle.holds.specs.Find.{matchOf};
 use crate::holds::is_available;
 use crate::holds::is_conflicting;
+use crate::live::slot_of;
 use rules::Entry;
 use rules::LookUp;
 use words::rows::Words;
+use words::rows::clock;
 use words::rows::entry_at;
 use words::rows::entry_count;
+use words::time::reached_at;
 
 // An available entry, or none.
 pub enum Match {
@@ -51,4 +55,21 @@ pub fn any_conflict(space: &Words, w: LookUp, p: u8) -> bool
         i += 1;
     }
     false
+}
+
+// Whether a waiting look-up is over: its deadline is reached, or it is of an IfExists kind and no entry conflicts.
+pub fn is_over(space: &Words, w: LookUp) -> bool
+    ensures { λ r. ⌜ r ≡ isOver (view (now (space .entry))) w ⌝ }
+{
+    let deadline = w.deadline;
+    if reached_at(clock(space), deadline) {
+        return true;
+    }
+    if w.if_exists {
+        let txn = w.txn;
+        let p = slot_of(space, txn);
+        !any_conflict(space, w, p)
+    } else {
+        false
+    }
 }

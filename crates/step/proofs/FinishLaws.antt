@@ -14,8 +14,7 @@ use Rattle.rules.specs.Done.{Done}
 use Rattle.rules.specs.Frame.{Frame}
 use Rattle.rules.specs.Records.{nothing}
 use Rattle.rules.specs.Step.{finish}
-use Rattle.rules.specs.Tick.{closeWaits}
-use Rattle.rules.specs.Time.{reached}
+use Rattle.rules.specs.Closing.{isOver, closeWaits}
 use Rattle.rules.specs.Words.{view}
 use Rattle.rules.proofs.BoolLaws.{bool-cases, cond-cases}
 use Rattle.rules.proofs.Capacity.{lapsed-fits, service-fits}
@@ -23,17 +22,17 @@ use Rattle.rules.proofs.ListLaws.{filter-pass, count-mem}
 use Rattle.rules.proofs.ViewLaws.{view-bounded}
 use Rattle.step.specs.declared.finish.Ending.{Ending}
 use Rattle.step.specs.Does.{Does}
-use Rattle.step.specs.Ending.{inTick, served, EndsAs, endedBy, servedBy, closedBy}
+use Rattle.step.specs.Ending.{inTick, served, EndsAs, endedBy, servedBy}
 use Rattle.step.proofs.AddsLaws.{does-then}
 
--- none is due: all wait on
+-- none is over: all wait on
 pub none-closed : (m : Model) → length (closeWaits m .records) ≡ 0 → m ≡ closeWaits m .model
 unfolding closeWaits
 none-closed m e =
     ap (λ ws. withWaits ws m) (sym (filter-pass (λ w. not (due w)) (m .waits) (λ w i. ap not (not-due w i))))
   where
     due : LookUp → Bool
-    due w = reached (m .clock) (w .deadline)
+    due w = isOver m w
 
     not-due : (w : LookUp) → List·Memᴰ w (m .waits) → due w ≡ false
     not-due w i =
@@ -56,10 +55,10 @@ module _ (ws : List ℕ) (e : Ending) where
 pub finish-parts : {ws₁ ws₂ ws₃ a a₁ a₂ a₃ : List ℕ} {c c₁ c₂ c₃ : ℕ} (ws : List ℕ) (e : Ending)
     → recordSize * c ≤ length a
     → Does (endedBy e (view ws)) ws₁ a a₁ c c₁ → Does (servedBy e (view ws₁)) ws₂ a₁ a₂ c₁ c₂
-    → Does (closedBy e (view ws₂)) ws₃ a₂ a₃ c₂ c₃
+    → Does (closeWaits (view ws₂)) ws₃ a₂ a₃ c₂ c₃
     → (f : Frame) → EndsAs f e → Does (finish f (view ws)) ws₃ a a₃ c c₃
 unfolding finish
 finish-parts {ws₂ = ws₂} {ws₃ = ws₃} {a₁ = a₁} {a₂ = a₂} {a₃ = a₃} {c₁ = c₁} {c₂ = c₂} {c₃ = c₃} ws e room p q r f k =
     let q′ = subst (λ m. Does (servedBy e m) ws₂ a₁ a₂ c₁ c₂) (p .model) q in
-    let r′ = subst (λ m. Does (closedBy e m) ws₃ a₂ a₃ c₂ c₃) (q′ .model) r in
+    let r′ = subst (λ m. Does (closeWaits m) ws₃ a₂ a₃ c₂ c₃) (q′ .model) r in
     rw (k .tick, k .service) (does-then room (does-then room p q′) r′)

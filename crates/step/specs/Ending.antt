@@ -5,7 +5,7 @@ use Rattle.rules.specs.State.{Model}
 use Rattle.rules.specs.Done.{Done, quiet}
 use Rattle.rules.specs.Frame.{Frame, isTick, serves}
 use Rattle.rules.specs.Service.{service}
-use Rattle.rules.specs.Tick.{lapsed, closeWaits}
+use Rattle.rules.specs.Tick.{lapsed}
 use Rattle.step.specs.declared.finish.Ending.{Ending}
 use Rattle.step.specs.declared.finish.Ending.the-variants.{Quiet, Service, Tick}
 
@@ -25,12 +25,9 @@ pub record EndsAs (f : Frame) (e : Ending) : Type 0 where
   pub tick : isTick (f .op) ≡ inTick e
   pub service : serves f ≡ served e
 
--- the parts of the rules' `finish`: what ends now, service, and the look-ups that are closed
+-- the parts of the rules' `finish` that not every frame has: what ends now, and service
 abbrev pub endedBy : Ending → Model → Done
 endedBy e m = cond (inTick e) (lapsed m) (quiet m)
 
 abbrev pub servedBy : Ending → Model → Done
 servedBy e m = cond (served e) (service m) (quiet m)
-
-abbrev pub closedBy : Ending → Model → Done
-closedBy e m = cond (inTick e) (closeWaits m) (quiet m)

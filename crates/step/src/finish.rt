@@ -1,4 +1,4 @@
-// What every carried-out frame ends with: what ends now, service, and the look-ups that are closed.
+// What every carried-out frame ends with: what ends now, service, and the look-ups that get nothing.
 ghost use Prim.Native.Nat.{_+_, _*_, _≤_};
 ghost use lib.ListN.{length};
 ghost use Rattle.rules.specs.Frame.{Frame};
@@ -7,9 +7,9 @@ ghost use Rattle.rules.specs.Requests.{frameOf};
 ghost use Rattle.rules.specs.Step.{finish as finishFrame};
 ghost use Rattle.rules.specs.Words.{view};
 ghost use Rattle.step.specs.Does.{Does};
-ghost use Rattle.step.specs.Ending.{EndsAs, endedBy, servedBy, closedBy};
+ghost use Rattle.step.specs.Ending.{EndsAs, endedBy, servedBy};
+use crate::closing::close_waits;
 use crate::service::serve_waits;
-use crate::tick::close_waits;
 use crate::tick::lapse;
 use rules::Request;
 use words::rows::Words;
@@ -67,19 +67,6 @@ pub(crate) fn serve(space: &mut Words, answers: &mut [u8], count: usize, ending:
     }
 }
 
-// Closings: in a tick, of the look-ups whose deadline is reached.
-pub(crate) fn close(space: &mut Words, answers: &mut [u8], count: usize, ending: Ending) -> usize
-    requires { ⌜ recordSize * (count + length (view (now space) .waits)) ≤ length (now answers) ⌝ }
-    ensures { λ n. ⌜ Does (closedBy ending (view (now (space .entry)))) (now (space .exit))
-        (now (answers .entry)) (now (answers .exit)) count n ⌝ }
-{
-    match ending {
-        Ending::Quiet => count,
-        Ending::Service => count,
-        Ending::Tick => close_waits(space, answers, count),
-    }
-}
-
 // What every carried-out frame ends with, behind the `count` records that stand in the answers area. The number
 // afterwards is returned.
 pub(crate) fn finish(space: &mut Words, answers: &mut [u8], count: usize, ending: Ending) -> usize
@@ -89,5 +76,5 @@ pub(crate) fn finish(space: &mut Words, answers: &mut [u8], count: usize, ending
 {
     let ended = end_now(space, answers, count, ending);
     let served = serve(space, answers, ended, ending);
-    close(space, answers, served, ending)
+    close_waits(space, answers, served)
 }

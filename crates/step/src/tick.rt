@@ -1,4 +1,4 @@
-// What ends in a tick: transactions, entries, and look-ups whose deadline is reached.
+// What ends in a tick: transactions and entries.
 ghost use mathlib.Core.Path.{_≡_};
 ghost use Prim.Native.Nat.{_+_, _*_, _≤_};
 ghost use mathlib.Core.List.{map};
@@ -6,26 +6,21 @@ ghost use lib.ListN.{length};
 ghost use Rattle.rules.specs.Lists.{findb};
 ghost use Rattle.rules.specs.Numbers.{maxTxns, recordSize};
 ghost use Rattle.rules.specs.Records.{exception};
-ghost use Rattle.rules.specs.Tick.{endedTxns, abortAll, lapsed, closeWaits};
+ghost use Rattle.rules.specs.Tick.{endedTxns, abortAll, lapsed};
 ghost use Rattle.rules.specs.Time.{reached};
 ghost use Rattle.rules.specs.Words.{view};
 ghost use Rattle.holds.specs.Live.{liveOf};
 ghost use Rattle.step.specs.Does.{Adds, Does};
 use crate::answers::add_record;
 use codec::records::plain_record;
-use holds::endings::Leave;
 use holds::endings::abort_txn;
-use holds::endings::leave_waits;
 use holds::live::Live;
 use holds::sweep::drop_ended;
 use rules::numbers::KIND_EXCEPTION;
-use rules::numbers::KIND_NOTHING;
 use words::rows::Words;
 use words::rows::clock;
 use words::rows::txn_at;
 use words::rows::txn_count;
-use words::rows::wait_at;
-use words::rows::wait_count;
 use words::time::reached_at;
 
 // An exception for each transaction that ends now, by number.
@@ -93,43 +88,5 @@ pub(crate) fn lapse(space: &mut Words, answers: &mut [u8], count: usize) -> usiz
     let done = put_exceptions(space, answers, count);
     abort_ended(space);
     drop_ended(space);
-    done
-}
-
-// A nothing for each waiting look-up whose deadline is reached, in order of arrival.
-pub(crate) fn put_nothings(space: &Words, answers: &mut [u8], count: usize) -> usize
-    requires { ⌜ recordSize * (count + length (view (now space) .waits)) ≤ length (now answers) ⌝ }
-    ensures { λ n. ⌜ Adds (closeWaits (view (now (space .entry))) .records)
-        (now (answers .entry)) (now (answers .exit)) count n ⌝ }
-{
-    let now = clock(space);
-    let waits = wait_count(space);
-    let mut done = count;
-    let mut i: usize = 0;
-    while i < waits {
-        let w = wait_at(space, i);
-        let deadline = w.deadline;
-        i += 1;
-        if !reached_at(now, deadline) {
-            continue;
-        }
-        let r = plain_record(KIND_NOTHING, w.party, w.txn);
-        done = add_record(answers, done, r);
-    }
-    done
-}
-
-// Waiting look-ups whose deadline is reached get nothing, in order of arrival, and wait no longer.
-pub(crate) fn close_waits(space: &mut Words, answers: &mut [u8], count: usize) -> usize
-    requires { ⌜ recordSize * (count + length (view (now space) .waits)) ≤ length (now answers) ⌝ }
-    ensures { λ n. ⌜ Does (closeWaits (view (now (space .entry)))) (now (space .exit))
-        (now (answers .entry)) (now (answers .exit)) count n ⌝ }
-{
-    let done = put_nothings(space, answers, count);
-    if done == count {
-        return done;
-    }
-    let now = clock(space);
-    leave_waits(space, Leave::Reached(now));
     done
 }

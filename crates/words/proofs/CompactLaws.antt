@@ -107,6 +107,15 @@ module _ {A : Type 0} {t : Table A} {keep : A → Bool} {change : A → A} where
           (omega (arith, c .but .long, row-within (t .width) (t .base) i (t .most) h)) in
           compact-put (row (t .base) (t .width) ws i) p long (sym e ∙ sym q)
 
+  -- whatever stands in the rows meanwhile, the other tables stay
+  pub compact-mid : {ws₀ ws : List ℕ} {i n : ℕ} → Compacting t keep change ws₀ ws i n → i ≤ t .most
+      → Turned t ws ws₀ (all t ws)
+  compact-mid {i = i} c h =
+      record {
+        but = but-wider (omega (arith, mul-le-mul-left {m = i} {n = t .most} (t .width) h)) (c .but);
+        now = refl;
+      }
+
   -- the count is set
   pub compact-done : {ws₀ ws ws′ : List ℕ} {i n : ℕ} → Compacting t keep change ws₀ ws i n
       → ws′ ≡ set ws (t .countAt) n → i ≡ count t ws₀ → end t ≤ length ws₀

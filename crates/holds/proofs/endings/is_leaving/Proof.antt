@@ -7,7 +7,7 @@ returns : tie.Need-returns
 returns c = rw (c .before .before .before .l .given .1)
 
 returns-2 : tie.Need-returns-2
-returns-2 c = rw (c .reached-at .ensures, c .before .before .l2 .given .1)
+returns-2 c = rw (c .is-over .ensures, c .before .enum-told .given .1)
 
 pub is-leaving-spec : {M : Type 1} → statement M
 is-leaving-spec =

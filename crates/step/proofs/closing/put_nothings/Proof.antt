@@ -1,4 +1,4 @@
--- `step::tick::put_nothings` meets its contract. The loop's invariant: of the look-ups passed, those whose deadline is
+-- `step::closing::put_nothings` meets its contract. The loop's invariant: of the look-ups passed, those whose deadline is
 -- reached have their nothings. Assumes nothing.
 use Prim.Native.Nat.{ℕ, _≤_, _-_}
 use mathlib.Core.Bool.{Bool}
@@ -14,8 +14,8 @@ use Rattle.words.specs.Rows.{waitRow}
 use Rattle.words.proofs.Tables.{waits-read, length-waits}
 use Rattle.step.proofs.AnsweredLaws.{Answered, answered-start, answered-length, answered-room, answered-passed}
 use Rattle.step.proofs.AnsweredLaws.{answered-more, answered-all}
-use Rattle.step.proofs.tick.put_nothings.Statement.{statement}
-use Rattle.step.proofs.tick.put_nothings.Tie as tie
+use Rattle.step.proofs.closing.put_nothings.Statement.{statement}
+use Rattle.step.proofs.closing.put_nothings.Tie as tie
 
 abbrev due : ℕ → LookUp → Bool
 due now w = reached now (w .deadline)
