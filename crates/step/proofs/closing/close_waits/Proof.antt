@@ -14,11 +14,10 @@ returns c =
 returns-2 : tie.Need-returns-2
 unfolding closeWaits
 returns-2 c =
-    record { model = c .leave-waits .ensures; adds = c .before .before .before .before .put-nothings .ensures }
+    record { model = c .leave-waits .ensures; adds = c .before .before .before .before .before .put-nothings .ensures }
 
 pub close-waits-spec : {M : Type 1} → statement M
 close-waits-spec =
     tie.close
     (tie.spec
-    (λ c κs. search needs) (λ c. search needs) returns (λ c κs. search needs) (λ c κs. search needs)
-    (λ c. search needs) returns-2)
+    (λ c κs. search needs) (λ c. search needs) returns (λ c κs. search needs) (λ c. search needs) returns-2)

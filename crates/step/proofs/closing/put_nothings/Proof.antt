@@ -1,14 +1,12 @@
--- `step::closing::put_nothings` meets its contract. The loop's invariant: of the look-ups passed, those whose deadline is
--- reached have their nothings. Assumes nothing.
-use Prim.Native.Nat.{ℕ, _≤_, _-_}
-use mathlib.Core.Bool.{Bool}
-use mathlib.Core.Path.{_≡_, sym, _∙_}
+-- `step::closing::put_nothings` meets its contract. The loop's invariant: of the look-ups passed, those that are over
+-- have their nothings. Assumes nothing.
+use Prim.Native.Nat.{_≤_, _-_}
+use mathlib.Core.Path.{sym, _∙_}
 use native.Mathlib.Omega.{arith}
+use borrow.Author.Needs.{needs}
 use borrow.Author.Tests.{not-true, not-false}
-use Rattle.rules.specs.declared.LookUp.{LookUp}
+use Rattle.rules.specs.Closing.{isOver, closeWaits}
 use Rattle.rules.specs.Records.{nothing}
-use Rattle.rules.specs.Tick.{closeWaits}
-use Rattle.rules.specs.Time.{reached}
 use Rattle.rules.specs.Words.{view}
 use Rattle.words.specs.Rows.{waitRow}
 use Rattle.words.proofs.Tables.{waits-read, length-waits}
@@ -17,33 +15,25 @@ use Rattle.step.proofs.AnsweredLaws.{answered-more, answered-all}
 use Rattle.step.proofs.closing.put_nothings.Statement.{statement}
 use Rattle.step.proofs.closing.put_nothings.Tie as tie
 
-abbrev due : ℕ → LookUp → Bool
-due now w = reached now (w .deadline)
-
 abbrev Inv-loop : tie.InvT-loop
-Inv-loop space answers₀ count now waits done₀ i₀ answers done i =
-    (i ≤ waits) × Answered (due now) nothing (waitRow space) answers₀ answers count done i × (now ≡ view space .clock)
+Inv-loop space answers₀ count waits done₀ i₀ answers done i =
+    (i ≤ waits) × Answered (isOver (view space)) nothing (waitRow space) answers₀ answers count done i
 
 abbrev μ-loop : tie.MeasureT-loop
-μ-loop space answers₀ count now waits done₀ i₀ answers done i = waits - i
-
-loop-holds : tie.Need-loop-holds Inv-loop μ-loop
-loop-holds c = (omega arith, answered-start, c .before .clock .ensures)
+μ-loop space answers₀ count waits done₀ i₀ answers done i = waits - i
 
 loop-again : tie.Need-loop-again Inv-loop μ-loop
 loop-again c =
     let l = c .before .before .before .before .loop in (
       omega arith,
       answered-passed (l .inv .1) (c .before .before .wait-at .ensures)
-          (sym (c .before .reached-at .ensures) ∙ not-true _ (c .if1 .taken)),
-      l .inv .2,
+          (sym (c .before .is-over .ensures) ∙ not-true _ (c .if1 .taken)),
     )
 
 add-record-requires : tie.Need-add-record-requires Inv-loop μ-loop
 add-record-requires c κs =
     let loop = c .before .before .before .before .before .before in
-    answered-room (loop .loop .inv .1)
-    (omega (arith, length-waits (loop .before .before .before .before .args .space .now)))
+    answered-room (loop .loop .inv .1) (omega (arith, length-waits (loop .before .before .before .args .space .now)))
 
 loop-again-2 : tie.Need-loop-again-2 Inv-loop μ-loop
 unfolding nothing
@@ -51,29 +41,27 @@ loop-again-2 c =
     let made = c .before .before .before .before in
     let test = made .before .before in
     let l = test .before .before .before .loop in
-    let is-due = sym (test .reached-at .ensures) ∙ not-false _ (made .before .if1 .left) in (
+    let over = sym (test .is-over .ensures) ∙ not-false _ (made .before .if1 .left) in (
       omega arith,
-      answered-more (l .inv .1) (test .before .wait-at .ensures) is-due (made .plain-record .ensures)
-          (omega arith) (c .before .before .add-record .ensures),
-      l .inv .2,
+      answered-more (l .inv .1) (test .before .wait-at .ensures) over (made .plain-record .ensures) (omega arith)
+          (c .before .before .add-record .ensures),
     )
 
 same-length : tie.Need-same-length Inv-loop μ-loop
 same-length c =
     answered-length (c .before .loop .inv .1)
-    (omega (arith, length-waits (c .before .before .before .before .before .args .space .now)))
+    (omega (arith, length-waits (c .before .before .before .before .args .space .now)))
 
 returns : tie.Need-returns Inv-loop μ-loop
 unfolding closeWaits
 returns c =
-    let l = c .before .loop in
-    let s = c .before .before .before .before .before .args .space .now in
-    rw (sym (l .inv .2)) (answered-all (waits-read s) (omega arith) (l .inv .1))
+    let s = c .before .before .before .before .args .space .now in
+    answered-all (waits-read s) (omega arith) (c .before .loop .inv .1)
 
 pub put-nothings-spec : {M : Type 1} → statement M
 put-nothings-spec =
     tie.close
     (tie.spec
-    Inv-loop μ-loop (λ c κs. tt) (λ c κs. tt) loop-holds (λ c κs. omega arith) (λ c. omega arith) (λ c κs. tt)
-    (λ c. omega arith) loop-again (λ c κs. tt) add-record-requires (λ c. omega arith) loop-again-2 same-length
-    returns)
+    Inv-loop μ-loop (λ c κs. tt) (λ c. (omega arith, answered-start)) (λ c κs. omega arith) (λ c. omega arith)
+    (λ c κs. tt) (λ c. omega arith) loop-again (λ c κs. tt) add-record-requires (λ c. omega arith) loop-again-2
+    same-length returns)
