@@ -131,7 +131,10 @@ impl Space {
         }
         let mut answers = Answers::new(area);
         let number = match decode(frame).and_then(|request| self.perform(request, &mut answers)) {
-            Ok(()) => 0,
+            Ok(()) => {
+                self.close_waits(&mut answers);
+                0
+            }
             Err(refusal) => {
                 let party = frame.get(1).copied().unwrap_or(0);
                 let number = refusal as u8;
@@ -364,13 +367,21 @@ impl Space {
         }
         self.entries.retain(|entry| !entry.end.reached(clock));
         self.serve(answers);
+        Ok(())
+    }
+
+    /// Nothing, in order of arrival, for each waiting look-up whose deadline is reached, and, by document 02 "after every
+    /// frame that is not refused, once service is over", for each "waiting IfExists look-up with no conflicting entry
+    /// left".
+    fn close_waits(&mut self, answers: &mut Answers) {
+        let (clock, entries) = (self.clock, &self.entries);
         self.waiting.retain(|look_up| {
-            let over = look_up.deadline.reached(clock);
+            let in_vain = look_up.kind.if_exists && !entries.iter().any(|entry| entry.conflicts(look_up));
+            let over = look_up.deadline.reached(clock) || in_vain;
             if over {
                 answers.put(Record::new(Kind::Nothing, look_up.party, look_up.transaction));
             }
             !over
         });
-        Ok(())
     }
 }

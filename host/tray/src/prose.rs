@@ -45,12 +45,17 @@ pub fn record_words(record: &Record, clock: u32) -> String {
     }
 }
 
-/// A record of a frame in words, with what the tables tell besides: whether an abort withdraws a look-up.
+/// A record of a frame in words, with what the tables tell besides: whether an abort withdraws a look-up, and why a wait
+/// ends with nothing.
 pub fn told(history: &History, place: usize, record: &Record) -> String {
-    let words = record_words(record, history.steps[place].after.clock);
-    match withdraws(record, history.before(place)) {
-        true => words + "; its look-up is withdrawn",
-        false => words,
+    let (before, clock) = (history.before(place), history.steps[place].after.clock);
+    let words = record_words(record, clock);
+    let waited = before.look_up(record.party).filter(|_| record.kind == NOTHING);
+    match waited.map(|look_up| look_up.deadline) {
+        Some(End::At(deadline)) if deadline <= clock => words + "; its deadline is reached",
+        Some(_) => words + "; no conflicting entry is left",
+        None if withdraws(record, before) => words + "; its look-up is withdrawn",
+        None => words,
     }
 }
 

@@ -5,7 +5,8 @@
 //! - Between steps no waiting look-up has an available entry, so service looks only at the rows that the step has set
 //!   free (`fresh`, a mask of 64 rows), the lowest bit first: of all available entries it meets the lowest number.
 //! - The least end is kept, so that a tick at which nothing ends is one comparison.
-//! - A bit tells whether a party waits, and whether a transaction has written, read or taken anything.
+//! - A bit tells whether a party waits, whether with an IfExists look-up (only then a step looks for those who wait in
+//!   vain), and whether a transaction has written, read or taken anything.
 //! - The four fields are compared as two words of 64 bits.
 
 use crate::answer::{Answers, ABORTED, COMMITTED, CREATED, EXCEPTION, NOTHING, TICKED, WAITING};
@@ -39,6 +40,7 @@ struct LookUp {
     deadline: u32,
     party: u8,
     takes: bool,
+    if_exists: bool,
     slot: u8,
     /// The bit of its slot.
     bit: u8,
@@ -127,6 +129,8 @@ pub struct Space {
     active: u8,
     /// Bit p: party p waits.
     waiting: u32,
+    /// Bit p: the look-up with which party p waits, or waited last, is of an IfExists kind.
+    if_exists: u32,
     wait_count: usize,
     entry_count: usize,
     /// By arrival.
@@ -139,7 +143,9 @@ impl Space {
     /// With 0, 1, 1 the empty space; else one like it, at this clock and with these next numbers.
     pub fn beginning(clock: u32, next_entry: u32, next_transaction: u32) -> Space {
         let (asks, pairs) = ([0; 2], [0; 2]);
-        let wait = LookUp { asks, pairs, transaction: 0, deadline: 0, party: 0, takes: false, slot: NO_SLOT, bit: 0 };
+        let (takes, if_exists) = (false, false);
+        let (slot, bit) = (NO_SLOT, 0);
+        let wait = LookUp { asks, pairs, transaction: 0, deadline: 0, party: 0, takes, if_exists, slot, bit };
         let entry = Entry { pairs, number: 0, end: 0, private: NO_SLOT, taken: NO_SLOT, readers: 0 };
         Space {
             clock,
@@ -151,6 +157,7 @@ impl Space {
             owners: [0; SLOTS],
             active: 0,
             waiting: 0,
+            if_exists: 0,
             wait_count: 0,
             entry_count: 0,
             waits: [wait; WAITS],
@@ -163,7 +170,12 @@ impl Space {
     pub fn step(&mut self, frame: &[u8], answers: &mut [u8]) -> u64 {
         let Some(mut answers) = Answers::new(answers) else { return 65536 };
         match decode(frame).and_then(|request| self.perform(request, &mut answers)) {
-            Ok(()) => answers.count as u64,
+            Ok(()) => {
+                if self.waiting & self.if_exists != 0 {
+                    self.close_waits(&mut answers);
+                }
+                answers.count as u64
+            }
             Err(number) => {
                 answers.refused(frame, number);
                 1 + 65536 * u64::from(number)
@@ -187,7 +199,7 @@ impl Space {
                 answers.plain(if commits { COMMITTED } else { ABORTED }, party, transaction);
                 let fresh = self.end_transaction(commits, slot, 0);
                 if waits {
-                    self.keep_waits(|look_up, _| look_up.party != party);
+                    self.keep_waits(|look_up| look_up.party != party);
                 }
                 self.serve(fresh, answers);
                 Ok(())
@@ -271,13 +283,12 @@ impl Space {
         let slot = self.slot_or_none(party, transaction)?;
         let deadline = end_of(self.clock, long.duration)?;
         let (asks, pairs) = (paired(asked(long.mask)), paired(long.fields));
-        let takes = operation == 3 || operation == 5;
-        let look_up = LookUp { asks, pairs, transaction, deadline, party, takes, slot, bit: bit_of(slot) };
+        let (takes, if_exists) = (operation == 3 || operation == 5, operation >= 4);
+        let look_up = LookUp { asks, pairs, transaction, deadline, party, takes, if_exists, slot, bit: bit_of(slot) };
         if let Some(row) = self.rows().iter().position(|entry| entry.available(&look_up)) {
             self.hand_out(row, &look_up, answers);
             return Ok(());
         }
-        let if_exists = operation >= 4;
         if long.duration == 0 || if_exists && !self.any_conflict(&look_up) {
             answers.plain(NOTHING, party, transaction);
             return Ok(());
@@ -286,6 +297,7 @@ impl Space {
         self.waits[self.wait_count] = look_up;
         self.wait_count += 1;
         self.waiting |= 1 << party;
+        self.if_exists = self.if_exists & !(1 << party) | u32::from(if_exists) << party;
         self.next_end = self.next_end.min(deadline);
         Ok(())
     }
@@ -425,7 +437,10 @@ impl Space {
             let fresh = self.end_transactions(answers);
             let fresh = self.end_entries(fresh);
             self.serve(fresh, answers);
-            self.end_waits(answers);
+            self.close_waits(answers);
+            for look_up in &self.waits[..self.wait_count.min(WAITS)] {
+                self.next_end = self.next_end.min(look_up.deadline);
+            }
         }
         Ok(())
     }
@@ -447,7 +462,7 @@ impl Space {
             ended &= !(1 << slot);
             answers.plain(EXCEPTION, self.owners[slot], self.numbers[slot]);
             fresh = self.end_transaction(false, slot as u8, fresh);
-            self.keep_waits(|look_up, _| usize::from(look_up.slot) != slot);
+            self.keep_waits(|look_up| usize::from(look_up.slot) != slot);
         }
         fresh
     }
@@ -470,24 +485,26 @@ impl Space {
         fresh
     }
 
-    /// Gives nothing to the look-ups whose deadline is reached.
-    fn end_waits(&mut self, answers: &mut Answers) {
-        let clock = self.clock;
-        self.keep_waits(|look_up, next_end| {
-            if look_up.deadline == clock {
+    /// Gives nothing, in order of arrival, to the look-ups whose deadline is reached, and to those of an IfExists kind
+    /// with no conflicting entry left.
+    fn close_waits(&mut self, answers: &mut Answers) {
+        let mut over = 0u32;
+        for look_up in &self.waits[..self.wait_count.min(WAITS)] {
+            if look_up.deadline == self.clock || look_up.if_exists && !self.any_conflict(look_up) {
                 answers.plain(NOTHING, look_up.party, look_up.transaction);
-            } else {
-                *next_end = look_up.deadline.min(*next_end);
+                over |= 1 << look_up.party;
             }
-            look_up.deadline != clock
-        });
+        }
+        if over != 0 {
+            self.keep_waits(|look_up| over >> look_up.party & 1 == 0);
+        }
     }
 
-    fn keep_waits(&mut self, mut keep: impl FnMut(&LookUp, &mut u32) -> bool) {
+    fn keep_waits(&mut self, keep: impl Fn(&LookUp) -> bool) {
         let mut kept = 0;
         for i in 0..self.wait_count.min(WAITS) {
             let look_up = self.waits[i];
-            if keep(&look_up, &mut self.next_end) {
+            if keep(&look_up) {
                 if kept != i {
                     self.waits[kept & 15] = look_up;
                 }

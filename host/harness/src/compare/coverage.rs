@@ -3,14 +3,14 @@
 use super::hand_outs::{hand_outs, HandOut, FOUNDS};
 use reference::answer::{Kind, Record};
 use reference::frame::{look_up_kind, word, Refusal, LOOK_UPS, NONE};
-use reference::space::{Entry, Space, MOST_ENTRIES, MOST_TRANSACTIONS, MOST_WAITING};
+use reference::space::{End, Entry, LookUp, Space, MOST_ENTRIES, MOST_TRANSACTIONS, MOST_WAITING};
 use std::collections::BTreeMap;
 use tray::record::KINDS;
 
 /// Document 02, T-04: "14 is never given out again".
 const NEVER_GIVEN: usize = 14;
 
-const SITUATIONS: [&str; 23] = [
+const SITUATIONS: [&str; 33] = [
     "64 entries stored",
     "8 transactions live",
     "16 look-ups waiting",
@@ -33,6 +33,16 @@ const SITUATIONS: [&str; 23] = [
     "take over the own read hold",
     "take of the own private entry",
     "IfExists look-up waits",
+    "in vain after a take of the own private",
+    "in vain after a commit",
+    "in vain after an abort",
+    "in vain after an abort out of a wait",
+    "in vain after an exception",
+    "in vain after a lease's end",
+    "in vain, others served in the step",
+    "in vain, no deadline",
+    "in vain and by deadline in one tick",
+    "IfExists, conflict left, by deadline",
     "entry with three read holds",
 ];
 
@@ -87,6 +97,7 @@ impl Coverage {
             entry.taken_by != NONE && now.is_some_and(|e| e.taken_by == NONE)
         };
         self.note("entry back after abort or exception", before.entries.iter().filter(back).count());
+        self.nothings(before, records, after);
         if records[0].is(Kind::Ticked) {
             self.tick(before, later, after);
         }
@@ -114,6 +125,33 @@ impl Coverage {
         self.note("waits inside, abort of another party's", aborts(inside && own == Some(false)));
         self.note("waits outside, abort of none", aborts(!inside && same));
         self.note("waits outside, abort of its own", aborts(!inside && own == Some(true)));
+    }
+
+    /// The nothings behind a frame's own record, by what has ended the wait.
+    fn nothings(&mut self, before: &Space, records: &[Record], after: &Space) {
+        let (own, later) = (records[0], &records[1..]);
+        let given = |kind| later.iter().filter(move |record| record.is(kind));
+        let closed = given(Kind::Nothing).filter_map(|r| before.waiting.iter().find(|w| w.party == r.party));
+        let conflict = |look_up: &LookUp| after.entries.iter().any(|entry| entry.conflicts(look_up));
+        let (existing, others): (Vec<&LookUp>, Vec<&LookUp>) = closed.partition(|look_up| look_up.kind.if_exists);
+        let (left, vain): (Vec<&LookUp>, Vec<&LookUp>) = existing.into_iter().partition(|look_up| conflict(look_up));
+        let escaped = before.waiting.iter().any(|look_up| look_up.party == own.party);
+        let excepted = given(Kind::Exception).count() > 0;
+        let cases = [
+            ("in vain after a take of the own private", own.is(Kind::Found)),
+            ("in vain after a commit", own.is(Kind::Committed)),
+            ("in vain after an abort", own.is(Kind::Aborted) && !escaped),
+            ("in vain after an abort out of a wait", own.is(Kind::Aborted) && escaped),
+            ("in vain after an exception", excepted),
+            ("in vain after a lease's end", own.is(Kind::Ticked) && !excepted),
+            ("in vain, others served in the step", given(Kind::Found).count() > 0),
+            ("in vain and by deadline in one tick", !(left.is_empty() && others.is_empty())),
+        ];
+        for (name, holds) in cases {
+            self.note(name, if holds { vain.len() } else { 0 });
+        }
+        self.note("in vain, no deadline", vain.iter().filter(|look_up| look_up.deadline == End::Never).count());
+        self.note("IfExists, conflict left, by deadline", left.len());
     }
 
     fn found(&mut self, found: &HandOut) {
@@ -172,12 +210,12 @@ impl Coverage {
         }
         println!("situations:");
         for name in SITUATIONS {
-            println!("  {name:<36} {:>10}", self.situations.get(name).copied().unwrap_or(0));
+            println!("  {name:<40} {:>10}", self.situations.get(name).copied().unwrap_or(0));
         }
-        println!("founds:                                   at once in service");
+        println!("founds:                                       at once in service");
         for ([at_once, served], (name, in_service, _)) in self.founds.iter().zip(FOUNDS) {
             let remark = if in_service { "" } else { "  cannot occur in service" };
-            println!("  {name:<36} {at_once:>10} {served:>10}{remark}");
+            println!("  {name:<40} {at_once:>10} {served:>10}{remark}");
         }
     }
 }
