@@ -16,8 +16,9 @@ extern "C" {
 
 /* Raised with each change of what a host sees: functions, frames, records, numbers, limits, the layout of the words.
  * 2: of several available entries the one with the lowest number is found. 3: no refusal has the number 14.
- * 4: an abort of the transaction in which its party's look-up waits is carried out. */
-#define SPACE_VERSION 4
+ * 4: an abort of the transaction in which its party's look-up waits is carried out. 5: a waiting IfExists look-up with
+ * no conflicting entry left gets nothing at once. */
+#define SPACE_VERSION 5
 
 #define SPACE_MAX_ENTRIES 64         /* entries stored at most */
 #define SPACE_MAX_TRANSACTIONS 8     /* transactions live at most */

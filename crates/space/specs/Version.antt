@@ -2,4 +2,4 @@
 use Prim.Native.Nat.{ℕ}
 
 abbrev pub version : ℕ
-version = 4
+version = 5
