@@ -51,7 +51,7 @@ impl Lean {
             garbled: random.pick(&[0, 2, 15]),
             shares: [random.between(2, 8) as usize, random.between(2, 8) as usize, 2, 2, random.between(1, 4) as usize],
         };
-        match random.below(6) {
+        match random.below(7) {
             // many entries stored
             0 => Lean { forever: 80, takes: 15, timeout_0: 90, shares: [10, 4, 1, 1, 1], ..mixed },
             // many transactions live, with holds
@@ -70,6 +70,19 @@ impl Lean {
                 gathered: 95,
                 timeout_0: 5,
                 shares: [8, 6, 1, 1, 2],
+                ..mixed
+            },
+            // IfExists look-ups that wait for what few transactions hold, and those end in every way
+            4 => Lean {
+                parties: 16,
+                kinds: 4,
+                longest: 8,
+                inside: 60,
+                gathered: 60,
+                timeout_0: 20,
+                if_exists: 95,
+                escapes: 15,
+                shares: [4, 8, 2, 2, 1],
                 ..mixed
             },
             _ => mixed,

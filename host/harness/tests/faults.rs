@@ -9,7 +9,7 @@ use reference::tray::{judge, run};
 use tray::text::parse;
 
 /// The mistakes that document 01 tells of students, and what its contracts exclude; then smaller ones; then the order
-/// that document 02 fixes; then one that only some areas show.
+/// that document 02 fixes; then one that only some areas show; then the rule of document 01 that document 02 replaces.
 const LEASE_STOPS_UNDER_A_TAKE_HOLD: u8 = 0;
 const OWN_READ_BARS_OWN_TAKE: u8 = 1;
 const NOTHING_BEFORE_SERVICE: u8 = 2;
@@ -24,6 +24,7 @@ const LAST_NUMBER_GIVEN_OUT: u8 = 10;
 const NEWEST_FIRST_AT_ONCE: u8 = 11;
 const NEWEST_FIRST_IN_SERVICE: u8 = 12;
 const LONGER_AREA_TOUCHED: u8 = 13;
+const WAITS_ON_IN_VAIN: u8 = 14;
 
 /// The reference with a fault.
 #[derive(Clone, PartialEq)]
@@ -52,6 +53,17 @@ impl<const FAULT: u8> Wrong<FAULT> {
         if FAULT == if at_once { NEWEST_FIRST_AT_ONCE } else { NEWEST_FIRST_IN_SERVICE } {
             self.0.entries.reverse();
         }
+    }
+
+    /// Has the waiting IfExists look-ups wait as reads and takes do; gives their parties.
+    fn as_plain_waits(&mut self) -> Vec<u8> {
+        let existing = self.0.waiting.iter_mut().filter(|look_up| look_up.kind.if_exists);
+        existing
+            .map(|look_up| {
+                look_up.kind.if_exists = false;
+                look_up.party
+            })
+            .collect()
     }
 
     /// What it does behind one; gives what is returned.
@@ -92,7 +104,11 @@ impl<const FAULT: u8> Subject for Wrong<FAULT> {
             frame[0] = 8;
         }
         self.before(&frame);
+        let plain = if FAULT == WAITS_ON_IN_VAIN { self.as_plain_waits() } else { Vec::new() };
         let outcome = self.0.step(&frame, area);
+        for look_up in self.0.waiting.iter_mut().filter(|look_up| plain.contains(&look_up.party)) {
+            look_up.kind.if_exists = true;
+        }
         if commit && outcome.number == 0 {
             area[0] = 6;
         }
@@ -174,6 +190,12 @@ fn tables_and_areas_are_compared() {
 fn another_order_is_shown() {
     shows::<NEWEST_FIRST_AT_ONCE>();
     shows::<NEWEST_FIRST_IN_SERVICE>();
+}
+
+/// Document 02: "after every frame that is not refused", not in the tick of the deadline.
+#[test]
+fn a_wait_in_vain_is_shown() {
+    shows::<WAITS_ON_IN_VAIN>();
 }
 
 /// Only the tray's run is wrong: the text is the tray's, and a comment says what to run it with.
