@@ -4,8 +4,8 @@ use Prim.Native.Nat.{ℕ, _+_, _≤_}
 use mathlib.Core.Bool.{Bool, true, false, cond, not, _&&_, _||_, or-true, or-false, or-assoc, true≢false}
 use mathlib.Core.Logic.{_⊎_, inl, inr, ⊎-elim}
 use mathlib.Core.Path.{_≡_, refl, sym, ap, _∙_, subst, subst⁻¹}
-use mathlib.Core.List.{List, [], _∷_, _++_, append-assoc, append-nil, List·Memᴰ, List·Memᴰ·head, Memᴰ·append-left}
-use mathlib.Core.List.{map, Memᴰ·append-right}
+use mathlib.Core.List.{List, [], _∷_, _++_, append-assoc, append-nil, List·Memᴰ, Memᴰ·append-left}
+use mathlib.Core.List.{map}
 use native.Mathlib.Omega.{arith}
 use borrow.Author.Tests.{eq-eqb, ne-eqb, le-leb}
 use lib.Dec.{eqb}
@@ -44,7 +44,7 @@ use Rattle.demands.proofs.Events.{Admitted, Closes, Heard, asking, sayi
 use Rattle.demands.proofs.Events.{is-nothing, is-waiting, creates, commits, aborts, ticks, excepts, expires}
 use Rattle.demands.proofs.Becomes.{clock-moves}
 use Rattle.demands.proofs.EventsProof.{over-is, Shut, AtOnce, Rested, Carries, step-carries}
-use Rattle.demands.proofs.Consistent.{Consistent, not-inside, owner-inside}
+use Rattle.demands.proofs.Consistent.{Consistent, owner-inside}
 use Rattle.demands.proofs.ConsistentProof.{consistent-event, Reader, Keeps, hearsAll, readsLog, reads-log, runs-keep}
 use Rattle.demands.proofs.ConsistentProof.{orderly}
 use Rattle.demands.proofs.SettledProof.{Stable, none-mid, stable, stable-step}

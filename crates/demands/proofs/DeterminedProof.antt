@@ -48,7 +48,7 @@ use Rattle.demands.proofs.JudgedProof.{number-is, refused-record, no-re
 use Rattle.demands.proofs.OwnPartLaws.{step-accepted}
 use Rattle.demands.proofs.SaidProof.{said-given}
 use Rattle.demands.proofs.Twins.{same-test, cond-both, Matched, matched-filter, matched-map, SameLive, live-ind}
-use Rattle.demands.proofs.Twins.{other-live, Like, Twins, Roomy, some-same, gives-same, said-twins}
+use Rattle.demands.proofs.Twins.{other-live, Like, Twins, Roomy, said-twins}
 
 -- ---- two spaces with the same log are twins
 

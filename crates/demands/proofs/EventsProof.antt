@@ -7,14 +7,13 @@ use mathlib.Core.Option.{Option, none, some}
 use mathlib.Core.List.{List, [], _∷_, _++_, map, map-append, append-nil, List·Memᴰ, List·Memᴰ·head, List·Memᴰ·tail}
 use mathlib.Core.List.{Memᴰ·append-left, Memᴰ·append-right, Memᴰ·map}
 use native.Mathlib.Omega.{arith}
-use borrow.Author.Tests.{eqb-true, eqb-false, ne-eqb, le-leb, lt-leb, leb-false, ltb-false, not-true, not-false}
+use borrow.Author.Tests.{eqb-true, eqb-false, ne-eqb, leb-false, ltb-false, not-true, not-false}
 use lib.Dec.{eqb, leb, ltb}
 use lib.ListN.{length}
 use Rattle.rules.specs.declared.Entry.{Entry}
 use Rattle.rules.specs.declared.Record.{Record}
 use Rattle.rules.specs.declared.Txn.{Txn}
 use Rattle.rules.specs.declared.LookUp.{LookUp}
-use Rattle.rules.specs.declared.Until.{Until}
 use Rattle.rules.specs.Numbers.{forever, lastClock, maxTxns, areaRefused, kindRefused, kindFound, kindNothing}
 use Rattle.rules.specs.Lists.{filterb}
 use Rattle.rules.specs.Time.{until, reached}
@@ -32,7 +31,7 @@ use Rattle.rules.specs.Transactions.{create, withoutTxn, abort}
 use Rattle.rules.specs.Service.{serve, service}
 use Rattle.rules.specs.Tick.{tick, endedTxns, abortAll, dropEnded, lapsed}
 use Rattle.rules.specs.Closing.{isOver, closeWaits}
-use Rattle.rules.specs.Refusals.{isOf, inTxn, partyWaits, notOwn, tooLate, txnsFull, noNumber, refusal}
+use Rattle.rules.specs.Refusals.{isOf, inTxn, notOwn, tooLate, txnsFull, noNumber, refusal}
 use Rattle.rules.specs.Step.{Outcome, commitFrame, abortFrame, finish, carriedOut, step, accepted, refusedWith}
 use Rattle.rules.specs.SerialRun.{wasRefused}
 use Rattle.rules.proofs.BoolLaws.{cond-cases, bool-cases, and-left, and-right, or-left, or-right, or-cases}

@@ -1,7 +1,7 @@
 -- The rules say what `Said` says, where the entries stand by number; and whatever says so is what the rules give.
 use Prim.Native.Nat.{ℕ}
 use mathlib.Core.Bool.{Bool, true, false, cond, _||_}
-use mathlib.Core.Path.{_≡_, refl, sym, ap, ap₂, _∙_, subst⁻¹}
+use mathlib.Core.Path.{_≡_, refl, sym, ap, _∙_, subst⁻¹}
 use mathlib.Core.Option.{Option, none, some}
 use mathlib.Core.List.{List, [], _∷_, _++_, map}
 use borrow.Author.Tests.{eqb-true}
@@ -10,12 +10,10 @@ use Rattle.rules.specs.declared.Entry.{Entry}
 use Rattle.rules.specs.declared.Record.{Record}
 use Rattle.rules.specs.declared.Txn.{Txn}
 use Rattle.rules.specs.declared.LookUp.{LookUp}
-use Rattle.rules.specs.Lists.{filterb}
-use Rattle.rules.specs.Time.{reached}
 use Rattle.rules.specs.State.{Model, withEntries}
 use Rattle.rules.specs.Holds.{available, oldest, someAvailable}
 use Rattle.rules.specs.Frame.{Frame, decode, isOperation, isWrite, isLookUp, isCommit, isAbort, isTick, serves}
-use Rattle.rules.specs.Records.{found, nothing, exception}
+use Rattle.rules.specs.Records.{found, exception}
 use Rattle.rules.specs.Done.{Carried, Done, quiet}
 use Rattle.rules.specs.Write.{stored, write}
 use Rattle.rules.specs.LookUp.{lookUpOf, givesNothing, answer, answerFound, answerNothing, answerWaiting, lookUp}

@@ -31,7 +31,7 @@ use Rattle.rules.specs.Tick.{abortAll}
 use Rattle.rules.specs.SerialRun.{Kept, keptOf}
 use Rattle.demands.specs.Book.{LiveTold}
 use Rattle.demands.specs.Said.{endNow, entriesLeft, inVain, Own, writes, finds, finds-none, waits, creates}
-use Rattle.demands.specs.Said.{commits, aborts, ticks, Serves, gone-through, is-found, waits-on, isServed}
+use Rattle.demands.specs.Said.{commits, aborts, ticks, Serves, gone-through, is-found, waits-on}
 use Rattle.demands.specs.Said.{Service, follows, follows-not, exceptions, lapsed, givenNothing, nothings, Ends}
 use Rattle.demands.specs.Said.{in-order, Said, own-first, Oldest}
 use Rattle.rules.proofs.ListLaws.{mem-filter, filter-mem, any-mem, mem-any, filter-same}
@@ -529,7 +529,7 @@ renamed {f} {m} {n} q o = subst⁻¹ (λ r. Own f m r n) q o
 
 -- a transaction more, at a slot that is free in both: it holds nothing yet
 module _ {ts us : List Txn} {x y : Txn} (p : Peers (x .id .0) ts us) (same : liveOf x ≡ liveOf y)
-  (free : All (λ t. t .slot ≡ x .slot → ⊥) ts) (free′ : All (λ t. t .slot ≡ y .slot → ⊥) us) where
+    (free : All (λ t. t .slot ≡ x .slot → ⊥) ts) (free′ : All (λ t. t .slot ≡ y .slot → ⊥) us) where
   numbers : x .id .0 ≡ y .id .0
   numbers = ap (λ (l : LiveTold). l .number) same
 

@@ -50,8 +50,8 @@ pub record Permitted (n : Model) (w : LookUp) : Type 0 where
 abbrev pub NothingLeft : Model → List Record → Model → Type 0
 NothingLeft m records n = (w : LookUp) → List·Memᴰ w (m .waits) → List·Memᴰ (nothing w) records → Permitted n w
 
--- after each step no waiting look-up has an available entry, every deadline lies ahead, and each of an IfExists kind has
--- a conflicting entry: so none waits in vain, FOREVER or not
+-- after each step no waiting look-up has an available entry, every deadline lies ahead, and each of an IfExists kind
+-- has a conflicting entry: so none waits in vain, FOREVER or not
 pub record Settled (m : Model) : Type 0 where
   pub none-available : (w : LookUp) → List·Memᴰ w (m .waits) → someAvailable (m .txns) w (m .entries) ≡ false
   pub not-reached : (w : LookUp) → List·Memᴰ w (m .waits) → reached (m .clock) (w .deadline) ≡ false

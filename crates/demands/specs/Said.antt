@@ -96,8 +96,8 @@ abbrev pub lapsed : Frame → Model → Model
 lapsed f m = let n = abortAll (endNow m) m in cond (isTick (f .op)) (withEntries (entriesLeft n) n) m
 
 -- "After every frame that is not refused, once service is over, a waiting IfExists look-up with no conflicting entry
--- left gets nothing, in order of arrival, with the other nothings. .. except that the deadline still ends them" (document
--- 02, T-07): whether a look-up that waits is given nothing, when the entries are these
+-- left gets nothing, in order of arrival, with the other nothings. .. except that the deadline still ends them"
+-- (document 02, T-07): whether a look-up that waits is given nothing, when the entries are these
 abbrev pub givenNothing : Model → List Entry → LookUp → Bool
 givenNothing m es w =
     reached (m .clock) (w .deadline) || w .«if_exists» && not (someConflicts (m .txns) w es)

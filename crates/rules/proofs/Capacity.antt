@@ -12,7 +12,6 @@ use lib.ListN.{length, length-append, length-map}
 use Rattle.rules.specs.declared.Entry.{Entry}
 use Rattle.rules.specs.declared.Record.{Record}
 use Rattle.rules.specs.declared.Txn.{Txn}
-use Rattle.rules.specs.declared.LookUp.{LookUp}
 use Rattle.rules.specs.Lists.{filterb}
 use Rattle.rules.specs.Numbers.{maxEntries, maxTxns, maxWaits, stepRecords, areaRefused}
 use Rattle.rules.specs.Time.{reached}

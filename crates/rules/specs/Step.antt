@@ -34,8 +34,8 @@ ownPart m f =
     (cond (isAbort (f .op)) (abortFrame m f) (tick m)))))
 
 -- What it ends with, "in this order": what ends now, in a tick; service, where it follows; and "once service is over"
--- the look-ups that wait in vain (document 02, T-07) or whose deadline is reached. "then exceptions, founds in the order
--- served, nothings"
+-- the look-ups that wait in vain (document 02, T-07) or whose deadline is reached. "then exceptions, founds in the
+-- order served, nothings"
 unfoldable pub finish : Frame → Model → Done
 finish f m =
     let ended = cond (isTick (f .op)) (lapsed m) (quiet m) in

@@ -29,4 +29,3 @@ dropEnded m = withEntries (filterb (λ e. not (reached (m .clock) (e .end))) (m 
 -- "transactions that end now are aborted, by number, each with an exception"; "stored entries that end now are removed"
 unfoldable pub lapsed : Model → Done
 lapsed m = record { model = dropEnded (abortAll (endedTxns m) m); records = map exception (endedTxns m) }
-

@@ -36,8 +36,8 @@ pub(crate) fn put_nothings(space: &Words, answers: &mut [u8], count: usize) -> u
     done
 }
 
-// Waiting look-ups whose deadline is reached, and those of an IfExists kind with no conflicting entry left, get nothing,
-// in order of arrival, and wait no longer.
+// Waiting look-ups whose deadline is reached, and those of an IfExists kind with no conflicting entry left, get
+// nothing, in order of arrival, and wait no longer.
 pub(crate) fn close_waits(space: &mut Words, answers: &mut [u8], count: usize) -> usize
     requires { ⌜ recordSize * (count + length (view (now space) .waits)) ≤ length (now answers) ⌝ }
     ensures { λ n. ⌜ Does (closeWaits (view (now (space .entry)))) (now (space .exit))
