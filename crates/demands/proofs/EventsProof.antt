@@ -46,7 +46,7 @@ use Rattle.demands.specs.Answers.{asked}
 use Rattle.demands.proofs.AllLaws.{All, all-none, all-cons, all-append, all-snoc, all-filter, all-map, Out, here}
 use Rattle.demands.proofs.AllLaws.{there, out-last}
 use Rattle.demands.proofs.HoldLaws.{mark-cases}
-use Rattle.demands.proofs.OwnPartLaws.{until-later, until-now}
+use Rattle.rules.proofs.TimeLaws.{until-later, until-now}
 use Rattle.demands.proofs.Events.{LiveOf, Ordered, Admitted, Heard, saying, heard, Closes, Event, refuses, asks}
 use Rattle.demands.proofs.Events.{writes, is-found, is-nothing, is-waiting, creates, commits, aborts, ticks}
 use Rattle.demands.proofs.Events.{excepts, expires, Events, over, then, join}

@@ -25,19 +25,9 @@ use Rattle.rules.specs.Step.{step, accepted, ownPart, finish, carriedOut, commi
 use Rattle.demands.specs.Answers.{AnsweredNow}
 use Rattle.rules.proofs.ListLaws.{any-none, any-find, filter-mem}
 use Rattle.rules.proofs.BoolLaws.{cond-cases, or-left, or-right}
+use Rattle.rules.proofs.TimeLaws.{until-later}
 use Rattle.rules.proofs.LayoutLaws.{lookUp-cases, finish-quiet, lookUp-serves, lookUp-not-tick}
 use Rattle.demands.proofs.OrderLaws.{InOrder, oldest-said}
-
--- a lease or timeout other than 0 is not over as it starts, and one of 0 is
-pub until-later : (clock lease : ℕ) → (lease ≡ 0 → ⊥) → reached clock (until clock lease) ≡ false
-unfolding until reached
-until-later clock lease h =
-    cond-cases (λ (u : Until). reached clock u ≡ false) (eqb lease forever) (λ e. refl)
-    (λ e. lt-leb (clock + lease) clock (omega arith))
-
-pub until-now : (clock : ℕ) → reached clock (until clock 0) ≡ true
-unfolding until reached
-until-now clock = le-leb (clock + 0) clock (omega arith)
 
 -- a frame that is not refused is carried out
 pub step-accepted : (m : Model) (bs : List ℕ) (area : ℕ) → refusal m bs area ≡ 0

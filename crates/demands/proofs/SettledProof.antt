@@ -30,7 +30,7 @@ use Rattle.demands.specs.Machine.{Input}
 use Rattle.demands.proofs.Runs.{made, made-keep}
 use Rattle.demands.proofs.AllLaws.{All, all-none, all-snoc, all-filter, out-all}
 use Rattle.demands.proofs.HoldLaws.{eqb-cases, not-so, available-free}
-use Rattle.demands.proofs.OwnPartLaws.{until-later}
+use Rattle.rules.proofs.TimeLaws.{until-later}
 use Rattle.demands.proofs.Unavailable.{handOut-unavailable}
 use Rattle.demands.proofs.Events.{Heard, Event, refuses, asks, writes, is-found, is-nothing, is-waiting, creates}
 use Rattle.demands.proofs.Events.{commits, aborts, ticks, excepts, expires, Events, over, then}

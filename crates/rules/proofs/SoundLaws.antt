@@ -1,24 +1,26 @@
 -- Every space that frames make of the empty one is sound: the empty one is, and each step keeps it. So at most 16
 -- look-ups wait, and one that 5 and 6 let pass finds room.
 use Prim.Native.Nat.{ℕ, zero, suc, _+_, _≤_, _<_}
-use mathlib.Core.Bool.{Bool, true, false, cond, not, _||_}
+use mathlib.Core.Bool.{Bool, true, false, true≢false, cond, not, _||_}
 use mathlib.Core.Logic.{_⊎_, ⊎-elim}
-use mathlib.Core.Path.{_≡_, sym, ap, _∙_, subst, subst⁻¹}
+use mathlib.Core.Path.{_≡_, sym, ap, ap₂, _∙_, subst, subst⁻¹}
 use mathlib.Core.Option.{Option, none, some}
-use mathlib.Core.List.{List, [], _∷_, _++_, List·Memᴰ, List·Memᴰ·head, List·Memᴰ·tail, List·Memᴰ·not-nil}
+use mathlib.Core.List.{List, [], _∷_, _++_, map, List·Memᴰ, List·Memᴰ·head, List·Memᴰ·tail, List·Memᴰ·not-nil}
 use mathlib.Core.List.{List·Memᴰ·cases-cons, List·Memᴰ·append-cases, List·Memᴰ·eq-of-singleton}
 use native.Mathlib.Omega.{arith}
-use borrow.Author.Tests.{eqb-true, eqb-false, ne-eqb, leb-false, le-leb, lt-leb, ltb-false}
+use borrow.Author.Tests.{eqb-true, eqb-false, ne-eqb, leb-false, le-leb, lt-leb, ltb-false, not-true}
 use lib.Dec.{eqb, leb, ltb}
 use lib.ListN.{length, length-append}
 use Rattle.rules.specs.declared.Entry.{Entry}
 use Rattle.rules.specs.declared.LookUp.{LookUp}
 use Rattle.rules.specs.declared.Txn.{Txn}
-use Rattle.rules.specs.Lists.{filterb}
+use Rattle.rules.specs.Lists.{filterb, anyb}
 use Rattle.rules.specs.Numbers.{maxParty, maxWaits}
+use Rattle.rules.specs.Time.{reached}
 use Rattle.rules.specs.State.{Model, empty, withWaits}
-use Rattle.rules.specs.Sound.{IsParty, ofParty, Sound}
-use Rattle.rules.specs.Frame.{Frame, decode, isLookUp, isTick, serves}
+use Rattle.rules.specs.Sound.{IsParty, ofParty, OneEach, Ahead, Sound}
+use Rattle.rules.specs.Frame.{Frame, decode, isOperation, isLookUp, isTick, serves}
+use Rattle.rules.specs.Records.{nothing}
 use Rattle.rules.specs.Done.{Carried, Done, quiet}
 use Rattle.rules.specs.LookUp.{lookUpOf, givesNothing, answer, answerFound, answerNothing, answerWaiting, lookUp}
 use Rattle.rules.specs.Holds.{oldest}
@@ -26,15 +28,24 @@ use Rattle.rules.specs.Write.{stored, write}
 use Rattle.rules.specs.Transactions.{create, commit, abort}
 use Rattle.rules.specs.Service.{serve, service}
 use Rattle.rules.specs.Tick.{tick, endedTxns, abortAll, dropEnded, lapsed}
-use Rattle.rules.specs.Closing.{closeWaits}
+use Rattle.rules.specs.Closing.{isOver, closeWaits}
 use Rattle.rules.specs.Refusals.{wrongParty, partyWaits}
 use Rattle.rules.specs.Step.{Outcome, commitFrame, abortFrame, ownPart, finish, carriedOut, step, accepted, refusedWith}
-use Rattle.rules.proofs.ListLaws.{mem-filter, any-filter, all-false, filter-pass, count, count-append}
+use Rattle.rules.proofs.ListLaws.{mem-filter, none-mem, any-filter, all-false, filter-pass, count, count-append}
 use Rattle.rules.proofs.ListLaws.{count-cons, count-filter}
 use Rattle.rules.proofs.BoolLaws.{bool-cases, cond-cases, or-left, or-right}
+use Rattle.rules.proofs.TimeLaws.{until-later}
 use Rattle.rules.proofs.LayoutLaws.{lookUp-not-tick, lookUp-not-abort}
 use Rattle.rules.proofs.StepCases.{step-cases, own-cases, serve-ind}
 use Rattle.rules.proofs.RefusalLaws.{Clear, clear, is-one, none-waits}
+
+-- what is kept in the midst of a step too: who waits
+record Named (m : Model) : Type 0 where
+  parties : (w : LookUp) → List·Memᴰ w (m .waits) → IsParty (w .party)
+  one-each : OneEach m
+
+named : {m : Model} → Sound m → Named m
+named s = record { parties = s .parties; one-each = s .one-each }
 
 -- ---- at most 16 wait: of the parties 1 to n, at most n
 one-at-most : (b : Bool) → cond b 1 0 ≤ 1
@@ -65,7 +76,7 @@ module _ (n : ℕ) where
         count-cons (ofParty (suc n)) w ws,
       )
 
-few : (n : ℕ) (m : Model) → Sound m → count (λ w. leb (w .party) n) (m .waits) ≤ n
+few : (n : ℕ) (m : Model) → Named m → count (λ w. leb (w .party) n) (m .waits) ≤ n
 few zero m s =
     let none =
     any-filter (λ w. leb (w .party) 0) (m .waits)
@@ -73,7 +84,7 @@ few zero m s =
     omega (arith, ap length none)
 few (suc n) m s = let l = s .one-each (suc n) in omega (arith, few n m s, counted n (m .waits))
 
-pub waits-fit : (m : Model) → Sound m → length (m .waits) ≤ maxWaits
+waits-fit : (m : Model) → Named m → length (m .waits) ≤ maxWaits
 waits-fit m s =
     let all =
     filter-pass (λ w. leb (w .party) maxParty) (m .waits)
@@ -111,7 +122,7 @@ served-of ts es ws =
     es
     ws
 
-keeps-some : {m n : Model} → Sound m → SomeOf (m .waits) (n .waits) → Sound n
+keeps-some : {m n : Model} → Named m → SomeOf (m .waits) (n .waits) → Named n
 keeps-some s o =
     record {
       parties = λ w i. s .parties w (o .among w i);
@@ -138,10 +149,10 @@ module _ (w : LookUp) (ws : List LookUp) where
       (all-false (ofParty p) ws (λ v i. ne-eqb (v .party) p (λ q. free v i (q ∙ sym (eqb-true (w .party) p e))))) in
       omega (arith, ap length none)) (λ e. omega (arith, ap {B = ℕ} (λ b. cond b 1 0) e)) (bool-cases (ofParty p w))
 
-pub sound-arrives : (m : Model) (f : Frame) → isLookUp (f .op) ≡ true → wrongParty f ≡ false → partyWaits m f ≡ false
-    → Sound m → Sound (withWaits (m .waits ++ (lookUpOf m f ∷ [])) m)
+arrives : (m : Model) (f : Frame) → isLookUp (f .op) ≡ true → wrongParty f ≡ false → partyWaits m f ≡ false
+    → Named m → Named (withWaits (m .waits ++ (lookUpOf m f ∷ [])) m)
 unfolding lookUpOf
-sound-arrives m f l e free s =
+arrives m f l e free s =
     record {
       parties = λ v i.
           ⊎-elim (λ j. s .parties v j)
@@ -155,7 +166,7 @@ sound-arrives m f l e free s =
 pub room-left : (m : Model) (f : Frame) → isLookUp (f .op) ≡ true → wrongParty f ≡ false → partyWaits m f ≡ false
     → Sound m → length (m .waits) < maxWaits
 room-left m f l e free s =
-    omega (arith, waits-fit _ (sound-arrives m f l e free s), length-append (m .waits) (lookUpOf m f ∷ []))
+    omega (arith, waits-fit _ (arrives m f l e free (named s)), length-append (m .waits) (lookUpOf m f ∷ []))
 
 -- ---- the parts of a step
 abortAll-some : (ts : List Txn) (m : Model) → SomeOf (m .waits) (abortAll ts m .waits)
@@ -164,21 +175,21 @@ abortAll-some [] m = all-of (m .waits)
 abortAll-some (t ∷ ts) m =
     then (left-of (λ w. not (eqb (w .txn .0) (t .id .0))) (m .waits)) (abortAll-some ts (abort (t .id .0) m))
 
-answer-sound : (m : Model) (f : Frame) → isLookUp (f .op) ≡ true → wrongParty f ≡ false → partyWaits m f ≡ false
-    → Sound m → (o : Option Entry) → Sound (answer m (lookUpOf m f) (f .leaseOrTimeout) o .model)
+answer-named : (m : Model) (f : Frame) → isLookUp (f .op) ≡ true → wrongParty f ≡ false → partyWaits m f ≡ false
+    → Named m → (o : Option Entry) → Named (answer m (lookUpOf m f) (f .leaseOrTimeout) o .model)
 unfolding answer answerFound answerNothing answerWaiting
-answer-sound m f l e free s (some x) = keeps-some s (all-of (m .waits))
-answer-sound m f l e free s none =
-    cond-cases (λ (c : Carried). Sound (c .model)) (givesNothing m (lookUpOf m f) (f .leaseOrTimeout)) (λ _. s)
-    (λ _. sound-arrives m f l e free s)
+answer-named m f l e free s (some x) = keeps-some s (all-of (m .waits))
+answer-named m f l e free s none =
+    cond-cases (λ (c : Carried). Named (c .model)) (givesNothing m (lookUpOf m f) (f .leaseOrTimeout)) (λ _. s)
+    (λ _. arrives m f l e free s)
 
-own-sound : (m : Model) (bs : List ℕ) (area : ℕ) → Clear m bs area → Sound m → Sound (ownPart m (decode bs) .model)
+own-named : (m : Model) (bs : List ℕ) (area : ℕ) → Clear m bs area → Named m → Named (ownPart m (decode bs) .model)
 unfolding write stored lookUp create commitFrame commit abortFrame abort tick
-own-sound m bs area c s =
+own-named m bs area c s =
     let f = decode bs in
-    own-cases (λ (d : Carried). Sound (d .model)) m f (is-one bs (c .operation))
+    own-cases (λ (d : Carried). Named (d .model)) m f (is-one bs (c .operation))
     (λ t. keeps-some s (all-of (m .waits)))
-    (λ t. answer-sound m f t (c .party) (c .free) s (oldest (m .txns) (lookUpOf m f) (m .entries)))
+    (λ t. answer-named m f t (c .party) (c .free) s (oldest (m .txns) (lookUpOf m f) (m .entries)))
     (λ t. keeps-some s (all-of (m .waits)))
     (λ t. keeps-some s (all-of (m .waits)))
     (λ t. keeps-some s (left-of (λ w. not (eqb (w .txn .0) (f .txn))) (m .waits)))
@@ -208,12 +219,65 @@ finish-some f m = then ended-some (then served-some closed-some)
     closed-some : SomeOf (served .model .waits) (closeWaits (served .model) .model .waits)
     closed-some = left-of _ (served .model .waits)
 
+-- ---- deadlines lie ahead: whoever waits when a step is over is not over
+closed-ahead : (m : Model) → Ahead (closeWaits m .model)
+unfolding closeWaits isOver
+closed-ahead m w i =
+    or-left (reached (m .clock) (w .deadline)) _ (not-true _ (mem-filter (λ v. not (isOver m v)) (m .waits) i .1))
+
 pub sound-empty : Sound empty
-sound-empty = record { parties = λ w i. absurd (List·Memᴰ·not-nil i); one-each = λ p. omega arith }
+sound-empty =
+    record {
+      parties = λ w i. absurd (List·Memᴰ·not-nil i);
+      one-each = λ p. omega arith;
+      ahead = λ w i. absurd (List·Memᴰ·not-nil i);
+    }
 
 pub sound-step : (m : Model) (bs : List ℕ) (area : ℕ) → Sound m → Sound (step m bs area .model)
-unfolding refusedWith accepted carriedOut
+unfolding refusedWith accepted carriedOut finish
 sound-step m bs area s =
     step-cases (λ (o : Outcome). Sound (o .model)) m bs area (λ n. s)
-    (λ e. keeps-some (own-sound m bs area (clear m bs area e) s)
-    (finish-some (decode bs) (ownPart m (decode bs) .model)))
+    (λ e. let f = decode bs in
+    let own = ownPart m f .model in
+    let k : Named (finish f own .model) = keeps-some (own-named m bs area (clear m bs area e) (named s)) (finish-some f own) in
+    record { parties = k .parties; one-each = k .one-each; ahead = closed-ahead _ })
+
+-- ---- and in the midst of one that is no tick, too
+answer-ahead : (m : Model) (f : Frame) → Ahead m → (o : Option Entry)
+    → Ahead (answer m (lookUpOf m f) (f .leaseOrTimeout) o .model)
+unfolding answer answerFound answerNothing answerWaiting lookUpOf givesNothing
+answer-ahead m f a (some x) = a
+answer-ahead m f a none =
+    cond-cases (λ (c : Carried). Ahead (c .model)) (givesNothing m (lookUpOf m f) (f .leaseOrTimeout)) (λ _. a)
+    (λ g w i. ⊎-elim (a w)
+    (λ j. ap (λ (v : LookUp). reached (m .clock) (v .deadline)) (List·Memᴰ·eq-of-singleton j)
+    ∙ until-later (m .clock) (f .leaseOrTimeout) (eqb-false _ 0 (or-left _ _ g)))
+    (List·Memᴰ·append-cases (m .waits) i))
+
+pub own-ahead : (m : Model) (f : Frame) → isOperation (f .op) ≡ true → isTick (f .op) ≡ false → Ahead m
+    → Ahead (ownPart m f .model)
+unfolding write stored lookUp create commitFrame commit abortFrame abort
+own-ahead m f o t a =
+    own-cases (λ (d : Carried). Ahead (d .model)) m f o
+    (λ _. a)
+    (λ _. answer-ahead m f a (oldest (m .txns) (lookUpOf m f) (m .entries)))
+    (λ _. a)
+    (λ _. a)
+    (λ _ w i. a w (left-of (λ w. not (eqb (w .txn .0) (f .txn))) (m .waits) .among w i))
+    (λ y. absurd (true≢false (sym y ∙ t)))
+
+pub service-ahead : (m : Model) → Ahead m → Ahead (service m .model)
+unfolding service
+service-ahead m a w i = a w (served-of (m .txns) (m .entries) (m .waits) .among w i)
+
+-- so where no look-up of an IfExists kind waits, none is over
+pub none-over : (m : Model) → Ahead m → anyb (λ (w : LookUp). w .«if_exists») (m .waits) ≡ false
+    → closeWaits m ≡ quiet m
+unfolding closeWaits isOver
+none-over m a e =
+    ap₂ (λ ws vs. record { model = withWaits ws m; records = map nothing vs })
+    (filter-pass (λ w. not (isOver m w)) (m .waits) (λ w i. ap not (not-over w i)))
+    (any-filter (isOver m) (m .waits) (all-false (isOver m) (m .waits) not-over))
+  where
+    not-over : (w : LookUp) → List·Memᴰ w (m .waits) → isOver m w ≡ false
+    not-over w i = rw (a w i, none-mem (λ (v : LookUp). v .«if_exists») e i)

@@ -1,28 +1,33 @@
 -- What a frame ends with, part by part.
 use Prim.Native.Nat.{ℕ, _+_, _*_, _≤_}
-use mathlib.Core.Bool.{Bool, false, not}
+use mathlib.Core.Bool.{Bool, false, not, cond}
 use mathlib.Core.Logic.{⊎-elim}
 use mathlib.Core.Path.{_≡_, sym, ap, subst}
-use mathlib.Core.List.{List, List·Memᴰ}
+use mathlib.Core.List.{List, [], _++_, List·Memᴰ}
 use native.Mathlib.Omega.{arith}
 use lib.ListN.{length, length-map}
 use Rattle.rules.specs.declared.LookUp.{LookUp}
+use Rattle.rules.specs.declared.Record.{Record}
 use Rattle.rules.specs.Lists.{filterb}
 use Rattle.rules.specs.Numbers.{recordSize, maxTxns, maxWaits}
 use Rattle.rules.specs.State.{Model, withWaits}
-use Rattle.rules.specs.Done.{Done}
-use Rattle.rules.specs.Frame.{Frame}
+use Rattle.rules.specs.Done.{Done, quiet}
+use Rattle.rules.specs.Frame.{Frame, isTick}
 use Rattle.rules.specs.Records.{nothing}
 use Rattle.rules.specs.Step.{finish}
 use Rattle.rules.specs.Closing.{isOver, closeWaits}
+use Rattle.rules.specs.Sound.{Ahead}
+use Rattle.rules.specs.Service.{service}
 use Rattle.rules.specs.Words.{view}
 use Rattle.rules.proofs.BoolLaws.{bool-cases, cond-cases}
 use Rattle.rules.proofs.Capacity.{lapsed-fits, service-fits}
 use Rattle.rules.proofs.ListLaws.{filter-pass, count-mem}
+use Rattle.rules.proofs.SoundLaws.{service-ahead, none-over}
 use Rattle.rules.proofs.ViewLaws.{view-bounded}
 use Rattle.step.specs.declared.finish.Ending.{Ending}
+use Rattle.step.specs.declared.finish.Ending.the-variants.{Quiet, Service, Tick}
 use Rattle.step.specs.Does.{Does}
-use Rattle.step.specs.Ending.{inTick, served, EndsAs, endedBy, servedBy}
+use Rattle.step.specs.Ending.{inTick, served, EndsAs, endedBy, servedBy, someIfExists, closedBy, finishedBy}
 use Rattle.step.proofs.AddsLaws.{does-then}
 
 -- none is over: all wait on
@@ -55,10 +60,22 @@ module _ (ws : List ℕ) (e : Ending) where
 pub finish-parts : {ws₁ ws₂ ws₃ a a₁ a₂ a₃ : List ℕ} {c c₁ c₂ c₃ : ℕ} (ws : List ℕ) (e : Ending)
     → recordSize * c ≤ length a
     → Does (endedBy e (view ws)) ws₁ a a₁ c c₁ → Does (servedBy e (view ws₁)) ws₂ a₁ a₂ c₁ c₂
-    → Does (closeWaits (view ws₂)) ws₃ a₂ a₃ c₂ c₃
-    → (f : Frame) → EndsAs f e → Does (finish f (view ws)) ws₃ a a₃ c c₃
-unfolding finish
-finish-parts {ws₂ = ws₂} {ws₃ = ws₃} {a₁ = a₁} {a₂ = a₂} {a₃ = a₃} {c₁ = c₁} {c₂ = c₂} {c₃ = c₃} ws e room p q r f k =
+    → Does (closedBy e (view ws₂)) ws₃ a₂ a₃ c₂ c₃ → Does (finishedBy e (view ws)) ws₃ a a₃ c c₃
+finish-parts {ws₂ = ws₂} {ws₃ = ws₃} {a₁ = a₁} {a₂ = a₂} {a₃ = a₃} {c₁ = c₁} {c₂ = c₂} {c₃ = c₃} ws e room p q r =
     let q′ = subst (λ m. Does (servedBy e m) ws₂ a₁ a₂ c₁ c₂) (p .model) q in
-    let r′ = subst (λ m. Does (closeWaits m) ws₃ a₂ a₃ c₂ c₃) (q′ .model) r in
-    rw (k .tick, k .service) (does-then room (does-then room p q′) r′)
+    let r′ = subst (λ m. Does (closedBy e m) ws₃ a₂ a₃ c₂ c₃) (q′ .model) r in
+    does-then room (does-then room p q′) r′
+
+-- the parts are the rules' own: between ticks deadlines lie ahead
+closed-same : (m : Model) → Ahead m → cond (someIfExists m) (closeWaits m) (quiet m) ≡ closeWaits m
+closed-same m a =
+    ⊎-elim (λ t. rw t) (λ t. rw t (sym (none-over m a t))) (bool-cases (someIfExists m))
+
+pub finish-same : (f : Frame) (e : Ending) (m : Model) → EndsAs f e → (isTick (f .op) ≡ false → Ahead m)
+    → finishedBy e m ≡ finish f m
+unfolding finish
+finish-same f Quiet m k a = rw (k .tick, k .service) (closed-same m (a (k .tick)))
+finish-same f Service m k a =
+    rw (k .tick, k .service) (ap (λ (d : Done). record { model = d .model; records = service m .records ++ d .records })
+    (closed-same (service m .model) (service-ahead m (a (k .tick)))))
+finish-same f Tick m k a = rw (k .tick, k .service)

@@ -13,7 +13,8 @@ use Rattle.rules.specs.declared.Request.{Request}
 use Rattle.rules.specs.declared.Decoded.the-variants.{Asks, Refused}
 use Rattle.rules.specs.Numbers.{stepArea, areaRefused}
 use Rattle.rules.specs.State.{Model}
-use Rattle.rules.specs.Frame.{Frame, decode}
+use Rattle.rules.specs.Frame.{Frame, decode, isOperation}
+use Rattle.rules.specs.Done.{Done}
 use Rattle.rules.specs.Records.{refused, answerBytes, areaAfter}
 use Rattle.rules.specs.Refusals.{wrongParty, formRows, admissionRows, roomRows, refusal}
 use Rattle.rules.specs.Requests.{frameOf, formRefusal, spaceRefusal, Decodes}
@@ -23,11 +24,14 @@ use Rattle.rules.specs.Words.{view}
 use Rattle.rules.specs.Allowed.{Stepped}
 use Rattle.rules.proofs.ListLaws.{none≢some}
 use Rattle.rules.proofs.BoolLaws.{cond-cases}
-use Rattle.rules.proofs.RefusalLaws.{none-applies, refusal-parts, form-not-area, space-not-area}
-use Rattle.rules.proofs.SoundLaws.{room-left}
+use Rattle.rules.proofs.RefusalLaws.{is-one, none-applies, refusal-parts, form-not-area, space-not-area}
+use Rattle.rules.proofs.SoundLaws.{room-left, own-ahead}
 use Rattle.step.specs.Does.{Carries, Adds, Does}
 use Rattle.step.specs.Judge.{HasRoom}
+use Rattle.step.specs.declared.finish.Ending.{Ending}
+use Rattle.step.specs.Ending.{EndsAs, finishedBy}
 use Rattle.step.proofs.AddsLaws.{adds-then}
+use Rattle.step.proofs.FinishLaws.{finish-same}
 
 -- ---- which refusal applies
 asked-frame : {bs : List ℕ} {q : Request} → Decodes bs (Asks q) → frameOf q ≡ decode bs
@@ -85,6 +89,16 @@ has-room {bs} {q} m d e s l =
     room-left m f l
     (ap wrongParty (asked-frame d) ∙ none-applies (formRows bs (decode bs)) refl (sym (d .number)) 3)
     (none-applies (admissionRows m f ++ roomRows m f) refl e 0) s
+
+-- and it ends as the rules say
+ends-same : {bs : List ℕ} {q : Request} (m : Model) → Decodes bs (Asks q) → (x : Ending) → EndsAs (frameOf q) x → Sound m
+    → finishedBy x (ownPart m (frameOf q) .model) ≡ finish (frameOf q) (ownPart m (frameOf q) .model)
+unfolding formRefusal
+ends-same {bs} {q} m d x k s =
+    let f = frameOf q in
+    let form = none-applies (formRows bs (decode bs)) refl (sym (d .number)) 0 in
+    finish-same f x (ownPart m f .model) k
+    (λ t. own-ahead m f (ap (λ (g : Frame). isOperation (g .op)) (asked-frame d) ∙ is-one bs form) t (s .ahead))
 
 -- ---- what is allowed
 -- a step's outcome, where the number n is given
@@ -153,17 +167,18 @@ module _ {ws bs area ws′ area′ : List ℕ} {returned : ℕ} where
       -- carried out: the frame's own record, and then its finish
       pub stepped-done : {ws₁ a₁ : List ℕ} {own : Record} {n : ℕ} → spaceRefusal (view ws) (frameOf q) ≡ 0
           → (HasRoom (view ws) (frameOf q) → Carries (ownPart (view ws) (frameOf q)) ws₁ own)
-          → Adds (own ∷ []) area a₁ 0 n → Does (finish (frameOf q) (view ws₁)) ws′ a₁ area′ n returned
+          → Adds (own ∷ []) area a₁ 0 n → (x : Ending) → EndsAs (frameOf q) x
+          → Does (finishedBy x (view ws₁)) ws′ a₁ area′ n returned
           → Stepped ws bs area ws′ returned area′
       unfolding carriedOut accepted
-      stepped-done {ws₁} {a₁} {own} e c a f =
+      stepped-done {ws₁} {a₁} {own} e c a x k f =
           let all = adds-then (omega arith) a (f .adds) in
           let given = by ws bs area (asked (view ws) bs (length area) h d ∙ e) in
           let same = given ∙ ap (λ g. accepted (carriedOut (view ws) g)) (sym (asked-frame d)) in
           record {
             answered =
                 record {
-                  records = own ∷ finish (frameOf q) (view ws₁) .records;
+                  records = own ∷ finishedBy x (view ws₁) .records;
                   count = returned;
                   number = 0;
                   area = area′;
@@ -172,11 +187,14 @@ module _ {ws bs area ws′ area′ : List ℕ} {returned : ℕ} where
                 record {
                   space = λ s.
                       let o = c (has-room (view ws) d e (s refl)) in
-                      f .model ∙ ap (λ m. finish (frameOf q) m .model) (o .model)
+                      f .model ∙ ap (λ m. finishedBy x m .model) (o .model)
+                      ∙ ap (λ (b : Done). b .model) (ends-same (view ws) d x k (s refl))
                       ∙ sym (ap (λ (x : Outcome). x .model) same);
                   records = λ s.
                       let o = c (has-room (view ws) d e (s refl)) in
-                      ap₂ (λ r m. r ∷ finish (frameOf q) m .records) (o .own) (o .model)
+                      ap₂ (λ r m. r ∷ finishedBy x m .records) (o .own) (o .model)
+                      ∙ ap (λ (b : Done). ownPart (view ws) (frameOf q) .own ∷ b .records)
+                      (ends-same (view ws) d x k (s refl))
                       ∙ sym (ap (λ (x : Outcome). x .records) same);
                   count = omega (arith, all .counts);
                   number = sym (ap (λ (x : Outcome). x .number) same);

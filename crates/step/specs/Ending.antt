@@ -1,11 +1,15 @@
 -- How a frame ends, as the code hands it on.
-use mathlib.Core.Bool.{Bool, true, false, cond}
+use mathlib.Core.Bool.{Bool, true, false, cond, _||_}
 use mathlib.Core.Path.{_≡_}
+use mathlib.Core.List.{_++_}
+use Rattle.rules.specs.declared.LookUp.{LookUp}
+use Rattle.rules.specs.Lists.{anyb}
 use Rattle.rules.specs.State.{Model}
 use Rattle.rules.specs.Done.{Done, quiet}
 use Rattle.rules.specs.Frame.{Frame, isTick, serves}
 use Rattle.rules.specs.Service.{service}
 use Rattle.rules.specs.Tick.{lapsed}
+use Rattle.rules.specs.Closing.{closeWaits}
 use Rattle.step.specs.declared.finish.Ending.{Ending}
 use Rattle.step.specs.declared.finish.Ending.the-variants.{Quiet, Service, Tick}
 
@@ -25,9 +29,27 @@ pub record EndsAs (f : Frame) (e : Ending) : Type 0 where
   pub tick : isTick (f .op) ≡ inTick e
   pub service : serves f ≡ served e
 
--- the parts of the rules' `finish` that not every frame has: what ends now, and service
+-- the parts of the rules' `finish`, as far as the code has to do them: what ends now, service, and the nothings. Between
+-- ticks every deadline lies ahead, so that only a look-up of an IfExists kind can be over (`FinishLaws`, `finish-same`).
 abbrev pub endedBy : Ending → Model → Done
 endedBy e m = cond (inTick e) (lapsed m) (quiet m)
 
 abbrev pub servedBy : Ending → Model → Done
 servedBy e m = cond (served e) (service m) (quiet m)
+
+abbrev pub someIfExists : Model → Bool
+someIfExists m = anyb (λ (w : LookUp). w .«if_exists») (m .waits)
+
+abbrev pub canClose : Ending → Model → Bool
+canClose e m = inTick e || someIfExists m
+
+abbrev pub closedBy : Ending → Model → Done
+closedBy e m = cond (canClose e m) (closeWaits m) (quiet m)
+
+-- all of them
+abbrev pub finishedBy : Ending → Model → Done
+finishedBy e m =
+    let ended = endedBy e m in
+    let served = servedBy e (ended .model) in
+    let closed = closedBy e (served .model) in
+    record { model = closed .model; records = ended .records ++ served .records ++ closed .records }

@@ -1,10 +1,12 @@
 // Who gets nothing when a step is over.
+ghost use mathlib.Core.Path.{_≡_};
 ghost use Prim.Native.Nat.{_+_, _*_, _≤_};
 ghost use lib.ListN.{length};
 ghost use Rattle.rules.specs.Closing.{closeWaits};
 ghost use Rattle.rules.specs.Numbers.{recordSize};
 ghost use Rattle.rules.specs.Words.{view};
 ghost use Rattle.step.specs.Does.{Adds, Does};
+ghost use Rattle.step.specs.Ending.{someIfExists};
 use crate::answers::add_record;
 use codec::records::plain_record;
 use holds::endings::Leave;
@@ -14,6 +16,22 @@ use rules::numbers::KIND_NOTHING;
 use words::rows::Words;
 use words::rows::wait_at;
 use words::rows::wait_count;
+
+// Whether a look-up of an IfExists kind waits.
+pub(crate) fn any_if_exists(space: &Words) -> bool
+    ensures { λ r. ⌜ r ≡ someIfExists (view (now (space .entry))) ⌝ }
+{
+    let n = wait_count(space);
+    let mut i: usize = 0;
+    while i < n {
+        let w = wait_at(space, i);
+        if w.if_exists {
+            return true;
+        }
+        i += 1;
+    }
+    false
+}
 
 // A nothing for each waiting look-up that is over, in order of arrival.
 pub(crate) fn put_nothings(space: &Words, answers: &mut [u8], count: usize) -> usize

@@ -21,8 +21,8 @@ serve-requires c κs =
       ended .end-now .kept .1 .0,
     )
 
-close-waits-requires : tie.Need-close-waits-requires
-close-waits-requires c κs =
+close-requires : tie.Need-close-requires
+close-requires c κs =
     let served = c .before .before .before .before in
     let ended = served .before .before .before .before .before in
     let start = ended .before .before .before .before in
@@ -44,10 +44,10 @@ returns c =
     let ended = served .before .before .before .before .before in
     let start = ended .before .before .before .before in
     finish-parts (start .args .space .now) (start .args .ending) (omega (arith, start .pre)) (ended .end-now .ensures)
-    (served .serve .ensures) (closed .close-waits .ensures)
+    (served .serve .ensures) (closed .close .ensures)
 
 pub finish-spec : {M : Type 1} → statement M
 finish-spec =
     tie.close
     (tie.spec
-    (λ c κs. search needs) serve-requires close-waits-requires (λ c. search needs) returns)
+    (λ c κs. search needs) serve-requires close-requires (λ c. search needs) returns)

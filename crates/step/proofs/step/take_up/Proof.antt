@@ -20,7 +20,7 @@ returns-2 c =
     let start = test .before .before .before .before .before in
     stepped-done (start .pre .1) (start .pre .0) (sym (test .before .judge .ensures) ∙ test .if1 .left)
     (carried .carry-out .ensures) (own .add-record .ensures)
-    (c .before .before .finish .ensures _ (carried .before .before .ending-of .ensures))
+    _ (carried .before .before .ending-of .ensures) (c .before .before .finish .ensures)
 
 pub take-up-spec : {M : Type 1} → statement M
 take-up-spec =
