@@ -17,13 +17,13 @@ use Rattle.rules.specs.Write.{newEntry, stored}
 use Rattle.rules.specs.Transactions.{create}
 use Rattle.rules.specs.SerialRun.{Kept, Operation, adds, keptOf}
 use Rattle.rules.proofs.ListLaws.{all-false}
+use Rattle.rules.proofs.TimeLaws.{until-now}
 use Rattle.rules.proofs.ReaderLaws.{bit-of-zero}
 use Rattle.demands.specs.Told.{takesNumber}
 use Rattle.demands.proofs.AllLaws.{All, all-none, all-snoc, all-gone}
 use Rattle.demands.proofs.HoldLaws.{eqb-cases, not-so}
 use Rattle.demands.proofs.Events.{Admitted}
 use Rattle.demands.proofs.Becomes.{newTxn}
-use Rattle.demands.proofs.OwnPartLaws.{until-now}
 use Rattle.demands.proofs.Consistent.{Live, Consistent, ok-below, slot-free}
 use Rattle.demands.proofs.SerialRunOps.{after, afterAll, Can, mentionsIt, mentions, can-keep}
 use Rattle.demands.proofs.SerialRunAgree.{fits, Stored, Same, Ties, AgreeIn, takes-mentions, fits-unfound}
