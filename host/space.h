@@ -163,9 +163,10 @@ void space_empty(uint32_t space[SPACE_WORDS]);
  * On words made in any other way the call ends and keeps to its buffers, and a refused frame is answered in the same
  * way. The words are read as tables: counts above the limits as the limits, a party, a mask and readers modulo 256, a
  * slot modulo 8, a waiting look-up's operation that is not 2 to 5 as 2. If in these tables every waiting look-up has a
- * party of 1 to 16 and no two have the same, a frame that is carried out gives what the rules give for them. What does
- * not hold there is what follows from a history of frames: that no number is given out twice, that entries stand by
- * number (found has the first available row), that no look-up waits while an entry is available to it, and the like. */
+ * party of 1 to 16, no two have the same, and every deadline is above the clock, a frame that is carried out gives what
+ * the rules give for them. What does not hold there is what follows from a history of frames: that no number is given
+ * out twice, that entries stand by number (found has the first available row), that no look-up waits while an entry is
+ * available to it, and the like. */
 uint64_t space_step(uint32_t space[SPACE_WORDS], const uint8_t *frame, size_t frame_len,
                     uint8_t *answers, size_t answers_len);
 
