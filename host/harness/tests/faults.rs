@@ -230,7 +230,7 @@ fn an_area_that_no_text_has_is_told() {
 #[test]
 fn frames_refused_with_1_are_left_out() {
     let mut coverage = Coverage::default();
-    let all = (1..80).filter_map(|seed| compare::<Wrong<READ_HOLD_NOT_IN_THE_TABLE>>(seed, &mut coverage).err());
+    let all = (1..120).filter_map(|seed| compare::<Wrong<READ_HOLD_NOT_IN_THE_TABLE>>(seed, &mut coverage).err());
     let all: Vec<Discrepancy> = all.collect();
     assert!(all.len() > 20, "{} discrepancies", all.len());
     assert!(all.iter().all(|discrepancy| !discrepancy.besides.contains("answers area")));
