@@ -1,16 +1,12 @@
 -- A frame's own part, by its operation; and what a look-up frame is answered, for the four kinds together.
-use Prim.Native.Nat.{ℕ, _+_}
+use Prim.Native.Nat.{ℕ}
 use mathlib.Core.Bool.{true, false, cond, not, _||_}
 use mathlib.Core.Path.{_≡_, refl, ap, ap₂, _∙_}
 use mathlib.Core.List.{List, _∷_, List·Memᴰ, List·Memᴰ·head, Memᴰ·append-right}
-use native.Mathlib.Omega.{arith}
-use borrow.Author.Tests.{eqb-false, le-leb, lt-leb}
+use borrow.Author.Tests.{eqb-false}
 use lib.Dec.{eqb}
 use Rattle.rules.specs.declared.LookUp.{LookUp}
-use Rattle.rules.specs.declared.Until.{Until}
-use Rattle.rules.specs.Numbers.{forever}
 use Rattle.rules.specs.Lists.{filterb}
-use Rattle.rules.specs.Time.{until, reached}
 use Rattle.rules.specs.State.{Model}
 use Rattle.rules.specs.Holds.{available}
 use Rattle.rules.specs.Frame.{Frame, decode, isWrite, isLookUp, isCreate, isCommit, isAbort}
@@ -24,7 +20,7 @@ use Rattle.rules.specs.Refusals.{refusal}
 use Rattle.rules.specs.Step.{step, accepted, ownPart, finish, carriedOut, commitFrame, abortFrame}
 use Rattle.demands.specs.Answers.{AnsweredNow}
 use Rattle.rules.proofs.ListLaws.{any-none, any-find, filter-mem}
-use Rattle.rules.proofs.BoolLaws.{cond-cases, or-left, or-right}
+use Rattle.rules.proofs.BoolLaws.{or-left, or-right}
 use Rattle.rules.proofs.TimeLaws.{until-later}
 use Rattle.rules.proofs.LayoutLaws.{lookUp-cases, finish-quiet, lookUp-serves, lookUp-not-tick}
 use Rattle.demands.proofs.OrderLaws.{InOrder, oldest-said}

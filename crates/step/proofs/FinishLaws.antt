@@ -3,11 +3,10 @@ use Prim.Native.Nat.{ℕ, _+_, _*_, _≤_}
 use mathlib.Core.Bool.{Bool, false, not, cond}
 use mathlib.Core.Logic.{⊎-elim}
 use mathlib.Core.Path.{_≡_, sym, ap, subst}
-use mathlib.Core.List.{List, [], _++_, List·Memᴰ}
+use mathlib.Core.List.{List, _++_, List·Memᴰ}
 use native.Mathlib.Omega.{arith}
 use lib.ListN.{length, length-map}
 use Rattle.rules.specs.declared.LookUp.{LookUp}
-use Rattle.rules.specs.declared.Record.{Record}
 use Rattle.rules.specs.Lists.{filterb}
 use Rattle.rules.specs.Numbers.{recordSize, maxTxns, maxWaits}
 use Rattle.rules.specs.State.{Model, withWaits}

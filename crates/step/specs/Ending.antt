@@ -29,8 +29,8 @@ pub record EndsAs (f : Frame) (e : Ending) : Type 0 where
   pub tick : isTick (f .op) ≡ inTick e
   pub service : serves f ≡ served e
 
--- the parts of the rules' `finish`, as far as the code has to do them: what ends now, service, and the nothings. Between
--- ticks every deadline lies ahead, so that only a look-up of an IfExists kind can be over (`FinishLaws`, `finish-same`).
+-- the parts of the rules' `finish`, as far as the code has to do them: what ends now, service, and the nothings.
+-- Between ticks every deadline lies ahead, so only a look-up of an IfExists kind can be over (`finish-same`)
 abbrev pub endedBy : Ending → Model → Done
 endedBy e m = cond (inTick e) (lapsed m) (quiet m)
 

@@ -1,7 +1,7 @@
 -- `step::closing::any_if_exists` meets its contract. The loop's invariant: none of the look-ups passed is of an IfExists
 -- kind. Assumes nothing.
 use Prim.Native.Nat.{_≤_, _-_}
-use mathlib.Core.Path.{sym, refl, _∙_}
+use mathlib.Core.Path.{sym}
 use native.Mathlib.Omega.{arith}
 use Rattle.rules.specs.declared.LookUp.{LookUp}
 use Rattle.words.specs.Rows.{waitRow}
