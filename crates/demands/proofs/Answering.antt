@@ -29,16 +29,17 @@ use Rattle.rules.proofs.ListLaws.{find-some, none-mem}
 use Rattle.rules.proofs.BoolLaws.{cond-cases, bool-cases, or-left, or-right}
 use Rattle.rules.proofs.RefusalLaws.{clear}
 use Rattle.rules.proofs.ReaderLaws.{bit-suc, no-bits}
-use Rattle.demands.proofs.AllLaws.{All}
-use Rattle.demands.proofs.HoldLaws.{not-so}
+use Rattle.rules.specs.Lists.{All}
+use Rattle.sound.proofs.HoldLaws.{not-so}
 use Rattle.demands.proofs.Runs.{runs, made, made-keep}
 use Rattle.demands.proofs.ByRule.{space-follows, run-of}
 use Rattle.demands.proofs.JudgedProof.{number-is, refused-model}
-use Rattle.demands.proofs.Events.{Heard, Events, over, then}
-use Rattle.demands.proofs.EventsProof.{step-events}
-use Rattle.demands.proofs.Consistent.{Consistent}
-use Rattle.demands.proofs.Becomes.{waits-all, txns-all}
-use Rattle.demands.proofs.ConsistentProof.{consistent-events, consistent-empty, consistent}
+use Rattle.sound.proofs.Events.{Heard, Events, over, then}
+use Rattle.sound.proofs.EventsProof.{step-events}
+use Rattle.rules.specs.Sound.{Consistent}
+use Rattle.sound.proofs.Becomes.{waits-all, txns-all}
+use Rattle.sound.proofs.ConsistentProof.{consistent-events, consistent-empty}
+use Rattle.demands.proofs.ByEvents.{consistent}
 use Rattle.demands.proofs.Capacities.{bounded}
 use Rattle.demands.proofs.BoundsProof.{timely}
 use Rattle.demands.proofs.WordsOf.{Fits, words-of}

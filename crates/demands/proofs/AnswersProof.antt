@@ -34,21 +34,26 @@ use Rattle.rules.proofs.BoolLaws.{cond-cases, bool-cases}
 use Rattle.rules.proofs.ListLaws.{filter-mem, any-append, count, count-append, count-cons}
 use Rattle.rules.proofs.LayoutLaws.{abort-ends}
 use Rattle.demands.specs.Machine.{Input}
-use Rattle.demands.specs.Answers.{AnsweredNow, asked, Permitted, NothingLeft, isTicked, closes}
+use Rattle.demands.specs.Answers.{AnsweredNow, Permitted, NothingLeft, closes}
+use Rattle.rules.specs.LookUp.{asked}
+use Rattle.rules.specs.Records.{isTicked}
 use Rattle.demands.specs.History.{recordsOf}
 use Rattle.demands.proofs.Runs.{runs, made, answersTo, runs-keep as keep-runs}
-use Rattle.demands.proofs.AllLaws.{out-or}
-use Rattle.demands.proofs.HoldLaws.{equal-or, eqb-cases}
-use Rattle.demands.proofs.EachLaws.{Each, same-party}
-use Rattle.demands.proofs.Events.{Admitted, Closes, Heard, asking, saying, says, Event, refuses, asks, writes, is-found}
-use Rattle.demands.proofs.Events.{is-nothing, is-waiting, creates, commits, aborts, ticks, excepts, expires}
-use Rattle.demands.proofs.Becomes.{clock-moves}
-use Rattle.demands.proofs.EventsProof.{over-is, Shut, AtOnce, Rested, Carries, step-carries}
-use Rattle.demands.proofs.Consistent.{Consistent, owner-inside}
-use Rattle.demands.proofs.ConsistentProof.{consistent-event, Reader, Keeps, hearsAll, readsLog, reads-log, runs-keep}
-use Rattle.demands.proofs.ConsistentProof.{orderly}
-use Rattle.demands.proofs.SettledProof.{Stable, none-mid, stable, stable-step}
-use Rattle.demands.proofs.OwnPartLaws.{answered-now}
+use Rattle.sound.proofs.AllLaws.{out-or}
+use Rattle.sound.proofs.HoldLaws.{equal-or, eqb-cases}
+use Rattle.sound.proofs.EachLaws.{Each, same-party}
+use Rattle.sound.proofs.Events.{Admitted, Closes, Heard, asking, saying, says, Event, refuses, asks, writes, is-found}
+use Rattle.sound.proofs.Events.{is-nothing, is-waiting, creates, commits, aborts, ticks, excepts, expires}
+use Rattle.sound.proofs.Becomes.{clock-moves}
+use Rattle.sound.proofs.EventsProof.{over-is, Shut, AtOnce, Rested, Carries, step-carries}
+use Rattle.rules.specs.Sound.{Consistent, Sound}
+use Rattle.sound.proofs.Consistent.{owner-inside}
+use Rattle.sound.proofs.ConsistentProof.{consistent-event}
+use Rattle.demands.proofs.ByEvents.{Reader, Keeps, hearsAll, readsLog, reads-log, runs-keep}
+use Rattle.demands.proofs.ByEvents.{orderly}
+use Rattle.sound.proofs.SoundProof.{none-mid, sound-step}
+use Rattle.demands.proofs.ByEvents.{sound, sound-kept}
+use Rattle.demands.proofs.OldestLaws.{answered-now}
 
 each-asked : (m : Model) (f : Frame) → Consistent m → Admitted f m → Each (asked m f .waits)
 unfolding asked
@@ -62,7 +67,7 @@ permitted : (m n : Model) (w : LookUp) → m ≡ closeWaits n .model → someAva
 unfolding closeWaits
 permitted m n w q u c = subst⁻¹ (λ k. Permitted k w) q (record { none-available = u; in-vain = c })
 
-pub nothing-left : (m : Model) → Stable m → (bs : List ℕ) (area : ℕ) → refusal m bs area ≡ 0
+pub nothing-left : (m : Model) → Sound m → (bs : List ℕ) (area : ℕ) → refusal m bs area ≡ 0
     → NothingLeft (asked m (decode bs)) (step m bs area .records) (step m bs area .model)
 unfolding nothing
 nothing-left m k bs area n w i j = ⊎-elim over-now at-once (r .closed (nothing w) j refl)
@@ -71,7 +76,7 @@ nothing-left m k bs area n w i j = ⊎-elim over-now at-once (r .closed (nothing
     f = decode bs
 
     c : Admitted f m × Carries f m (step m bs area .records) (step m bs area .model)
-    c = step-carries m bs area (k .consistent-model .ordered .txns) n
+    c = step-carries m bs area (k .consistent .ordered .txns) n
 
     r : Rested f m (step m bs area .records) (step m bs area .model)
     r = c .1 .rested
@@ -82,7 +87,7 @@ nothing-left m k bs area n w i j = ⊎-elim over-now at-once (r .closed (nothing
     -- the look-up that is told of is this one
     same : (v : LookUp) → List·Memᴰ v (asked m f .waits) → nothing v ≡ nothing w → v ≡ w
     same v l q =
-        same-party (each-asked m f (k .consistent-model) (c .0)) l i (ap (λ (a : Record). a .party) q)
+        same-party (each-asked m f (k .consistent) (c .0)) l i (ap (λ (a : Record). a .party) q)
 
     over-now : Shut (r .mid) (nothing w) → Permitted o w
     over-now (v, l, q, e) =
@@ -194,13 +199,13 @@ clock-counts m js s =
         (clock-moves e)
 
 -- a look-up that waits is closed by the records of frames that carry the clock to its deadline
-closed : (m : Model) (js : List Input) (w : LookUp) (d : ℕ) → Stable m → List·Memᴰ w (m .waits) → w .deadline ≡ Tick d
+closed : (m : Model) (js : List Input) (w : LookUp) (d : ℕ) → Sound m → List·Memᴰ w (m .waits) → w .deadline ≡ Tick d
     → d ≤ m .clock + count isTicked (answersTo m js) → anyb (closes (w .party) (w .txn .0)) (answersTo m js) ≡ true
 unfolding answersTo reached
 closed m js w d k i q l =
     ⊎-elim (λ j. absurd (true≢false
-    (sym over ∙ ap (reached (n .clock)) (sym q) ∙ keep-runs Stable stable-step m js k .ahead w j))) (λ c. c)
-    (subst (Q n) (collected (runs m js .log) []) (runs-keep collects Q keeps m [] js (k .consistent-model) (inl i) .1))
+    (sym over ∙ ap (reached (n .clock)) (sym q) ∙ keep-runs Sound sound-kept m js k .ahead w j))) (λ c. c)
+    (subst (Q n) (collected (runs m js .log) []) (runs-keep collects Q keeps m [] js (k .consistent) (inl i) .1))
   where
     n : Model
     n = runs m js .model
@@ -217,7 +222,7 @@ closed m js w d k i q l =
         (waits-or w e s j)) (λ c. inr (any-heard p f hs rs ∙ ap (λ x. x || anyb (says p) hs) c))
 
     over : reached (n .clock) (Tick d) ≡ true
-    over = le-leb d (n .clock) (omega (arith, l, clock-counts m js (k .consistent-model)))
+    over = le-leb d (n .clock) (omega (arith, l, clock-counts m js (k .consistent)))
 
 pub answersTo-cons : (m : Model) (i : Input) (is : List Input) → answersTo m (i ∷ is)
     ≡ step m (i .frame) (i .area) .records ++ answersTo (step m (i .frame) (i .area) .model) is
@@ -263,13 +268,13 @@ in-time is i js n l f h =
         omega (
           arith,
           h,
-          clock-counts m (i ∷ []) (stable is .consistent-model),
+          clock-counts m (i ∷ []) (sound is .consistent),
           ap (count isTicked) (answersTo-cons m i js) ∙ count-append isTicked (o .records) (answersTo (o .model) js),
           ap (count isTicked) (answersTo-cons m i []) ∙ count-append isTicked (o .records) [],
         )
 
     later : List·Memᴰ w (o .model .waits) → anyb p (answersTo (o .model) js) ≡ true
-    later r = closed (o .model) js w (m .clock + timeout) (stable-step i m (stable is)) r due enough
+    later r = closed (o .model) js w (m .clock + timeout) (sound-kept i m (sound is)) r due enough
 
     -- by the step's first record
     first : {r : Record} (ws : List LookUp) → o .records ≡ r ∷ map nothing ws → anyb (shuts w) (saying r ∷ []) ≡ true

@@ -28,13 +28,13 @@ use Rattle.rules.specs.Sound.{ofParty}
 use Rattle.demands.specs.Book.{LiveTold, Book, newBook, names, enters, entersAll, withAsked, arrives, keepBook}
 use Rattle.demands.specs.Book.{bookOf, Booked}
 use Rattle.demands.proofs.Runs.{runs, made}
-use Rattle.demands.proofs.AllLaws.{filter-map, Out, here, there}
-use Rattle.demands.proofs.HoldLaws.{not-so}
-use Rattle.demands.proofs.EachLaws.{Each}
-use Rattle.demands.proofs.Events.{Heard, Event, refuses, asks, writes, is-found, is-nothing, is-waiting, creates}
-use Rattle.demands.proofs.Events.{commits, aborts, ticks, excepts, expires}
-use Rattle.demands.proofs.Consistent.{Consistent}
-use Rattle.demands.proofs.ConsistentProof.{Reader, hearsAll, reads-log, made-keep}
+use Rattle.sound.proofs.AllLaws.{filter-map, Out, here, there}
+use Rattle.sound.proofs.HoldLaws.{not-so}
+use Rattle.sound.proofs.EachLaws.{Each}
+use Rattle.sound.proofs.Events.{Heard, Event, refuses, asks, writes, is-found, is-nothing, is-waiting, creates}
+use Rattle.sound.proofs.Events.{commits, aborts, ticks, excepts, expires}
+use Rattle.rules.specs.Sound.{Consistent}
+use Rattle.demands.proofs.ByEvents.{Reader, hearsAll, reads-log, made-keep}
 
 -- one place passes, and no other can: the rest is the list without it
 one-passes : {A : Type 0} (p : A → Bool) {x : A} {xs ys : List A} → Out x xs ys → p x ≡ true → count p xs ≤ 1

@@ -22,15 +22,17 @@ use Rattle.rules.proofs.ListLaws.{any-mem, none-mem}
 use Rattle.rules.proofs.LayoutLaws.{write-leases, lookUp-leases, create-leases}
 use Rattle.rules.proofs.ReaderLaws.{bit-of-zero, no-bits}
 use Rattle.demands.specs.Machine.{Input}
-use Rattle.demands.specs.Bounds.{ByNumber, ReadByLive, OwnTakeHold, EndFits, Timely}
+use Rattle.demands.specs.Bounds.{ReadByLive, OwnTakeHold, Timely}
+use Rattle.rules.specs.Sound.{ByNumber}
+use Rattle.rules.specs.Time.{EndFits}
 use Rattle.demands.proofs.Runs.{made}
-use Rattle.demands.proofs.AllLaws.{all-none}
-use Rattle.demands.proofs.HoldLaws.{equal-or, not-so, available-free}
-use Rattle.demands.proofs.Events.{Heard, Event}
-use Rattle.demands.proofs.Becomes.{kept-all, waits-all, txns-all, clock-moves}
-use Rattle.demands.proofs.Consistent.{At, TxnsOk, Consistent}
-use Rattle.demands.proofs.HolderLaws.{drop-live, drop-own, drop-other}
-use Rattle.demands.proofs.ConsistentProof.{made-has, consistent}
+use Rattle.sound.proofs.AllLaws.{all-none}
+use Rattle.sound.proofs.HoldLaws.{equal-or, not-so, available-free}
+use Rattle.sound.proofs.Events.{Heard, Event}
+use Rattle.sound.proofs.Becomes.{kept-all, waits-all, txns-all, clock-moves}
+use Rattle.rules.specs.Sound.{At, TxnsOk, Consistent}
+use Rattle.sound.proofs.HolderLaws.{drop-live, drop-own, drop-other}
+use Rattle.demands.proofs.ByEvents.{made-has, consistent}
 
 -- entries and live transactions stand by number
 pub numbers-ascend : (is : List Input) → ByNumber (made is)

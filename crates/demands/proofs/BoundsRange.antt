@@ -26,14 +26,15 @@ use Rattle.demands.specs.Machine.{Input}
 use Rattle.demands.specs.Bounds.{InRange, AllInRange, AreBytes}
 use Rattle.demands.specs.History.{recordsOf}
 use Rattle.demands.proofs.Runs.{runs, answersTo}
-use Rattle.demands.proofs.AllLaws.{All, all-none, all-cons, all-append, out-mem}
-use Rattle.demands.proofs.Events.{Heard, asking, saying, heard, Event, refuses, asks, writes, is-found}
-use Rattle.demands.proofs.Events.{is-nothing, is-waiting, creates, commits, aborts, ticks, excepts, expires}
-use Rattle.demands.proofs.Events.{Events, over, then}
-use Rattle.demands.proofs.Becomes.{kept-all, waits-all, txns-all}
-use Rattle.demands.proofs.EventsProof.{step-events}
-use Rattle.demands.proofs.Consistent.{Consistent}
-use Rattle.demands.proofs.ConsistentProof.{consistent-event, consistent-events, consistent-empty}
+use Rattle.sound.proofs.AllLaws.{all-none, all-cons, all-append, out-mem}
+use Rattle.rules.specs.Lists.{All}
+use Rattle.sound.proofs.Events.{Heard, asking, saying, heard, Event, refuses, asks, writes, is-found}
+use Rattle.sound.proofs.Events.{is-nothing, is-waiting, creates, commits, aborts, ticks, excepts, expires}
+use Rattle.sound.proofs.Events.{Events, over, then}
+use Rattle.sound.proofs.Becomes.{kept-all, waits-all, txns-all}
+use Rattle.sound.proofs.EventsProof.{step-events}
+use Rattle.rules.specs.Sound.{Consistent}
+use Rattle.sound.proofs.ConsistentProof.{consistent-event, consistent-events, consistent-empty}
 use Rattle.demands.proofs.JudgedProof.{refusal-fits}
 
 record FieldsIn (x : Fields) : Type 0 where

@@ -13,7 +13,7 @@ use Rattle.rules.specs.Allowed.{Answered}
 use Rattle.rules.specs.SerialRun.{Logged}
 use Rattle.demands.specs.Machine.{Handed, Input, inputOf, Machine, theSpace, answeredBy, theRules}
 use Rattle.demands.specs.History.{History, begun, handed, handedOf, Made, inputsOf}
-use Rattle.rules.proofs.SoundLaws.{sound-empty, sound-step}
+use Rattle.sound.proofs.SoundProof.{sound-empty, sound-step}
 use Rattle.demands.proofs.Runs.{runs, made-keep}
 use Rattle.demands.proofs.JudgedProof.{number-is, refused-model}
 

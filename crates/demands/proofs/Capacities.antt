@@ -4,7 +4,7 @@ use native.Mathlib.Omega.{arith}
 use Rattle.rules.specs.State.{Bounded}
 use Rattle.rules.specs.Sound.{Sound}
 use Rattle.rules.proofs.Capacity.{step-fits}
-use Rattle.rules.proofs.SoundLaws.{sound-empty, sound-step}
+use Rattle.sound.proofs.SoundProof.{sound-empty, sound-step}
 use Rattle.demands.specs.Machine.{Input}
 use Rattle.demands.proofs.Runs.{made, made-keep}
 

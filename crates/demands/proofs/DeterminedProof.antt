@@ -30,7 +30,7 @@ use Rattle.demands.specs.History.{logged, History, begun, handed, handed
 use Rattle.demands.specs.Judged.{Judged}
 use Rattle.demands.specs.Book.{LiveTold, Book, Booked}
 use Rattle.demands.specs.Told.{Told, AsTold, Explained}
-use Rattle.demands.specs.Bounds.{Ascending}
+use Rattle.rules.specs.Sound.{Ascending}
 use Rattle.demands.specs.Demands.{Demand1, Demand2, Demand3}
 use Rattle.demands.specs.Consequences.{Consequences}
 use Rattle.demands.specs.Determined.{ruled, Determined, ThirdFollows}
@@ -38,14 +38,15 @@ use Rattle.rules.proofs.ListLaws.{mem-any}
 use Rattle.rules.proofs.BoolLaws.{bool-cases, and-false-right}
 use Rattle.rules.proofs.RefusalLaws.{clear}
 use Rattle.rules.proofs.DistinctLaws.{distinct-filter}
-use Rattle.demands.proofs.AscendingLaws.{ascend-unique}
-use Rattle.demands.proofs.Consistent.{TxnsOk, Consistent, cover}
-use Rattle.demands.proofs.OrderLaws.{InOrder}
-use Rattle.demands.proofs.ConsistentProof.{consistent, orderly}
+use Rattle.sound.proofs.AscendingLaws.{ascend-unique}
+use Rattle.sound.proofs.Consistent.{cover}
+use Rattle.rules.specs.Sound.{TxnsOk, Consistent}
+use Rattle.sound.proofs.OrderLaws.{InOrder}
+use Rattle.demands.proofs.ByEvents.{consistent, orderly}
 use Rattle.demands.proofs.ByRule.{rules-follow, run-of}
 use Rattle.demands.proofs.Follows.{follows-2, follows-3, follow-on}
 use Rattle.demands.proofs.JudgedProof.{number-is, refused-record, no-record}
-use Rattle.demands.proofs.OwnPartLaws.{step-accepted}
+use Rattle.sound.proofs.OwnPartLaws.{step-accepted}
 use Rattle.demands.proofs.SaidProof.{said-given}
 use Rattle.demands.proofs.Twins.{same-test, cond-both, Matched, matched-filter, matched-map, SameLive, live-ind}
 use Rattle.demands.proofs.Twins.{other-live, Like, Twins, Roomy, said-twins}

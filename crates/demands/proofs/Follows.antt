@@ -24,27 +24,30 @@ use Rattle.rules.specs.SerialRun.{Logged, serialRun, Serial}
 use Rattle.demands.specs.Machine.{Handed, frameIn, Input, inputOf, Machine}
 use Rattle.demands.specs.History.{recordsOf, History, handedOf, Made, inputsOf, EveryState, EveryStep}
 use Rattle.demands.specs.Judged.{CarriedOut, Judged}
-use Rattle.demands.specs.Answers.{AnsweredNow, asked, NothingLeft, isTicked, closes}
+use Rattle.demands.specs.Answers.{AnsweredNow, NothingLeft, closes}
+use Rattle.rules.specs.LookUp.{asked}
+use Rattle.rules.specs.Records.{isTicked}
 use Rattle.demands.specs.Said.{Said}
 use Rattle.demands.specs.Book.{bookOf, Booked}
 use Rattle.demands.specs.Told.{Explained}
 use Rattle.demands.specs.Demands.{Demand1, Demand2, Demand3}
 use Rattle.demands.specs.Consequences.{Consequences}
-use Rattle.demands.specs.Bounds.{ByNumber, Timely, ReadByLive, OwnTakeHold, AreBytes, AllInRange, Bounds}
+use Rattle.demands.specs.Bounds.{Timely, ReadByLive, OwnTakeHold, AreBytes, AllInRange, Bounds}
+use Rattle.rules.specs.Sound.{ByNumber}
 use Rattle.rules.proofs.BoolLaws.{bool-cases}
 use Rattle.rules.proofs.Capacity.{step-fits}
-use Rattle.rules.proofs.SoundLaws.{sound-step}
+use Rattle.sound.proofs.SoundProof.{sound-step}
 use Rattle.rules.proofs.AreaLaws.{area-length, area-front, area-rest}
 use Rattle.demands.proofs.Runs.{runs, made, answersTo}
 use Rattle.demands.proofs.ByRule.{ByRule, Follows, run-to, run-of, made-sound}
 use Rattle.demands.proofs.Capacities.{bounded}
 use Rattle.demands.proofs.JudgedProof.{number-is, one-is, refused-record, no-record}
-use Rattle.demands.proofs.OwnPartLaws.{answered-now}
+use Rattle.demands.proofs.OldestLaws.{answered-now}
 use Rattle.demands.proofs.BoundsProof.{numbers-ascend, timely, readers-are-live, own-take-hold}
-use Rattle.demands.proofs.OrderLaws.{InOrder}
-use Rattle.demands.proofs.ConsistentProof.{orderly}
+use Rattle.sound.proofs.OrderLaws.{InOrder}
+use Rattle.demands.proofs.ByEvents.{orderly}
 use Rattle.demands.proofs.SaidProof.{step-said}
-use Rattle.demands.proofs.SettledProof.{Stable, stable}
+use Rattle.demands.proofs.ByEvents.{sound, sound-kept}
 use Rattle.demands.proofs.AnswersProof.{nothing-left, in-time, answersTo-cons}
 use Rattle.demands.proofs.BoundsRange.{range-demand}
 use Rattle.demands.proofs.BookProof.{book-demand}
@@ -187,13 +190,13 @@ module _ (S : Machine) (f : Follows S) where
             → AnsweredNow (S .view t) (lookUpOf (S .view t) (frameIn h)) (frameIn h .leaseOrTimeout) rs m)
             (λ log t u h a r q. answered-now (S .view t) (h .frame) (length (h .area)) (of-made InOrder orderly r));
         nothing-only = of-step (λ t h rs m. CarriedOut S t h → NothingLeft (asked (S .view t) (frameIn h)) rs m)
-            (λ log t u h a r q. nothing-left (S .view t) (of-made Stable stable r) (h .frame)
+            (λ log t u h a r q. nothing-left (S .view t) (of-made Sound sound r) (h .frame)
             (length (h .area)));
         in-time = closed-in-time;
         settled = λ log t r.
-            let s = of-made Stable stable r in
+            let s = of-made Sound sound r in
             record { none-available = s .none-for; not-reached = s .ahead; not-in-vain = s .hopeful };
-        one-each = λ log t r. of-made Stable stable r .consistent-model .each;
+        one-each = λ log t r. of-made Sound sound r .consistent .each;
         few = of-step (λ t h rs m. length rs ≤ 25)
             (λ log t u h a r q. step-fits (S .view t) (h .frame) (length (h .area)) (made-sound S f r)
             (of-made Bounded bounded r) .1);

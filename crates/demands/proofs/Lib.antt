@@ -1,24 +1,10 @@
 -- The theorems are in Theorems; the rest leads there. A proof is named after the spec whose statement it proves.
 
--- laws of lists, of holds and of a frame's own part
-pub mod AllLaws
-pub mod AscendingLaws
-pub mod EachLaws
-pub mod HoldLaws
-pub mod HolderLaws
-pub mod OrderLaws
-pub mod OwnPartLaws
 -- runs of the rules, and histories carried to them
 pub mod Runs
 pub mod ByRule
--- a step as events, what becomes of the tables, and what each event keeps
-pub mod Events
-pub mod Unavailable
-pub mod Becomes
-pub mod EventsProof
-pub mod Consistent
-pub mod ConsistentProof
-pub mod SettledProof
+pub mod ByEvents
+pub mod OldestLaws
 -- bounds
 pub mod Capacities
 pub mod BoundsProof

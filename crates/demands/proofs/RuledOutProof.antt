@@ -23,7 +23,7 @@ use Rattle.demands.specs.Machine.{Handed, Stepper, StepsBy, answeredBy, 
 use Rattle.demands.specs.History.{History, begun, handed, Made}
 use Rattle.demands.specs.Book.{enters, entersAll, arrives, keepBook, bookOf}
 use Rattle.demands.specs.Told.{Told, readsNumber, whoTakes, whoReads, committedTold, privateTold, told}
-use Rattle.demands.specs.Bounds.{Ascending}
+use Rattle.rules.specs.Sound.{Ascending}
 use Rattle.demands.specs.Demands.{Demand1, Demand2, Demand3}
 use Rattle.demands.specs.Frames.{E, write-by, read-by, take-by, readIfExists-by, create-by, commit-by, abort-by, a-tick}
 use Rattle.demands.specs.RuledOut.{saysNothing, saysWaiting, refusesAll, sameRecord, storesNothing}
@@ -35,8 +35,8 @@ use Rattle.demands.specs.RuledOut.{newestInService, takesLongCommits, gi
 use Rattle.demands.specs.RuledOut.{withdrawnGetsNothing, abortsAny, RuledOut}
 use Rattle.rules.proofs.ListLaws.{none-mem}
 use Rattle.rules.proofs.BoolLaws.{and-left, and-right}
-use Rattle.demands.proofs.AllLaws.{all-none, all-cons, all-map}
-use Rattle.demands.proofs.OrderLaws.{Numbered}
+use Rattle.sound.proofs.AllLaws.{all-none, all-cons, all-map}
+use Rattle.sound.proofs.OrderLaws.{Numbered}
 use Rattle.demands.proofs.SaidProof.{said-given}
 use Rattle.demands.proofs.Computed.{all-rules}
 

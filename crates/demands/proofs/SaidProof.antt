@@ -33,9 +33,10 @@ use Rattle.rules.proofs.LayoutLaws.{lookUp-cases, write-serves, lookUp-serves, 
 use Rattle.rules.proofs.LayoutLaws.{commit-serves, abort-serves, tick-serves}
 use Rattle.rules.proofs.StepCases.{own-cases, serve-ind, serve-none, serve-some}
 use Rattle.rules.proofs.RefusalLaws.{clear, is-one}
-use Rattle.demands.proofs.OrderLaws.{Numbered, InOrder, numbered-filter, handed-numbered, freed-numbered}
-use Rattle.demands.proofs.OrderLaws.{stored-order, oldest-said, oldest-given}
-use Rattle.demands.proofs.OwnPartLaws.{step-accepted, part-at, part-lookUp}
+use Rattle.sound.proofs.OrderLaws.{Numbered, InOrder, numbered-filter, handed-numbered, freed-numbered}
+use Rattle.sound.proofs.OrderLaws.{stored-order}
+use Rattle.demands.proofs.OldestLaws.{oldest-said, oldest-given}
+use Rattle.sound.proofs.OwnPartLaws.{step-accepted, part-at, part-lookUp}
 
 -- ---- which frames service follows: the table of operations says what document 01 says
 

@@ -19,11 +19,12 @@ use Rattle.rules.specs.SerialRun.{Kept, Operation, adds, finds, isKept, sameFie
 use Rattle.rules.proofs.BoolLaws.{cond-cases, and-left, and-right, or-cases}
 use Rattle.rules.proofs.ListLaws.{any-append, any-mem, mem-any, none-mem, all-false}
 use Rattle.demands.specs.Told.{takesNumber, readsNumber}
-use Rattle.demands.proofs.AllLaws.{All, all-snoc}
-use Rattle.demands.proofs.HoldLaws.{eqb-cases}
+use Rattle.sound.proofs.AllLaws.{all-snoc}
+use Rattle.rules.specs.Lists.{All}
+use Rattle.sound.proofs.HoldLaws.{eqb-cases}
 use Rattle.demands.proofs.SerialRunOps.{after, afterAll, CanOne, Can, mentionsIt, mentions, takesIt, kept-number}
 use Rattle.demands.proofs.SerialRunOps.{after-snoc, can-snoc}
-use Rattle.demands.proofs.Consistent.{Live}
+use Rattle.rules.specs.Sound.{Live}
 
 -- whether an operation that finds a number gives these fields
 abbrev pub fits : ℕ → Fields → Operation → Bool

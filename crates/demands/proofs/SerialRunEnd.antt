@@ -23,10 +23,11 @@ use Rattle.rules.proofs.BoolLaws.{bool-cases}
 use Rattle.rules.proofs.ListLaws.{mem-filter, filter-mem}
 use Rattle.rules.proofs.ReaderLaws.{bit-of-zero}
 use Rattle.demands.specs.Told.{takesNumber}
-use Rattle.demands.proofs.AllLaws.{All, all-append, all-filter, all-map}
-use Rattle.demands.proofs.HoldLaws.{eqb-cases, not-so, cleared-cases}
-use Rattle.demands.proofs.HolderLaws.{drop-other, stays-live}
-use Rattle.demands.proofs.Consistent.{Live, Consistent}
+use Rattle.sound.proofs.AllLaws.{all-append, all-filter, all-map}
+use Rattle.rules.specs.Lists.{All}
+use Rattle.sound.proofs.HoldLaws.{eqb-cases, not-so, cleared-cases}
+use Rattle.sound.proofs.HolderLaws.{drop-other, stays-live}
+use Rattle.rules.specs.Sound.{Live, Consistent}
 use Rattle.demands.proofs.SerialRunOps.{afterAll, Can, mentions, takesIt, survives, after-split, can-keep}
 use Rattle.demands.proofs.SerialRunAgree.{Holds, Stored, Same, Ties, Agree, AgreeIn, takes-same, takes-mentions}
 use Rattle.demands.proofs.SerialRunAgree.{takes-number}

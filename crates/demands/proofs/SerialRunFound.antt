@@ -20,11 +20,13 @@ use Rattle.rules.proofs.BoolLaws.{and-left, and-right, bool-cases}
 use Rattle.rules.proofs.ListLaws.{filter-mem, mem-any}
 use Rattle.rules.proofs.ReaderLaws.{bit-of-zero}
 use Rattle.demands.specs.Told.{takesNumber, readsNumber}
-use Rattle.demands.proofs.AllLaws.{All, all-snoc, all-filter}
-use Rattle.demands.proofs.HoldLaws.{equal-or, not-so, Free, available-free, heldBy, mark-cases, removes-why}
-use Rattle.demands.proofs.HoldLaws.{handed-all, others-stay, mark-stays}
-use Rattle.demands.proofs.HolderLaws.{add-own, add-other, drop-own, drop-other}
-use Rattle.demands.proofs.Consistent.{Ok, Consistent, unique-entry}
+use Rattle.sound.proofs.AllLaws.{all-snoc, all-filter}
+use Rattle.rules.specs.Lists.{All}
+use Rattle.sound.proofs.HoldLaws.{equal-or, not-so, Free, available-free, heldBy, mark-cases, removes-why}
+use Rattle.sound.proofs.HoldLaws.{handed-all, others-stay, mark-stays}
+use Rattle.sound.proofs.HolderLaws.{add-own, add-other, drop-own, drop-other}
+use Rattle.sound.proofs.Consistent.{unique-entry}
+use Rattle.rules.specs.Sound.{Ok, Consistent}
 use Rattle.demands.proofs.SerialRunOps.{after, afterAll, afterFind, Can, CanOne, mentions, survives, after-split}
 use Rattle.demands.proofs.SerialRunOps.{can-keep, kept-number}
 use Rattle.demands.proofs.SerialRunAgree.{fits, Holds, Stored, Same, Ties, AgreeIn, fields-same, kept-is}

@@ -34,16 +34,18 @@ use Rattle.rules.proofs.ListLaws.{filter-append, filter-filter, filter-same, me
 use Rattle.rules.proofs.ListLaws.{any-filter, all-false, count, count-append, count-cons, count-filter, count-map}
 use Rattle.rules.proofs.ListLaws.{count-mem}
 use Rattle.demands.specs.Machine.{Input}
-use Rattle.demands.specs.Bounds.{Ascending, ByNumber}
+use Rattle.rules.specs.Sound.{Ascending, ByNumber}
 use Rattle.demands.proofs.Runs.{runs, made}
-use Rattle.demands.proofs.AllLaws.{All, all-none, all-snoc, all-filter, all-map, out-mem, out-all}
-use Rattle.demands.proofs.AscendingLaws.{ascend-filter, ascending-distinct}
-use Rattle.demands.proofs.HoldLaws.{equal-or, eqb-cases, not-so}
-use Rattle.demands.proofs.Events.{Heard, Event, refuses, asks, writes, is-found, is-nothing, is-waiting, creates}
-use Rattle.demands.proofs.Events.{commits, aborts, ticks, excepts, expires}
-use Rattle.demands.proofs.Consistent.{Ok, Consistent, live-above}
-use Rattle.demands.proofs.ConsistentProof.{Reader, hearsAll, reads-log, made-keep, consistent}
-use Rattle.demands.proofs.SettledProof.{lasting}
+use Rattle.sound.proofs.AllLaws.{all-none, all-snoc, all-filter, all-map, out-mem, out-all}
+use Rattle.rules.specs.Lists.{All}
+use Rattle.sound.proofs.AscendingLaws.{ascend-filter, ascending-distinct}
+use Rattle.sound.proofs.HoldLaws.{equal-or, eqb-cases, not-so}
+use Rattle.sound.proofs.Events.{Heard, Event, refuses, asks, writes, is-found, is-nothing, is-waiting, creates}
+use Rattle.sound.proofs.Events.{commits, aborts, ticks, excepts, expires}
+use Rattle.sound.proofs.Consistent.{live-above}
+use Rattle.rules.specs.Sound.{Ok, Consistent}
+use Rattle.demands.proofs.ByEvents.{Reader, hearsAll, reads-log, made-keep, consistent}
+use Rattle.demands.proofs.ByEvents.{lasting}
 use Rattle.demands.proofs.SerialRunOps.{after, afterAll, CanOne, Can, carryOut-can, carryOutAll-can, isNumber}
 use Rattle.demands.proofs.SerialRunOps.{total, addsIt, total-carryOut, total-carryOutAll}
 use Rattle.demands.proofs.SerialRunAgree.{Agree, AgreeIn, put, Performs, agree-now, agree-put}

@@ -20,11 +20,13 @@ use Rattle.rules.proofs.ListLaws.{all-false}
 use Rattle.rules.proofs.TimeLaws.{until-now}
 use Rattle.rules.proofs.ReaderLaws.{bit-of-zero}
 use Rattle.demands.specs.Told.{takesNumber}
-use Rattle.demands.proofs.AllLaws.{All, all-none, all-snoc, all-gone}
-use Rattle.demands.proofs.HoldLaws.{eqb-cases, not-so}
-use Rattle.demands.proofs.Events.{Admitted}
-use Rattle.demands.proofs.Becomes.{newTxn}
-use Rattle.demands.proofs.Consistent.{Live, Consistent, ok-below, slot-free}
+use Rattle.sound.proofs.AllLaws.{all-none, all-snoc, all-gone}
+use Rattle.rules.specs.Lists.{All}
+use Rattle.sound.proofs.HoldLaws.{eqb-cases, not-so}
+use Rattle.sound.proofs.Events.{Admitted}
+use Rattle.sound.proofs.Becomes.{newTxn}
+use Rattle.sound.proofs.Consistent.{ok-below, slot-free}
+use Rattle.rules.specs.Sound.{Live, Consistent}
 use Rattle.demands.proofs.SerialRunOps.{after, afterAll, Can, mentionsIt, mentions, can-keep}
 use Rattle.demands.proofs.SerialRunAgree.{fits, Stored, Same, Ties, AgreeIn, takes-mentions, fits-unfound}
 use Rattle.demands.proofs.SerialRunAgree.{ties-more, Performs}

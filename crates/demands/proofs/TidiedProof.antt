@@ -21,7 +21,8 @@ use Rattle.demands.specs.History.{History, begun, handed, Made}
 use Rattle.demands.specs.Tidied.{waitsRefused, mustWait, waitsFull, refusalBefore, stepBefore, theRulesBefore, Tidied}
 use Rattle.rules.proofs.BoolLaws.{bool-cases}
 use Rattle.rules.proofs.RefusalLaws.{first-append, clear}
-use Rattle.rules.proofs.SoundLaws.{sound-empty, sound-step, room-left}
+use Rattle.rules.proofs.SoundLaws.{room-left}
+use Rattle.sound.proofs.SoundProof.{sound-empty, sound-step}
 use Rattle.demands.proofs.JudgedProof.{refusal-fits, number-is}
 
 module _ (m : Model) (sound : Sound m) (bs : List ℕ) (area : ℕ) where

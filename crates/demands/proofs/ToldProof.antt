@@ -25,12 +25,14 @@ use Rattle.demands.specs.Machine.{Input}
 use Rattle.demands.specs.Told.{Told, takesNumber, readsNumber, whoTakes, whoReads, committedTold, privateTold}
 use Rattle.demands.specs.Told.{told, AsTold, Explained}
 use Rattle.demands.proofs.Runs.{runs, made}
-use Rattle.demands.proofs.AllLaws.{All, all-none, all-cons, all-append, all-filter, all-map}
-use Rattle.demands.proofs.AscendingLaws.{ascending-distinct}
-use Rattle.demands.proofs.HoldLaws.{not-so, eqb-cases}
-use Rattle.demands.proofs.Consistent.{Live, Consistent, live-above}
-use Rattle.demands.proofs.ConsistentProof.{consistent}
-use Rattle.demands.proofs.SettledProof.{lasting}
+use Rattle.sound.proofs.AllLaws.{all-none, all-cons, all-append, all-filter, all-map}
+use Rattle.rules.specs.Lists.{All}
+use Rattle.sound.proofs.AscendingLaws.{ascending-distinct}
+use Rattle.sound.proofs.HoldLaws.{not-so, eqb-cases}
+use Rattle.sound.proofs.Consistent.{live-above}
+use Rattle.rules.specs.Sound.{Live, Consistent}
+use Rattle.demands.proofs.ByEvents.{consistent}
+use Rattle.demands.proofs.ByEvents.{lasting}
 use Rattle.demands.proofs.SerialRunOps.{after, afterAll, CanOne, Can, carryOut-can, carryOutAll-can, takesIt}
 use Rattle.demands.proofs.SerialRunOps.{after-split, survives, mentionsIt, isNumber, addsIt, total-carryOutAll}
 use Rattle.demands.proofs.SerialRunAgree.{Holds, Same, takes-number}

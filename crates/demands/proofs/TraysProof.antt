@@ -26,7 +26,7 @@ use Rattle.demands.specs.Trays.{BytesTellRecords}
 use Rattle.demands.specs.Bounds.{InRange}
 use Rattle.rules.proofs.BoolLaws.{cond-cases, or-left, or-right}
 use Rattle.rules.proofs.Capacity.{step-fits}
-use Rattle.rules.proofs.SoundLaws.{sound-empty, sound-step}
+use Rattle.sound.proofs.SoundProof.{sound-empty, sound-step}
 use Rattle.rules.proofs.AreaLaws.{area-length}
 use Rattle.rules.proofs.NumberLaws.{word-is}
 

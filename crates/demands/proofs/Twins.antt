@@ -36,11 +36,13 @@ use Rattle.demands.specs.Said.{Service, follows, follows-not, exceptions
 use Rattle.demands.specs.Said.{in-order, Said, own-first, Oldest}
 use Rattle.rules.proofs.ListLaws.{mem-filter, filter-mem, any-mem, mem-any, filter-same}
 use Rattle.rules.proofs.ReaderLaws.{bit-of-zero, no-bits}
-use Rattle.demands.proofs.AllLaws.{All, all-filter, all-map, all-snoc}
-use Rattle.demands.proofs.HoldLaws.{equal-or, not-so}
-use Rattle.demands.proofs.Consistent.{At, TxnsOk, slot-free, txns-filter, txns-snoc}
-use Rattle.demands.proofs.Becomes.{newTxn}
-use Rattle.demands.proofs.HolderLaws.{add-live, drop-live, add-own, drop-own, add-other, drop-other, freed-at}
+use Rattle.sound.proofs.AllLaws.{all-filter, all-map, all-snoc}
+use Rattle.rules.specs.Lists.{All}
+use Rattle.sound.proofs.HoldLaws.{equal-or, not-so}
+use Rattle.sound.proofs.Consistent.{slot-free, txns-filter, txns-snoc}
+use Rattle.rules.specs.Sound.{At, TxnsOk}
+use Rattle.sound.proofs.Becomes.{newTxn}
+use Rattle.sound.proofs.HolderLaws.{add-live, drop-live, add-own, drop-own, add-other, drop-other, freed-at}
 
 -- ---- tests and lists
 

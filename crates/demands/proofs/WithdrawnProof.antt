@@ -16,10 +16,10 @@ use Rattle.rules.specs.Holds.{liveTxn}
 use Rattle.rules.specs.Refusals.{withdraws, partyWaits, notLive, notOwn, noLease, tooLate, entriesFull, txnsFull, noNumber}
 use Rattle.rules.specs.Refusals.{refusal}
 use Rattle.rules.specs.Step.{carriedOut, accepted, refusedWith, step}
-use Rattle.demands.proofs.EachLaws.{same-party}
-use Rattle.demands.proofs.Events.{LiveOf}
-use Rattle.demands.proofs.Consistent.{TxnsOk, Consistent}
-use Rattle.demands.proofs.ConsistentProof.{consistent}
+use Rattle.sound.proofs.EachLaws.{same-party}
+use Rattle.rules.specs.Sound.{LiveOf}
+use Rattle.rules.specs.Sound.{TxnsOk, Consistent}
+use Rattle.demands.proofs.ByEvents.{consistent}
 use Rattle.demands.proofs.ByRule.{rules-follow, run-of}
 use Rattle.demands.specs.Machine.{theRules}
 use Rattle.demands.specs.History.{inputsOf}

@@ -20,8 +20,8 @@ use Rattle.rules.specs.Frame.{lookUpOp, isTake, isIfExists}
 use Rattle.rules.specs.Words.{upTo, row, table, untilOf, untilWord, entryOf, txnOf, waitOf, entries, txns, waits, view}
 use Rattle.rules.specs.Words.{entryWords, txnWords, waitWords, entriesAt, entryWidth, txnsAt, txnWidth, waitsAt}
 use Rattle.rules.specs.Words.{waitWidth}
-use Rattle.demands.specs.Bounds.{EndFits}
-use Rattle.demands.proofs.AllLaws.{All}
+use Rattle.rules.specs.Time.{EndFits}
+use Rattle.rules.specs.Lists.{All}
 
 -- ---- a table of words, with zeros behind its rows
 

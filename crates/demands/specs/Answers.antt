@@ -35,10 +35,6 @@ pub record AnsweredNow (m : Model) (w : LookUp) (timeout : ℕ) (records : List 
       → givesNothing m w timeout ≡ false
       → FirstOf (waiting w) records × List·Memᴰ w (n .waits)
 
--- a step begins with the frame's look-up, if it is one: it arrives last
-unfoldable pub asked : Model → Frame → Model
-asked m f = cond (isLookUp (f .op)) (withWaits (m .waits ++ (lookUpOf m f ∷ [])) m) m
-
 -- a permitted nothing, "read this way for the whole space" (document 02, T-07): no entry is available, and the deadline
 -- is reached (at once, with timeout 0), or the look-up is of an IfExists kind and no entry conflicts
 pub record Permitted (n : Model) (w : LookUp) : Type 0 where
@@ -57,9 +53,6 @@ pub record Settled (m : Model) : Type 0 where
   pub not-reached : (w : LookUp) → List·Memᴰ w (m .waits) → reached (m .clock) (w .deadline) ≡ false
   pub not-in-vain : (w : LookUp) → List·Memᴰ w (m .waits) → w .«if_exists» ≡ true
       → someConflicts (m .txns) w (m .entries) ≡ true
-
-abbrev pub isTicked : Record → Bool
-isTicked a = eqb (a .kind) kindTicked
 
 -- whether a record closes a look-up of a party in a transaction: found, nothing, the transaction's exception, or its
 -- abort ("A withdrawn look-up counts as closed by its timeout's end": document 02, T-01)

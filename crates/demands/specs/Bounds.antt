@@ -9,25 +9,15 @@ use Rattle.rules.specs.declared.Entry.{Entry}
 use Rattle.rules.specs.declared.LookUp.{LookUp}
 use Rattle.rules.specs.declared.Record.{Record}
 use Rattle.rules.specs.declared.Txn.{Txn}
-use Rattle.rules.specs.declared.Until.{Until}
-use Rattle.rules.specs.declared.Until.the-variants.{Tick, Forever}
 use Rattle.rules.specs.Numbers.{lastClock}
+use Rattle.rules.specs.Time.{EndFits}
 use Rattle.rules.specs.Template.{bit}
 use Rattle.rules.specs.State.{Model, Bounded}
 use Rattle.rules.specs.Holds.{readByOther, available, conflicts}
+use Rattle.rules.specs.Sound.{ByNumber}
 use Rattle.rules.specs.SerialRun.{Logged}
 use Rattle.demands.specs.Machine.{Machine}
 use Rattle.demands.specs.History.{recordsOf, Made}
-
--- each number is below all that stand after it
-unfoldable pub Ascending : List ℕ → Type 0
-Ascending [] = Unit {0}
-Ascending (n ∷ ns) = ((k : ℕ) → List·Memᴰ k ns → n < k) × Ascending ns
-
--- the entries and the live transactions stand by number, none twice
-pub record ByNumber (m : Model) : Type 0 where
-  pub entries : Ascending (map (λ (e : Entry). e .id .0) (m .entries))
-  pub txns : Ascending (map (λ (t : Txn). t .id .0) (m .txns))
 
 -- "no live transaction other than its own holds a read on it": what the rules tell by bits
 abbrev pub ReadByLive : Model → Type 0
@@ -41,10 +31,6 @@ OwnTakeHold m = (w : LookUp) (e : Entry) → List·Memᴰ e (m .entries) → 0 <
     → (available (m .txns) w e ≡ false) × (conflicts (m .txns) w e ≡ false)
 
 -- the clock, and each end and deadline that is not FOREVER, are at most the last clock
-abbrev pub EndFits : Until → Type 0
-EndFits (Tick n) = n ≤ lastClock
-EndFits Forever = Unit {0}
-
 pub record Timely (m : Model) : Type 0 where
   pub clock : m .clock ≤ lastClock
   pub entries : (e : Entry) → List·Memᴰ e (m .entries) → EndFits (e .end)

@@ -14,7 +14,9 @@ use Rattle.rules.specs.SerialRun.{Logged}
 use Rattle.demands.specs.Machine.{frameIn, Machine}
 use Rattle.demands.specs.History.{recordsOf, History, EveryState, EveryStep}
 use Rattle.demands.specs.Judged.{CarriedOut}
-use Rattle.demands.specs.Answers.{AnsweredNow, asked, NothingLeft, Settled, isTicked, closes}
+use Rattle.demands.specs.Answers.{AnsweredNow, NothingLeft, Settled, closes}
+use Rattle.rules.specs.LookUp.{asked}
+use Rattle.rules.specs.Records.{isTicked}
 use Rattle.demands.specs.Demands.{Demand1, Demand2}
 
 pub record Consequences (S : Machine) : Type 0 where

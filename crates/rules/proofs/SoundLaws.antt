@@ -14,7 +14,7 @@ use lib.ListN.{length, length-append}
 use Rattle.rules.specs.declared.Entry.{Entry}
 use Rattle.rules.specs.declared.LookUp.{LookUp}
 use Rattle.rules.specs.declared.Txn.{Txn}
-use Rattle.rules.specs.Lists.{filterb, anyb}
+use Rattle.rules.specs.Lists.{All, filterb, anyb}
 use Rattle.rules.specs.Numbers.{maxParty, maxWaits}
 use Rattle.rules.specs.Time.{reached}
 use Rattle.rules.specs.State.{Model, empty, withWaits}
@@ -45,7 +45,7 @@ record Named (m : Model) : Type 0 where
   one-each : OneEach m
 
 named : {m : Model} → Sound m → Named m
-named s = record { parties = s .parties; one-each = s .one-each }
+named s = record { parties = s .consistent .parties; one-each = s .consistent .each }
 
 -- ---- at most 16 wait: of the parties 1 to n, at most n
 one-at-most : (b : Bool) → cond b 1 0 ≤ 1
@@ -91,46 +91,16 @@ waits-fit m s =
     (λ w i. le-leb (w .party) maxParty (s .parties w i .last)) in
     omega (arith, few maxParty m s, ap length all)
 
--- ---- some of the look-ups that waited
-record SomeOf (ws vs : List LookUp) : Type 0 where
-  among : (w : LookUp) → List·Memᴰ w vs → List·Memᴰ w ws
-  no-more : (q : LookUp → Bool) → count q vs ≤ count q ws
-
-all-of : (ws : List LookUp) → SomeOf ws ws
-all-of ws = record { among = λ w i. i; no-more = λ q. omega arith }
-
-then : {us vs ws : List LookUp} → SomeOf ws vs → SomeOf vs us → SomeOf ws us
-then a b =
-    record { among = λ w i. a .among w (b .among w i); no-more = λ q. omega (arith, a .no-more q, b .no-more q) }
-
-left-of : (p : LookUp → Bool) (ws : List LookUp) → SomeOf ws (filterb p ws)
-left-of p ws =
-    record { among = λ w i. mem-filter p ws i .0; no-more = λ q. omega (arith, count-filter q p ws) }
-
-served-of : (ts : List Txn) (es : List Entry) (ws : List LookUp) → SomeOf ws (serve ts es ws .waits)
-served-of ts es ws =
-    serve-ind ts (λ es ws r. SomeOf ws (r .waits)) (λ es. all-of [])
-    (λ es w ws e below. record {
-      among = λ v i. ⊎-elim (λ q. List·Memᴰ·head q) (λ j. List·Memᴰ·tail (below .among v j)) (List·Memᴰ·cases-cons i);
-      no-more = λ q.
-          omega (arith, below .no-more q, count-cons q w ws, count-cons q w (serve ts es ws .waits));
-    })
-    (λ es w ws x e below. record {
-      among = λ v i. List·Memᴰ·tail (below .among v i);
-      no-more = λ q. omega (arith, below .no-more q, count-cons q w ws);
-    })
-    es
-    ws
-
-keeps-some : {m n : Model} → Named m → SomeOf (m .waits) (n .waits) → Named n
-keeps-some s o =
-    record {
-      parties = λ w i. s .parties w (o .among w i);
-      one-each = λ p. let l = s .one-each p in omega (arith, o .no-more (ofParty p));
-    }
+-- ---- who waits after service waited before
+served-among : (ts : List Txn) (es : List Entry) (ws : List LookUp) → All (λ w. List·Memᴰ w ws) (serve ts es ws .waits)
+served-among ts es ws =
+    serve-ind ts (λ es ws r. All (λ w. List·Memᴰ w ws) (r .waits)) (λ es w i. i)
+    (λ es w ws e below v i.
+    ⊎-elim (λ q. List·Memᴰ·head q) (λ j. List·Memᴰ·tail (below v j)) (List·Memᴰ·cases-cons i))
+    (λ es w ws x e below v i. List·Memᴰ·tail (below v i)) es ws
 
 -- ---- a look-up that 5 and 6 let pass arrives
-is-party : (f : Frame) → isTick (f .op) ≡ false → wrongParty f ≡ false → IsParty (f .party)
+pub is-party : (f : Frame) → isTick (f .op) ≡ false → wrongParty f ≡ false → IsParty (f .party)
 unfolding wrongParty
 is-party f t e =
     let r : (eqb (f .party) 0 || ltb maxParty (f .party)) ≡ false = rw t at e in
@@ -168,81 +138,7 @@ pub room-left : (m : Model) (f : Frame) → isLookUp (f .op) ≡ true → wrongP
 room-left m f l e free s =
     omega (arith, waits-fit _ (arrives m f l e free (named s)), length-append (m .waits) (lookUpOf m f ∷ []))
 
--- ---- the parts of a step
-abortAll-some : (ts : List Txn) (m : Model) → SomeOf (m .waits) (abortAll ts m .waits)
-unfolding abortAll abort
-abortAll-some [] m = all-of (m .waits)
-abortAll-some (t ∷ ts) m =
-    then (left-of (λ w. not (eqb (w .txn .0) (t .id .0))) (m .waits)) (abortAll-some ts (abort (t .id .0) m))
-
-answer-named : (m : Model) (f : Frame) → isLookUp (f .op) ≡ true → wrongParty f ≡ false → partyWaits m f ≡ false
-    → Named m → (o : Option Entry) → Named (answer m (lookUpOf m f) (f .leaseOrTimeout) o .model)
-unfolding answer answerFound answerNothing answerWaiting
-answer-named m f l e free s (some x) = keeps-some s (all-of (m .waits))
-answer-named m f l e free s none =
-    cond-cases (λ (c : Carried). Named (c .model)) (givesNothing m (lookUpOf m f) (f .leaseOrTimeout)) (λ _. s)
-    (λ _. arrives m f l e free s)
-
-own-named : (m : Model) (bs : List ℕ) (area : ℕ) → Clear m bs area → Named m → Named (ownPart m (decode bs) .model)
-unfolding write stored lookUp create commitFrame commit abortFrame abort tick
-own-named m bs area c s =
-    let f = decode bs in
-    own-cases (λ (d : Carried). Named (d .model)) m f (is-one bs (c .operation))
-    (λ t. keeps-some s (all-of (m .waits)))
-    (λ t. answer-named m f t (c .party) (c .free) s (oldest (m .txns) (lookUpOf m f) (m .entries)))
-    (λ t. keeps-some s (all-of (m .waits)))
-    (λ t. keeps-some s (all-of (m .waits)))
-    (λ t. keeps-some s (left-of (λ w. not (eqb (w .txn .0) (f .txn))) (m .waits)))
-    (λ t. keeps-some s (all-of (m .waits)))
-
-finish-some : (f : Frame) (m : Model) → SomeOf (m .waits) (finish f m .model .waits)
-unfolding finish lapsed dropEnded service closeWaits
-finish-some f m = then ended-some (then served-some closed-some)
-  where
-    ended : Done
-    ended = cond (isTick (f .op)) (lapsed m) (quiet m)
-
-    ended-some : SomeOf (m .waits) (ended .model .waits)
-    ended-some =
-        cond-cases (λ (d : Done). SomeOf (m .waits) (d .model .waits)) (isTick (f .op))
-        (λ _. abortAll-some (endedTxns m) m) (λ _. all-of (m .waits))
-
-    served : Done
-    served = cond (serves f) (service (ended .model)) (quiet (ended .model))
-
-    served-some : SomeOf (ended .model .waits) (served .model .waits)
-    served-some =
-        cond-cases (λ (d : Done). SomeOf (ended .model .waits) (d .model .waits)) (serves f)
-        (λ _. served-of (ended .model .txns) (ended .model .entries) (ended .model .waits))
-        (λ _. all-of (ended .model .waits))
-
-    closed-some : SomeOf (served .model .waits) (closeWaits (served .model) .model .waits)
-    closed-some = left-of _ (served .model .waits)
-
--- ---- deadlines lie ahead: whoever waits when a step is over is not over
-closed-ahead : (m : Model) → Ahead (closeWaits m .model)
-unfolding closeWaits isOver
-closed-ahead m w i =
-    or-left (reached (m .clock) (w .deadline)) _ (not-true _ (mem-filter (λ v. not (isOver m v)) (m .waits) i .1))
-
-pub sound-empty : Sound empty
-sound-empty =
-    record {
-      parties = λ w i. absurd (List·Memᴰ·not-nil i);
-      one-each = λ p. omega arith;
-      ahead = λ w i. absurd (List·Memᴰ·not-nil i);
-    }
-
-pub sound-step : (m : Model) (bs : List ℕ) (area : ℕ) → Sound m → Sound (step m bs area .model)
-unfolding refusedWith accepted carriedOut finish
-sound-step m bs area s =
-    step-cases (λ (o : Outcome). Sound (o .model)) m bs area (λ n. s)
-    (λ e. let f = decode bs in
-    let own = ownPart m f .model in
-    let k : Named (finish f own .model) = keeps-some (own-named m bs area (clear m bs area e) (named s)) (finish-some f own) in
-    record { parties = k .parties; one-each = k .one-each; ahead = closed-ahead _ })
-
--- ---- and in the midst of one that is no tick, too
+-- ---- in the midst of a step that is no tick deadlines lie ahead, too
 answer-ahead : (m : Model) (f : Frame) → Ahead m → (o : Option Entry)
     → Ahead (answer m (lookUpOf m f) (f .leaseOrTimeout) o .model)
 unfolding answer answerFound answerNothing answerWaiting lookUpOf givesNothing
@@ -263,12 +159,12 @@ own-ahead m f o t a =
     (λ _. answer-ahead m f a (oldest (m .txns) (lookUpOf m f) (m .entries)))
     (λ _. a)
     (λ _. a)
-    (λ _ w i. a w (left-of (λ w. not (eqb (w .txn .0) (f .txn))) (m .waits) .among w i))
+    (λ _ w i. a w (mem-filter (λ w. not (eqb (w .txn .0) (f .txn))) (m .waits) i .0))
     (λ y. absurd (true≢false (sym y ∙ t)))
 
 pub service-ahead : (m : Model) → Ahead m → Ahead (service m .model)
 unfolding service
-service-ahead m a w i = a w (served-of (m .txns) (m .entries) (m .waits) .among w i)
+service-ahead m a w i = a w (served-among (m .txns) (m .entries) (m .waits) w i)
 
 -- so where no look-up of an IfExists kind waits, none is over
 pub none-over : (m : Model) → Ahead m → anyb (λ (w : LookUp). w .«if_exists») (m .waits) ≡ false

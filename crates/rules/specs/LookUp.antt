@@ -12,7 +12,7 @@ use Rattle.rules.specs.Lists.{filterb}
 use Rattle.rules.specs.Time.{until}
 use Rattle.rules.specs.State.{Model, holding, withEntries, withWaits}
 use Rattle.rules.specs.Holds.{liveTxn, addReaderOf, dropReaderOf, oldest, someConflicts}
-use Rattle.rules.specs.Frame.{Frame, isTake, isIfExists}
+use Rattle.rules.specs.Frame.{Frame, isLookUp, isTake, isIfExists}
 use Rattle.rules.specs.Records.{found, nothing, waiting}
 use Rattle.rules.specs.Done.{Carried}
 
@@ -76,3 +76,7 @@ answer m w timeout none = cond (givesNothing m w timeout) (answerNothing m w) (a
 
 unfoldable pub lookUp : Model → Frame → Carried
 lookUp m f = let w = lookUpOf m f in answer m w (f .leaseOrTimeout) (oldest (m .txns) w (m .entries))
+
+-- a step begins with the frame's look-up, if it is one: it arrives last
+unfoldable pub asked : Model → Frame → Model
+asked m f = cond (isLookUp (f .op)) (withWaits (m .waits ++ (lookUpOf m f ∷ [])) m) m

@@ -1,6 +1,8 @@
 -- "Answer records": kind, party, refusal number, zero, transaction, entry number, four fields; and their 28 bytes.
 use Prim.Native.Nat.{ℕ, _+_, _*_}
+use mathlib.Core.Bool.{Bool}
 use mathlib.Core.List.{List, [], _∷_, _++_, map}
+use lib.Dec.{eqb}
 use lib.ListN.{length, drop}
 use Rattle.rules.specs.declared.Entry.{Entry}
 use Rattle.rules.specs.declared.Fields.{Fields}
@@ -106,3 +108,6 @@ answerBytes rs = joined (map recordBytes rs)
 -- the answers area afterwards: "bytes after the last record keep their contents"
 unfoldable pub areaAfter : List Record → List ℕ → List ℕ
 areaAfter rs area = answerBytes rs ++ drop (recordSize * length rs) area
+
+abbrev pub isTicked : Record → Bool
+isTicked a = eqb (a .kind) kindTicked

@@ -16,7 +16,7 @@ use Rattle.rules.specs.Tray.{frameCount, frameAt, runFrames}
 use Rattle.rules.specs.Allowed.{Answered, Allowed, Stepped}
 use Rattle.rules.proofs.AreaLaws.{area-length, area-then}
 use Rattle.rules.proofs.Capacity.{step-fits}
-use Rattle.rules.proofs.SoundLaws.{sound-empty, sound-step}
+use Rattle.sound.proofs.SoundProof.{sound-empty, sound-step}
 use Rattle.rules.proofs.ViewLaws.{view-bounded}
 use Rattle.tray.proofs.RunLaws.{Ran, ran-none, ran-more, ran-all, ran-stops}
 use Rattle.tray.specs.Pairs.{pairAt}

@@ -18,11 +18,11 @@ use Rattle.rules.specs.LookUp.{removes, isEntry, marked, handOut}
 use Rattle.rules.specs.Transactions.{released}
 use Rattle.rules.proofs.BoolLaws.{cond-cases}
 use Rattle.rules.proofs.ListLaws.{find-some}
-use Rattle.demands.specs.Bounds.{Ascending}
-use Rattle.demands.specs.Said.{Oldest}
-use Rattle.demands.proofs.AllLaws.{All, all-snoc, all-filter, all-map}
-use Rattle.demands.proofs.AscendingLaws.{ascend-filter, ascend-map, ascend-snoc, find-lowest, lowest-found}
-use Rattle.demands.proofs.HoldLaws.{eqb-cases, mark-cases}
+use Rattle.rules.specs.Sound.{Ascending}
+use Rattle.sound.proofs.AllLaws.{all-snoc, all-filter, all-map}
+use Rattle.rules.specs.Lists.{All}
+use Rattle.sound.proofs.AscendingLaws.{ascend-filter, ascend-map, ascend-snoc, find-lowest, lowest-found}
+use Rattle.sound.proofs.HoldLaws.{eqb-cases, mark-cases}
 
 abbrev pub Numbered : ℕ → List Entry → Type 0
 Numbered n es = Ascending (map (λ (e : Entry). e .id .0) es) × All (λ e. e .id .0 < n) es
@@ -61,17 +61,3 @@ stored-order m f h =
     (λ _. let up = ascend-snoc (λ (e : Entry). e .id .0) (newEntry m f) (m .entries) (h .1) (h .0) in
     (up, all-snoc (m .entries) more (omega arith)))
 
--- the entry that the rules hand out is the oldest that is available, and the other way round
-module _ {n : ℕ} {ts : List Txn} {w : LookUp} {es : List Entry} {e : Entry} (h : Numbered n es) where
-  pub oldest-said : oldest ts w es ≡ some e → Oldest ts w es e
-  oldest-said q =
-      let f = find-some (available ts w) es q in
-      record {
-        stored = f .0;
-        is-available = f .1;
-        lowest = λ x i av. find-lowest (λ (x : Entry). x .id .0) (available ts w) es (h .0) q i av;
-      }
-
-  pub oldest-given : Oldest ts w es e → oldest ts w es ≡ some e
-  oldest-given o =
-      lowest-found (λ (x : Entry). x .id .0) (available ts w) es (h .0) (o .stored) (o .is-available) (o .lowest)

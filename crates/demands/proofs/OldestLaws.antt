@@ -1,63 +1,50 @@
--- A frame's own part, by its operation; and what a look-up frame is answered, for the four kinds together.
+-- The entry that the rules hand out is the oldest that is available; and what a look-up frame is answered, for the four
+-- kinds together.
 use Prim.Native.Nat.{ℕ}
-use mathlib.Core.Bool.{true, false, cond, not, _||_}
-use mathlib.Core.Path.{_≡_, refl, ap, ap₂, _∙_}
+use mathlib.Core.Bool.{true, false, not, _||_}
+use mathlib.Core.Path.{_≡_, refl, ap₂}
 use mathlib.Core.List.{List, _∷_, List·Memᴰ, List·Memᴰ·head, Memᴰ·append-right}
 use borrow.Author.Tests.{eqb-false}
 use lib.Dec.{eqb}
 use Rattle.rules.specs.declared.LookUp.{LookUp}
 use Rattle.rules.specs.Lists.{filterb}
 use Rattle.rules.specs.State.{Model}
-use Rattle.rules.specs.Holds.{available}
-use Rattle.rules.specs.Frame.{Frame, decode, isWrite, isLookUp, isCreate, isCommit, isAbort}
-use Rattle.rules.specs.Done.{Carried, after}
-use Rattle.rules.specs.Write.{write}
+use Rattle.rules.specs.Holds.{available, oldest}
+use Rattle.rules.specs.Frame.{Frame, decode, isLookUp}
+use Rattle.rules.specs.Done.{Carried}
+use Rattle.rules.specs.Write.{stored}
 use Rattle.rules.specs.LookUp.{lookUpOf, givesNothing, answerFound, answerNothing, answerWaiting, answer, lookUp}
-use Rattle.rules.specs.Transactions.{create}
-use Rattle.rules.specs.Tick.{tick}
 use Rattle.rules.specs.Closing.{isOver, closeWaits}
 use Rattle.rules.specs.Refusals.{refusal}
-use Rattle.rules.specs.Step.{step, accepted, ownPart, finish, carriedOut, commitFrame, abortFrame}
+use Rattle.rules.specs.Step.{step, accepted}
 use Rattle.demands.specs.Answers.{AnsweredNow}
-use Rattle.rules.proofs.ListLaws.{any-none, any-find, filter-mem}
+use Rattle.rules.proofs.ListLaws.{any-none, any-find, filter-mem, find-some}
 use Rattle.rules.proofs.BoolLaws.{or-left, or-right}
 use Rattle.rules.proofs.TimeLaws.{until-later}
-use Rattle.rules.proofs.LayoutLaws.{lookUp-cases, finish-quiet, lookUp-serves, lookUp-not-tick}
-use Rattle.demands.proofs.OrderLaws.{InOrder, oldest-said}
+use Rattle.sound.proofs.OrderLaws.{InOrder, Numbered}
+use mathlib.Core.Option.{some}
+use Rattle.rules.specs.declared.Entry.{Entry}
+use Rattle.rules.specs.declared.Txn.{Txn}
+use Rattle.demands.specs.Said.{Oldest}
+use Rattle.sound.proofs.AscendingLaws.{find-lowest, lowest-found}
+use Rattle.sound.proofs.OwnPartLaws.{step-accepted, carried-lookUp}
 
--- a frame that is not refused is carried out
-pub step-accepted : (m : Model) (bs : List ℕ) (area : ℕ) → refusal m bs area ≡ 0
-    → step m bs area ≡ accepted (carriedOut m (decode bs))
-unfolding step
-step-accepted m bs area e = rw e
+-- the entry that the rules hand out is the oldest that is available, and the other way round
+module _ {n : ℕ} {ts : List Txn} {w : LookUp} {es : List Entry} {e : Entry} (h : Numbered n es) where
+  pub oldest-said : oldest ts w es ≡ some e → Oldest ts w es e
+  oldest-said q =
+      let f = find-some (available ts w) es q in
+      record {
+        stored = f .0;
+        is-available = f .1;
+        lowest = λ x i av. find-lowest (λ (x : Entry). x .id .0) (available ts w) es (h .0) q i av;
+      }
+
+  pub oldest-given : Oldest ts w es e → oldest ts w es ≡ some e
+  oldest-given o =
+      lowest-found (λ (x : Entry). x .id .0) (available ts w) es (h .0) (o .stored) (o .is-available) (o .lowest)
 
 module _ (m : Model) (f : Frame) where
-  -- the own part, by the operation
-  abbrev pub partOf : ℕ → Carried
-  partOf op =
-      cond (isWrite op) (write m f)
-      (cond (isLookUp op) (lookUp m f)
-      (cond (isCreate op) (create m f)
-      (cond (isCommit op) (commitFrame m f)
-      (cond (isAbort op) (abortFrame m f) (tick m)))))
-
-  pub part-at : {op : ℕ} → f .op ≡ op → ownPart m f ≡ partOf op
-  unfolding ownPart
-  part-at q = ap partOf q
-
-  pub part-lookUp : isLookUp (f .op) ≡ true → ownPart m f ≡ lookUp m f
-  unfolding ownPart
-  part-lookUp t = lookUp-cases (λ op. partOf op ≡ lookUp m f) (f .op) t refl refl refl refl
-
-  -- a look-up's is all that it does, but for who waits in vain from then on
-  pub carried-lookUp : isLookUp (f .op) ≡ true
-      → carriedOut m f ≡ after (lookUp m f .own) (closeWaits (lookUp m f .model))
-  unfolding carriedOut
-  carried-lookUp t =
-      let c = lookUp m f in
-      ap (λ (p : Carried). after (p .own) (finish f (p .model))) (part-lookUp t)
-      ∙ ap (after (c .own)) (finish-quiet f (c .model) (lookUp-not-tick (f .op) t) (lookUp-serves f t))
-
   abbrev asked-for : LookUp
   asked-for = lookUpOf m f
 

@@ -40,19 +40,23 @@ use Rattle.rules.proofs.ListLaws.{filter-mem, none-any, find-some}
 use Rattle.rules.proofs.LayoutLaws.{write-not-tick, lookUp-not-tick, create-not-tick, commit-not-tick, abort-not-tick}
 use Rattle.rules.proofs.LayoutLaws.{lookUp-not-abort, tick-serves, lookUp-serves, finish-quiet}
 use Rattle.rules.proofs.StepCases.{own-cases, serve-ind}
+use Rattle.rules.proofs.SoundLaws.{is-party}
 use Rattle.rules.proofs.RefusalLaws.{Clear, clear, is-one, none-waits}
-use Rattle.demands.specs.Bounds.{EndFits, Ascending}
-use Rattle.demands.specs.Answers.{asked}
-use Rattle.demands.proofs.AllLaws.{All, all-none, all-cons, all-append, all-snoc, all-filter, all-map, Out, here}
-use Rattle.demands.proofs.AllLaws.{there, out-last}
-use Rattle.demands.proofs.HoldLaws.{mark-cases}
+use Rattle.rules.specs.Time.{EndFits}
+use Rattle.rules.specs.Sound.{Ascending, Lasting, NoneFor, IsParty}
+use Rattle.rules.specs.LookUp.{asked}
+use Rattle.sound.proofs.AllLaws.{all-none, all-cons, all-append, all-snoc, all-filter, all-map, Out, here}
+use Rattle.rules.specs.Lists.{All}
+use Rattle.sound.proofs.AllLaws.{there, out-last}
+use Rattle.sound.proofs.HoldLaws.{mark-cases}
 use Rattle.rules.proofs.TimeLaws.{until-later, until-now}
-use Rattle.demands.proofs.Events.{LiveOf, Ordered, Admitted, Heard, saying, heard, Closes, Event, refuses, asks}
-use Rattle.demands.proofs.Events.{writes, is-found, is-nothing, is-waiting, creates, commits, aborts, ticks}
-use Rattle.demands.proofs.Events.{excepts, expires, Events, over, then, join}
-use Rattle.demands.proofs.Becomes.{waits-all}
-use Rattle.demands.proofs.Unavailable.{serve-settled}
-use Rattle.demands.proofs.AscendingLaws.{ascend-filter}
+use Rattle.sound.proofs.Events.{Admitted, Heard, saying, heard, Closes, Event, refuses, asks}
+use Rattle.rules.specs.Sound.{LiveOf, Ordered}
+use Rattle.sound.proofs.Events.{writes, is-found, is-nothing, is-waiting, creates, commits, aborts, ticks}
+use Rattle.sound.proofs.Events.{excepts, expires, Events, over, then, join}
+use Rattle.sound.proofs.Becomes.{waits-all}
+use Rattle.sound.proofs.Unavailable.{serve-settled}
+use Rattle.sound.proofs.AscendingLaws.{ascend-filter}
 
 -- what it lets pass, row by row
 module _ (f : Frame) (m : Model) where
@@ -92,6 +96,7 @@ admitted m bs area c =
           (bool-cases (eqb (f .txn) 0));
       ends = λ t. own-named f m (c .own) (rw (t, or-true));
       free = λ t w i. none-waits m f t (c .free) i;
+      party = λ t. is-party f t (c .party);
       in-time = until-fits f m (c .time);
       ticks-on = clock-fits f m (c .time);
       slot-left = λ t. leb-false maxTxns (length (m .txns)) (and-false-right (isCreate (f .op)) _ t (c .txn-room));
@@ -189,19 +194,6 @@ module _ (f : Frame) where
       (all-filter ended (m .txns) (λ t i e. (i, e))) in
       subst (λ hs. Events f m hs (lapsed m .model)) (append-nil (map saying (lapsed m .records)))
       (join gone (then (expires _ tk) over))
-
--- nobody who waits has an available entry; no deadline is reached; nobody waits in vain; no entry is past its lease
-abbrev pub NoneFor : Model → Type 0
-NoneFor m = All (λ w. someAvailable (m .txns) w (m .entries) ≡ false) (m .waits)
-
-abbrev pub OpenIn : Model → Type 0
-OpenIn m = All (λ w. reached (m .clock) (w .deadline) ≡ false) (m .waits)
-
-abbrev pub Hopeful : Model → Type 0
-Hopeful m = All (λ w. w .«if_exists» ≡ true → someConflicts (m .txns) w (m .entries) ≡ true) (m .waits)
-
-abbrev pub Lasting : Model → Type 0
-Lasting m = All (λ e. reached (m .clock) (e .end) ≡ false) (m .entries)
 
 -- service hands out what lasts, and says nothing but found
 serve-lasting : (clock : ℕ) (ts : List Txn) (es : List Entry) (ws : List LookUp)

@@ -14,7 +14,7 @@ use Rattle.rules.specs.declared.Record.{Record}
 use Rattle.rules.specs.declared.Txn.{Txn}
 use Rattle.rules.specs.declared.LookUp.{LookUp}
 use Rattle.rules.specs.Time.{reached}
-use Rattle.rules.specs.State.{Model}
+use Rattle.rules.specs.State.{Model, empty}
 use Rattle.rules.specs.Template.{matches}
 use Rattle.rules.specs.Holds.{liveTxn, dropReaderOf, readByOther, visible, available, someAvailable, someConflicts}
 use Rattle.rules.specs.Frame.{Frame, decode, isLookUp, isTick, serves}
@@ -26,26 +26,20 @@ use Rattle.rules.specs.Step.{step}
 use Rattle.rules.proofs.BoolLaws.{bool-cases}
 use Rattle.rules.proofs.ListLaws.{none-mem, all-false}
 use Rattle.rules.proofs.LayoutLaws.{write-not-abort, write-serves, commit-serves, abort-serves, tick-serves}
-use Rattle.demands.specs.Machine.{Input}
-use Rattle.demands.proofs.Runs.{made, made-keep}
-use Rattle.demands.proofs.AllLaws.{All, all-none, all-snoc, all-filter, out-all}
-use Rattle.demands.proofs.HoldLaws.{eqb-cases, not-so, available-free}
+use Rattle.sound.proofs.AllLaws.{all-none, all-snoc, all-filter, out-all}
+use Rattle.rules.specs.Lists.{All}
+use Rattle.sound.proofs.HoldLaws.{eqb-cases, not-so, available-free}
 use Rattle.rules.proofs.TimeLaws.{until-later}
-use Rattle.demands.proofs.Unavailable.{handOut-unavailable}
-use Rattle.demands.proofs.Events.{Heard, Event, refuses, asks, writes, is-found, is-nothing, is-waiting, creates}
-use Rattle.demands.proofs.Events.{commits, aborts, ticks, excepts, expires, Events, over, then}
-use Rattle.demands.proofs.Becomes.{newTxn, kept-all, clock-moves}
-use Rattle.demands.proofs.EventsProof.{not-over, in-hope, NoneFor, OpenIn, Hopeful, Lasting}
-use Rattle.demands.proofs.EventsProof.{Carries, StepIs, is-carried, is-refused, step-is}
-use Rattle.demands.proofs.Consistent.{Consistent, ok-below, not-inside}
-use Rattle.demands.proofs.ConsistentProof.{consistent-event, consistent-events, consistent-empty}
-
-pub record Stable (m : Model) : Type 0 where
-  pub consistent-model : Consistent m
-  pub lasting : Lasting m
-  pub ahead : OpenIn m
-  pub none-for : NoneFor m
-  pub hopeful : Hopeful m
+use Rattle.sound.proofs.Unavailable.{handOut-unavailable}
+use Rattle.sound.proofs.Events.{Heard, Event, refuses, asks, writes, is-found, is-nothing, is-waiting, creates}
+use Rattle.sound.proofs.Events.{commits, aborts, ticks, excepts, expires, Events, over, then}
+use Rattle.sound.proofs.Becomes.{newTxn, kept-all, clock-moves}
+use Rattle.sound.proofs.EventsProof.{not-over, in-hope}
+use Rattle.rules.specs.Sound.{NoneFor, Ahead, Hopeful, Lasting, Sound}
+use Rattle.sound.proofs.EventsProof.{Carries, StepIs, is-carried, is-refused, step-is}
+use Rattle.sound.proofs.Consistent.{ok-below, not-inside}
+use Rattle.rules.specs.Sound.{Consistent}
+use Rattle.sound.proofs.ConsistentProof.{consistent-event, consistent-events, consistent-empty}
 
 -- in the midst of a frame's step: so but for its own look-up, and for what a tick or service mends
 abbrev Own : Frame → LookUp → Type 0
@@ -125,7 +119,7 @@ steady-events over s h = h
 steady-events (then e t) s h = steady-events t (consistent-event e s) (steady-event e s h)
 
 -- and when it is over: who waits on after the closings is not over
-module _ {f : Frame} {m n : Model} {rs : List Record} (k : Stable m) (c : Carries f m rs n) where
+module _ {f : Frame} {m n : Model} {rs : List Record} (k : Sound m) (c : Carries f m rs n) where
   abbrev mid : Model
   mid = c .rested .mid
 
@@ -136,23 +130,23 @@ module _ {f : Frame} {m n : Model} {rs : List Record} (k : Stable m) (c : Carrie
   none-mid =
       let r = c .rested in
       ⊎-elim (r .settled) (λ x w i. ⊎-elim (λ o. r .waits-well (o .0) w i (o .1)) (λ y. y) (x w i))
-      (steady-events (r .until-mid) (k .consistent-model) begins .none-for)
+      (steady-events (r .until-mid) (k .consistent) begins .none-for)
 
   waits-on : (P : LookUp → Type 0) → ((w : LookUp) → List·Memᴰ w (mid .waits) → isOver mid w ≡ false → P w)
       → All P (closeWaits mid .model .waits)
   unfolding closeWaits
   waits-on P h = all-filter (λ w. not (isOver mid w)) (mid .waits) (λ w i r. h w i (not-true _ r))
 
-  carried-stable : Stable n
+  carried-sound : Sound n
   unfolding closeWaits
-  carried-stable =
+  carried-sound =
       let r = c .rested in
       let q = r .left in
       record {
-        consistent-model = consistent-events (c .events) (k .consistent-model);
+        consistent = consistent-events (c .events) (k .consistent);
         lasting =
-            ⊎-elim (r .lasting) (λ x. x) (steady-events (c .events) (k .consistent-model) begins .lasting);
-        ahead = subst⁻¹ OpenIn q (waits-on (λ w. reached (mid .clock) (w .deadline) ≡ false) (λ w i e. not-over mid w e));
+            ⊎-elim (r .lasting) (λ x. x) (steady-events (c .events) (k .consistent) begins .lasting);
+        ahead = subst⁻¹ Ahead q (waits-on (λ w. reached (mid .clock) (w .deadline) ≡ false) (λ w i e. not-over mid w e));
         none-for = subst⁻¹ NoneFor q
             (waits-on (λ w. someAvailable (mid .txns) w (mid .entries) ≡ false) (λ w i e. none-mid w i));
         hopeful = subst⁻¹ Hopeful q
@@ -160,23 +154,19 @@ module _ {f : Frame} {m n : Model} {rs : List Record} (k : Stable m) (c : Carrie
             (λ w i e. in-hope mid w e));
       }
 
-pub stable-step : (i : Input) (m : Model) → Stable m → Stable (step m (i .frame) (i .area) .model)
-stable-step i m k = go (step-is m (i .frame) (i .area) (k .consistent-model .ordered .txns))
+pub sound-step : (m : Model) (bs : List ℕ) (area : ℕ) → Sound m → Sound (step m bs area .model)
+sound-step m bs area k = go (step-is m bs area (k .consistent .ordered .txns))
   where
-    go : {rs : List Record} {n : Model} → StepIs (decode (i .frame)) m rs n → Stable n
-    go (is-refused e q) = subst⁻¹ Stable q k
-    go (is-carried a c) = carried-stable k c
+    go : {rs : List Record} {n : Model} → StepIs (decode bs) m rs n → Sound n
+    go (is-refused e q) = subst⁻¹ Sound q k
+    go (is-carried a c) = carried-sound k c
 
-pub stable : (is : List Input) → Stable (made is)
-stable =
-    made-keep Stable stable-step
-    (record {
-      consistent-model = consistent-empty;
-      lasting = all-none _;
+pub sound-empty : Sound empty
+sound-empty =
+    record {
+      consistent = consistent-empty;
       ahead = all-none _;
+      lasting = all-none _;
       none-for = all-none _;
       hopeful = all-none _;
-    })
-
-pub lasting : (is : List Input) → Lasting (made is)
-lasting is = stable is .lasting
+    }

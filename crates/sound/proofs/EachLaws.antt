@@ -9,7 +9,7 @@ use Rattle.rules.specs.declared.LookUp.{LookUp}
 use Rattle.rules.specs.Lists.{filterb}
 use Rattle.rules.specs.Sound.{ofParty}
 use Rattle.rules.proofs.ListLaws.{count, count-cons, count-filter, count-mem}
-use Rattle.demands.proofs.AllLaws.{Out, here, there}
+use Rattle.sound.proofs.AllLaws.{Out, here, there}
 
 abbrev pub Each : List LookUp → Type 0
 Each ws = (p : ℕ) → count (ofParty p) ws ≤ 1

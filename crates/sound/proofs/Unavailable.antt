@@ -17,9 +17,9 @@ use Rattle.rules.proofs.ListLaws.{find-some, none-any, none-mem, all-false}
 use Rattle.rules.proofs.StepCases.{serve-ind}
 use Rattle.rules.proofs.BoolLaws.{cond-cases}
 use Rattle.rules.proofs.ReaderLaws.{added, added-other, dropped, dropped-other, bit-of-zero, no-bits}
-use Rattle.demands.proofs.AllLaws.{all-filter, all-map}
-use Rattle.demands.proofs.HoldLaws.{equal-or, not-so, available-free, free-available, heldBy, mark-cases}
-use Rattle.demands.proofs.HoldLaws.{removed}
+use Rattle.sound.proofs.AllLaws.{all-filter, all-map}
+use Rattle.sound.proofs.HoldLaws.{equal-or, not-so, available-free, free-available, heldBy, mark-cases}
+use Rattle.sound.proofs.HoldLaws.{removed}
 
 -- with one reader more an entry is read by another as before
 still-read : (p q n : ℕ) → dropReader p (addReader q n) ≡ 0 → dropReader p n ≡ 0

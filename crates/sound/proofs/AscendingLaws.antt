@@ -12,8 +12,9 @@ use lib.Dec.{eqb}
 use Rattle.rules.specs.Lists.{filterb, findb, distinct}
 use Rattle.rules.proofs.BoolLaws.{cond-cases}
 use Rattle.rules.proofs.ListLaws.{all-false, any-find, mem-any, find-some}
-use Rattle.demands.specs.Bounds.{Ascending}
-use Rattle.demands.proofs.AllLaws.{All, all-none, all-snoc, all-filter, all-map}
+use Rattle.rules.specs.Sound.{Ascending}
+use Rattle.sound.proofs.AllLaws.{all-none, all-snoc, all-filter, all-map}
+use Rattle.rules.specs.Lists.{All}
 
 module _ {A : Type 0} (number : A → ℕ) where
   pub ascend-filter : (p : A → Bool) (xs : List A) → Ascending (map number xs) → Ascending (map number (filterb p xs))

@@ -22,25 +22,25 @@ use Rattle.rules.specs.Transactions.{noTxn, create, released, withoutTxn, commi
 use Rattle.rules.specs.Tick.{dropEnded}
 use Rattle.rules.specs.Step.{step}
 use Rattle.rules.specs.SerialRun.{Logged, wasRefused}
-use Rattle.rules.proofs.LayoutLaws.{lookUp-not-abort, commit-not-abort, commit-ends}
+use Rattle.rules.proofs.LayoutLaws.{lookUp-not-abort, commit-not-abort, commit-ends, lookUp-not-tick}
 use Rattle.rules.proofs.ReaderLaws.{bit-of-zero}
-use Rattle.demands.specs.Bounds.{Ascending}
-use Rattle.demands.specs.Machine.{Input}
-use Rattle.demands.proofs.Runs.{runs, made}
-use Rattle.demands.proofs.AllLaws.{all-none}
-use Rattle.demands.proofs.AscendingLaws.{ascend-filter, ascend-snoc}
+use Rattle.rules.specs.Sound.{Ascending, IsParty}
+use Rattle.sound.proofs.AllLaws.{all-none}
+use Rattle.sound.proofs.AscendingLaws.{ascend-filter, ascend-snoc}
 use Rattle.rules.proofs.SoundLaws.{each-snoc}
-use Rattle.demands.proofs.EachLaws.{Each, filtered, each-out}
-use Rattle.demands.proofs.HoldLaws.{cleared-cases, available-free}
-use Rattle.demands.proofs.OrderLaws.{InOrder, numbered-filter, handed-numbered, freed-numbered, stored-order}
-use Rattle.demands.proofs.Events.{LiveOf, Heard, asking, saying, heard, Event, refuses, asks, writes, is-found}
-use Rattle.demands.proofs.Events.{is-nothing, is-waiting, creates, commits, aborts, ticks, excepts, expires}
-use Rattle.demands.proofs.Events.{Events, over, then}
-use Rattle.demands.proofs.EventsProof.{step-events}
-use Rattle.demands.proofs.Consistent.{Ok, EntryOk, TxnsOk, Consistent, not-inside, slot-free, txns-filter, txns-snoc}
-use Rattle.demands.proofs.HolderLaws.{lives-on, stays-live, add-live, drop-live, drop-none, freed-at}
-use Rattle.demands.proofs.Becomes.{newTxn, Becomes, is-new, as-was, as-ever, is-held, is-freed, becomes, WaitsOn}
-use Rattle.demands.proofs.Becomes.{is-asked, waited, waited-ever, waited-commit, is-outside, waits-on}
+use Rattle.sound.proofs.EachLaws.{Each, filtered, each-out}
+use Rattle.sound.proofs.HoldLaws.{cleared-cases, available-free}
+use Rattle.sound.proofs.OrderLaws.{InOrder, numbered-filter, handed-numbered, freed-numbered, stored-order}
+use Rattle.sound.proofs.Events.{Heard, asking, saying, heard, Event, refuses, asks, writes, is-found}
+use Rattle.rules.specs.Sound.{LiveOf}
+use Rattle.sound.proofs.Events.{is-nothing, is-waiting, creates, commits, aborts, ticks, excepts, expires}
+use Rattle.sound.proofs.Events.{Events, over, then}
+use Rattle.sound.proofs.EventsProof.{step-events}
+use Rattle.sound.proofs.Consistent.{not-inside, slot-free, txns-filter, txns-snoc}
+use Rattle.rules.specs.Sound.{Ok, EntryOk, TxnsOk, Consistent}
+use Rattle.sound.proofs.HolderLaws.{lives-on, stays-live, add-live, drop-live, drop-none, freed-at}
+use Rattle.sound.proofs.Becomes.{newTxn, Becomes, is-new, as-was, as-ever, is-held, is-freed, becomes, WaitsOn}
+use Rattle.sound.proofs.Becomes.{is-asked, waited, waited-ever, waited-commit, is-outside, waits-on, waits-all}
 
 -- entries stand by number, below the next
 numbered : {f : Frame} {m n : Model} {hs : List Heard} → Event f m hs n → InOrder m → InOrder n
@@ -178,7 +178,8 @@ owned-ok {f} {m} s (waited-commit t a w i) =
 owned-ok {f} {m} s (is-outside t w i d) = still-owned t w (m .txns) d (s .owned w i)
 
 pub consistent-event : {f : Frame} {m n : Model} {hs : List Heard} → Event f m hs n → Consistent m → Consistent n
-consistent-event e s =
+unfolding lookUpOf
+consistent-event {f} e s =
     let entries = numbered e (s .ordered .entries, s .below) in
     let txns = living e (s .ordered .txns, s .txns-ok, s .positive) in
     record {
@@ -188,6 +189,8 @@ consistent-event e s =
       txns-ok = txns .1;
       positive = txns .2;
       owned = λ w i. owned-ok s (waits-on e w i);
+      parties =
+          waits-all (λ w. IsParty (w .party)) e (λ t a. a .party (lookUp-not-tick (f .op) t)) (s .parties);
       each = each e (s .each);
     }
 
@@ -206,99 +209,10 @@ consistent-empty =
       };
       positive = omega arith;
       owned = all-none _;
+      parties = all-none _;
       each = λ p. omega arith;
     }
 
 pub consistent-events : {f : Frame} {m n : Model} {hs : List Heard} → Events f m hs n → Consistent m → Consistent n
 consistent-events over s = s
 consistent-events (then e t) s = consistent-events t (consistent-event e s)
-
--- who reads frames and records: what it makes of a look-up that arrives, and of a record
-pub record Reader (R : Type 0) : Type 0 where
-  pub asked : Frame → R → R
-  pub reads : Frame → Record → R → R
-
-abbrev pub hears : {R : Type 0} → Reader R → Frame → Heard → R → R
-hears k f asking r = k .asked f r
-hears k f (saying a) r = k .reads f a r
-
-abbrev pub hearsAll : {R : Type 0} → Reader R → Frame → List Heard → R → R
-hearsAll k f [] r = r
-hearsAll k f (h ∷ hs) r = hearsAll k f hs (hears k f h r)
-
-unfoldable pub readsLog : {R : Type 0} → Reader R → List Logged → R → R
-readsLog k [] r = r
-readsLog k (l ∷ ls) r = let f = decode (l .frame) in readsLog k ls (hearsAll k f (heard f (l .records)) r)
-
-hears-append : {R : Type 0} (k : Reader R) (f : Frame) (hs ks : List Heard) (r : R)
-    → hearsAll k f (hs ++ ks) r ≡ hearsAll k f ks (hearsAll k f hs r)
-hears-append k f [] ks r = refl
-hears-append k f (h ∷ hs) ks r = hears-append k f hs ks (hears k f h r)
-
--- a fold over frames and records reads them so
-module _ {R : Type 0} (k : Reader R) (all : Frame → List Record → R → R) (log : List Logged → R → R)
-    (all-nil : (f : Frame) (r : R) → all f [] r ≡ r)
-    (all-more : (f : Frame) (a : Record) (rs : List Record) (r : R) → all f (a ∷ rs) r ≡ all f rs (k .reads f a r))
-    (log-nil : (r : R) → log [] r ≡ r) (log-more : (l : Logged) (ls : List Logged) (r : R) → log (l ∷ ls) r
-    ≡ log ls (all (decode (l .frame)) (l .records)
-    (cond (isLookUp (decode (l .frame) .op) && not (wasRefused (l .records))) (k .asked (decode (l .frame)) r) r)))
-  where
-    reads-all : (f : Frame) (rs : List Record) (r : R) → hearsAll k f (map saying rs) r ≡ all f rs r
-    reads-all f [] r = sym (all-nil f r)
-    reads-all f (a ∷ rs) r = reads-all f rs (k .reads f a r) ∙ sym (all-more f a rs r)
-
-    pub reads-log : (ls : List Logged) (r : R) → readsLog k ls r ≡ log ls r
-    unfolding readsLog
-    reads-log [] r = sym (log-nil r)
-    reads-log (l ∷ ls) r =
-        reads-log ls _ ∙ ap (log ls) (one (isLookUp (decode (l .frame) .op) && not (wasRefused (l .records))))
-        ∙ sym (log-more l ls r)
-      where
-        f : Frame
-        f = decode (l .frame)
-
-        one : (b : Bool) → hearsAll k f (cond b (asking ∷ map saying (l .records)) (map saying (l .records))) r
-            ≡ all f (l .records) (cond b (k .asked f r) r)
-        one true = reads-all f (l .records) (k .asked f r)
-        one false = reads-all f (l .records) r
-
--- What each event keeps, every step keeps, and every list of frames.
-abbrev pub Keeps : {R : Type 0} → Reader R → (Model → R → Type 0) → Type 0
-Keeps {R} k Q = (f : Frame) (m n : Model) (hs : List Heard) (r : R) → Event f m hs n → Consistent m → Q m r
-    → Q n (hearsAll k f hs r)
-
-module _ {R : Type 0} (k : Reader R) (Q : Model → R → Type 0) (keeps : Keeps k Q) where
-  events-keep : {f : Frame} {m n : Model} {hs : List Heard} (r : R) → Events f m hs n → Consistent m → Q m r
-      → Q n (hearsAll k f hs r)
-  events-keep r over s h = h
-  events-keep {f} r (then {m} {n} {o} {hs} {ks} e t) s h =
-      subst⁻¹ (Q o) (hears-append k f hs ks r)
-      (events-keep (hearsAll k f hs r) t (consistent-event e s) (keeps f m n hs r e s h))
-
-  pub runs-keep : (m : Model) (r : R) (is : List Input) → Consistent m → Q m r
-      → Consistent (runs m is .model) × Q (runs m is .model) (readsLog k (runs m is .log) r)
-  unfolding runs readsLog
-  runs-keep m r [] s h = (s, h)
-  runs-keep m r (i ∷ is) s h =
-      let f = decode (i .frame) in
-      let o = step m (i .frame) (i .area) in
-      let e = step-events m (i .frame) (i .area) (s .ordered .txns) in
-      runs-keep (o .model) (hearsAll k f (heard f (o .records)) r) is (consistent-events e s) (events-keep r e s h)
-
-  pub made-keep : (r : R) → Q empty r → (is : List Input) → Q (made is) (readsLog k (runs empty is .log) r)
-  made-keep r h is = runs-keep empty r is consistent-empty h .1
-
--- of the space alone
-noReader : Reader (Unit {0})
-noReader = record { asked = λ f r. r; reads = λ f a r. r }
-
-module _ (P : Model → Type 0)
-    (keeps : (f : Frame) (m n : Model) (hs : List Heard) → Event f m hs n → Consistent m → P m → P n) where
-  pub made-has : P empty → (is : List Input) → P (made is)
-  made-has h is = made-keep noReader (λ m r. P m) (λ f m n hs r. keeps f m n hs) tt h is
-
-pub consistent : (is : List Input) → Consistent (made is)
-consistent is = runs-keep noReader (λ m r. Unit {0}) (λ f m n hs r e s h. tt) empty tt is consistent-empty tt .0
-
-pub orderly : (is : List Input) → InOrder (made is)
-orderly is = let s = consistent is in (s .ordered .entries, s .below)

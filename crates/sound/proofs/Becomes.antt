@@ -22,13 +22,14 @@ use Rattle.rules.specs.Transactions.{freeSlot, create, privateTo, takenBy, rele
 use Rattle.rules.specs.Tick.{dropEnded}
 use Rattle.rules.specs.SerialRun.{Kept, keptOf}
 use Rattle.rules.proofs.ListLaws.{count}
-use Rattle.demands.specs.Answers.{isTicked}
-use Rattle.demands.specs.Bounds.{ByNumber}
-use Rattle.demands.proofs.AllLaws.{All, all-snoc, all-filter, all-map, out-all, out-mem}
-use Rattle.demands.proofs.AscendingLaws.{ascend-unique}
-use Rattle.demands.proofs.HoldLaws.{eqb-cases, heldBy, handed-all}
-use Rattle.demands.proofs.Events.{Admitted, Heard, says, Event, refuses, asks, writes, is-found, is-nothing}
-use Rattle.demands.proofs.Events.{is-waiting, creates, commits, aborts, ticks, excepts, expires}
+use Rattle.rules.specs.Records.{isTicked}
+use Rattle.rules.specs.Sound.{ByNumber}
+use Rattle.sound.proofs.AllLaws.{all-snoc, all-filter, all-map, out-all, out-mem}
+use Rattle.rules.specs.Lists.{All}
+use Rattle.sound.proofs.AscendingLaws.{ascend-unique}
+use Rattle.sound.proofs.HoldLaws.{eqb-cases, heldBy, handed-all}
+use Rattle.sound.proofs.Events.{Admitted, Heard, says, Event, refuses, asks, writes, is-found, is-nothing}
+use Rattle.sound.proofs.Events.{is-waiting, creates, commits, aborts, ticks, excepts, expires}
 
 -- the transaction that a create makes
 abbrev pub newTxn : Model → Frame → Txn

@@ -14,8 +14,8 @@ use Rattle.rules.specs.Transactions.{withoutTxn}
 use Rattle.rules.proofs.ListLaws.{filter-mem, find-some, find-none}
 use Rattle.rules.proofs.BoolLaws.{option-cases, cond-cases}
 use Rattle.rules.proofs.ReaderLaws.{added, added-other, dropped, dropped-other, bit-of-zero}
-use Rattle.demands.proofs.HoldLaws.{equal-or}
-use Rattle.demands.proofs.Consistent.{Live, At, TxnsOk}
+use Rattle.sound.proofs.HoldLaws.{equal-or}
+use Rattle.rules.specs.Sound.{Live, At, TxnsOk}
 
 pub live-is : (t : ℕ) (ts : List Txn) (y : Txn) → liveTxn t ts ≡ some y → List·Memᴰ y ts × (y .id .0 ≡ t)
 unfolding liveTxn

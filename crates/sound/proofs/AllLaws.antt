@@ -4,11 +4,8 @@ use mathlib.Core.Logic.{_⊎_, inl, inr, ⊎-elim}
 use mathlib.Core.Path.{_≡_, refl, ap, subst, subst⁻¹}
 use mathlib.Core.List.{List, [], _∷_, _++_, map, List·Memᴰ, List·Memᴰ·head, List·Memᴰ·tail, List·Memᴰ·not-nil}
 use mathlib.Core.List.{List·Memᴰ·cases-cons, List·Memᴰ·append-cases, Memᴰ·of-map}
-use Rattle.rules.specs.Lists.{filterb}
+use Rattle.rules.specs.Lists.{All, filterb}
 use Rattle.rules.proofs.ListLaws.{mem-filter}
-
-abbrev pub All : {A : Type 0} → (A → Type 0) → List A → Type 0
-All {A} Q xs = (x : A) → List·Memᴰ x xs → Q x
 
 pub all-none : {A : Type 0} (Q : A → Type 0) → All Q []
 all-none Q x i = absurd (List·Memᴰ·not-nil i)

@@ -17,54 +17,17 @@ use Rattle.rules.specs.Lists.{filterb, anyb, findb, distinct}
 use Rattle.rules.specs.State.{Model}
 use Rattle.rules.specs.Template.{bit}
 use Rattle.rules.specs.Frame.{Frame, isAbort}
-use Rattle.rules.specs.Sound.{OneEach}
+use Rattle.rules.specs.Sound.{OneEach, TxnsOk, Consistent, Live, Ok}
 use Rattle.rules.specs.Transactions.{orZero, freeSlot}
 use Rattle.rules.proofs.ListLaws.{count-mem, length-split, mem-filter, filter-mem, any-mem, mem-any, none-mem}
 use Rattle.rules.proofs.ListLaws.{find-some, find-none}
 use Rattle.rules.proofs.BoolLaws.{and-left, and-right, option-cases}
-use Rattle.demands.specs.Bounds.{ByNumber}
-use Rattle.demands.proofs.AllLaws.{All, all-snoc}
-use Rattle.demands.proofs.AscendingLaws.{ascend-unique}
-use Rattle.demands.proofs.Events.{LiveOf, Admitted}
-
--- the number of a live transaction, or of none
-abbrev pub Live : ℕ → List Txn → Type 0
-Live t ts = (x : Txn) × List·Memᴰ x ts × (x .id .0 ≡ t)
-
-abbrev pub Ok : ℕ → List Txn → Type 0
-Ok t ts = (t ≡ 0) ⊎ Live t ts
-
--- a live transaction at a slot
-abbrev pub At : ℕ → List Txn → Type 0
-At p ts = (x : Txn) × List·Memᴰ x ts × (x .slot ≡ p)
-
--- who holds an entry
-pub record EntryOk (ts : List Txn) (e : Entry) : Type 0 where
-  -- it is committed, or nobody holds it
-  pub own : (e .«private_to» .0 ≡ 0) ⊎ ((e .«taken_by» .0 ≡ 0) × (e .readers ≡ 0))
-  -- it is private to, taken and read by live transactions
-  pub owner : Ok (e .«private_to» .0) ts
-  pub taker : Ok (e .«taken_by» .0) ts
-  pub readers : (p : ℕ) → bit p (e .readers) ≡ true → At p ts
-  -- what is taken nobody reads
-  pub unread : (e .«taken_by» .0 ≡ 0) ⊎ (e .readers ≡ 0)
-
--- numbers and slots of the live transactions
-pub record TxnsOk (n : ℕ) (ts : List Txn) : Type 0 where
-  pub unique : (a b : Txn) → List·Memᴰ a ts → List·Memᴰ b ts → a .id .0 ≡ b .id .0 → a ≡ b
-  pub slot : (a b : Txn) → List·Memᴰ a ts → List·Memᴰ b ts → a .slot ≡ b .slot → a ≡ b
-  pub above : (t : Txn) → List·Memᴰ t ts → 0 < t .id .0
-  pub below : (t : Txn) → List·Memᴰ t ts → t .id .0 < n
-
-pub record Consistent (m : Model) : Type 0 where
-  pub ordered : ByNumber m
-  pub below : All (λ e. e .id .0 < m .nextEntry) (m .entries)
-  pub held : All (EntryOk (m .txns)) (m .entries)
-  pub txns-ok : TxnsOk (m .nextTxn) (m .txns)
-  pub positive : 0 < m .nextTxn
-  -- a look-up waits in no transaction, or in a live one of its party; a party waits once
-  pub owned : All (λ w. (w .txn .0 ≡ 0) ⊎ LiveOf (w .txn .0) (w .party) (m .txns)) (m .waits)
-  pub each : OneEach m
+use Rattle.rules.specs.Sound.{ByNumber}
+use Rattle.sound.proofs.AllLaws.{all-snoc}
+use Rattle.rules.specs.Lists.{All}
+use Rattle.sound.proofs.AscendingLaws.{ascend-unique}
+use Rattle.sound.proofs.Events.{Admitted}
+use Rattle.rules.specs.Sound.{LiveOf}
 
 -- two entries with one number are one
 pub unique-entry : {m : Model} → Consistent m → {a b : Entry} → List·Memᴰ a (m .entries) → List·Memᴰ b (m .entries)

@@ -25,16 +25,9 @@ use Rattle.rules.specs.Transactions.{create, commit, abort}
 use Rattle.rules.specs.Tick.{dropEnded}
 use Rattle.rules.specs.Refusals.{refusal}
 use Rattle.rules.specs.SerialRun.{wasRefused}
-use Rattle.demands.specs.Bounds.{EndFits, Ascending}
-use Rattle.demands.proofs.AllLaws.{Out}
-
--- a live transaction of a party
-abbrev pub LiveOf : ℕ → ℕ → List Txn → Type 0
-LiveOf t party ts = (x : Txn) × List·Memᴰ x ts × (x .id .0 ≡ t) × (x .party ≡ party)
-
--- transactions stand by number
-abbrev pub Ordered : List Txn → Type 0
-Ordered ts = Ascending (map (λ (t : Txn). t .id .0) ts)
+use Rattle.rules.specs.Time.{EndFits}
+use Rattle.rules.specs.Sound.{Ascending, LiveOf, IsParty}
+use Rattle.sound.proofs.AllLaws.{Out}
 
 -- what the refusal table lets pass
 pub record Admitted (f : Frame) (m : Model) : Type 0 where
@@ -43,6 +36,8 @@ pub record Admitted (f : Frame) (m : Model) : Type 0 where
   pub ends : endsTxn (f .op) ≡ true → LiveOf (f .txn) (f .party) (m .txns)
   -- the party does not wait, unless the frame is an abort
   pub free : isAbort (f .op) ≡ false → (w : LookUp) → List·Memᴰ w (m .waits) → w .party ≡ f .party → ⊥
+  -- it is 1 to 16, but for a tick
+  pub party : isTick (f .op) ≡ false → IsParty (f .party)
   -- a lease or timeout ends in time, and so does the clock
   pub in-time : hasLeaseOrTimeout (f .op) ≡ true → EndFits (until (m .clock) (f .leaseOrTimeout))
   pub ticks-on : isTick (f .op) ≡ true → m .clock < lastClock
