@@ -1,7 +1,7 @@
 -- Every space that frames make of the empty one is sound: the empty one is, and each step keeps it. So at most 16
 -- look-ups wait, and one that 5 and 6 let pass finds room.
 use Prim.Native.Nat.{ℕ, zero, suc, _+_, _≤_, _<_}
-use mathlib.Core.Bool.{Bool, true, false, true≢false, cond, not, _||_}
+use mathlib.Core.Bool.{Bool, true, false, true≢false, cond, not, _&&_, _||_, and-false}
 use mathlib.Core.Logic.{_⊎_, ⊎-elim}
 use mathlib.Core.Path.{_≡_, sym, ap, ap₂, _∙_, subst, subst⁻¹}
 use mathlib.Core.Option.{Option, none, some}
@@ -18,12 +18,12 @@ use Rattle.rules.specs.Lists.{All, filterb, anyb}
 use Rattle.rules.specs.Numbers.{maxParty, maxWaits}
 use Rattle.rules.specs.Time.{reached}
 use Rattle.rules.specs.State.{Model, empty, withWaits}
-use Rattle.rules.specs.Sound.{IsParty, ofParty, OneEach, Ahead, Sound}
+use Rattle.rules.specs.Sound.{IsParty, ofParty, OneEach, Ahead, Hopeful, Sound}
 use Rattle.rules.specs.Frame.{Frame, decode, isOperation, isLookUp, isTick, serves}
 use Rattle.rules.specs.Records.{nothing}
 use Rattle.rules.specs.Done.{Carried, Done, quiet}
 use Rattle.rules.specs.LookUp.{lookUpOf, givesNothing, answer, answerFound, answerNothing, answerWaiting, lookUp}
-use Rattle.rules.specs.Holds.{oldest}
+use Rattle.rules.specs.Holds.{oldest, someConflicts}
 use Rattle.rules.specs.Write.{stored, write}
 use Rattle.rules.specs.Transactions.{create, commit, abort}
 use Rattle.rules.specs.Service.{serve, service}
@@ -92,7 +92,7 @@ waits-fit m s =
     omega (arith, few maxParty m s, ap length all)
 
 -- ---- who waits after service waited before
-served-among : (ts : List Txn) (es : List Entry) (ws : List LookUp) → All (λ w. List·Memᴰ w ws) (serve ts es ws .waits)
+pub served-among : (ts : List Txn) (es : List Entry) (ws : List LookUp) → All (λ w. List·Memᴰ w ws) (serve ts es ws .waits)
 served-among ts es ws =
     serve-ind ts (λ es ws r. All (λ w. List·Memᴰ w ws) (r .waits)) (λ es w i. i)
     (λ es w ws e below v i.
@@ -166,14 +166,24 @@ pub service-ahead : (m : Model) → Ahead m → Ahead (service m .model)
 unfolding service
 service-ahead m a w i = a w (served-among (m .txns) (m .entries) (m .waits) w i)
 
--- so where no look-up of an IfExists kind waits, none is over
-pub none-over : (m : Model) → Ahead m → anyb (λ (w : LookUp). w .«if_exists») (m .waits) ≡ false
-    → closeWaits m ≡ quiet m
-unfolding closeWaits isOver
-none-over m a e =
+-- where nobody is over, nothing is closed
+pub none-over : (m : Model) → All (λ w. isOver m w ≡ false) (m .waits) → closeWaits m ≡ quiet m
+unfolding closeWaits
+none-over m h =
     ap₂ (λ ws vs. record { model = withWaits ws m; records = map nothing vs })
-    (filter-pass (λ w. not (isOver m w)) (m .waits) (λ w i. ap not (not-over w i)))
-    (any-filter (isOver m) (m .waits) (all-false (isOver m) (m .waits) not-over))
-  where
-    not-over : (w : LookUp) → List·Memᴰ w (m .waits) → isOver m w ≡ false
-    not-over w i = rw (a w i, none-mem (λ (v : LookUp). v .«if_exists») e i)
+    (filter-pass (λ w. not (isOver m w)) (m .waits) (λ w i. ap not (h w i)))
+    (any-filter (isOver m) (m .waits) (all-false (isOver m) (m .waits) h))
+
+-- so where deadlines lie ahead and no look-up of an IfExists kind waits, or each has a conflicting entry
+module _ (m : Model) (a : Ahead m) where
+  pub none-existing : anyb (λ (w : LookUp). w .«if_exists») (m .waits) ≡ false → closeWaits m ≡ quiet m
+  unfolding isOver
+  none-existing e = none-over m (λ w i. rw (a w i, none-mem (λ (v : LookUp). v .«if_exists») e i))
+
+  pub all-hopeful : Hopeful m → closeWaits m ≡ quiet m
+  unfolding isOver
+  all-hopeful h =
+      none-over m
+      (λ w i. let hope = someConflicts (m .txns) w (m .entries) in
+      ap₂ {C = Bool} (λ x y. x || y) (a w i) (⊎-elim (λ t. ap (λ b. w .«if_exists» && not b) (h w i t) ∙ and-false (w .«if_exists»))
+      (λ t. ap (λ b. b && not hope) t) (bool-cases (w .«if_exists»))))

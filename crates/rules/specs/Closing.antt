@@ -1,11 +1,13 @@
 -- Who gets nothing when a step is over.
 use mathlib.Core.Bool.{Bool, not, _&&_, _||_}
 use mathlib.Core.List.{map}
+use lib.Dec.{eqb}
 use Rattle.rules.specs.declared.LookUp.{LookUp}
 use Rattle.rules.specs.Lists.{filterb}
 use Rattle.rules.specs.Time.{reached}
 use Rattle.rules.specs.State.{Model, withWaits}
 use Rattle.rules.specs.Holds.{someConflicts}
+use Rattle.rules.specs.Frame.{Frame, isTake, endsTxn, isTick}
 use Rattle.rules.specs.Records.{nothing}
 use Rattle.rules.specs.Done.{Done}
 
@@ -24,3 +26,8 @@ closeWaits m =
       model = withWaits (filterb (λ w. not (isOver m w)) (m .waits)) m;
       records = map nothing (filterb (isOver m) (m .waits));
     }
+
+-- The frames that can end a conflict: a take inside a transaction ("the case that a transaction takes its own private
+-- entry"), a commit, an abort, a tick. After all others nobody is over (crate `sound`, `nobody-over`)
+abbrev pub endsConflicts : Frame → Bool
+endsConflicts f = isTake (f .op) && not (eqb (f .txn) 0) || endsTxn (f .op) || isTick (f .op)

@@ -17,3 +17,5 @@ pub mod Consistent
 pub mod ConsistentProof
 -- and when the step is over
 pub mod SoundProof
+-- conflicts that last
+pub mod ConflictLaws

@@ -53,7 +53,7 @@ record Steady (f : Frame) (m : Model) : Type 0 where
   none-for : (serves f ≡ true) ⊎ NoneElse f m
 
 -- a transaction made later changes nothing for a look-up
-find-snoc : (t : ℕ) (ts : List Txn) (x : Txn) → (x .id .0 ≡ t → ⊥) → liveTxn t (ts ++ (x ∷ [])) ≡ liveTxn t ts
+pub find-snoc : (t : ℕ) (ts : List Txn) (x : Txn) → (x .id .0 ≡ t → ⊥) → liveTxn t (ts ++ (x ∷ [])) ≡ liveTxn t ts
 unfolding liveTxn
 find-snoc t [] x d = rw (ne-eqb (x .id .0) t d)
 find-snoc t (y ∷ ts) x d = ap (λ r. cond (eqb (y .id .0) t) (some y) r) (find-snoc t ts x d)

@@ -37,11 +37,24 @@ still-read p q n e = no-bits (dropReader p n) (λ i. ⊎-elim (own i) (other i) 
         ∙ ⊎-elim (λ u. absurd (true≢false (sym (added q n) ∙ ap (λ k. bit k (addReader q n)) (sym u) ∙ clear i d)))
         (λ u. sym (added-other i q n u) ∙ clear i d) (equal-or i q)
 
-still-read-of : (p q : Option Txn) (n : ℕ) → dropReaderOf p (addReaderOf q n) ≡ 0 → dropReaderOf p n ≡ 0
+pub still-read-of : (p q : Option Txn) (n : ℕ) → dropReaderOf p (addReaderOf q n) ≡ 0 → dropReaderOf p n ≡ 0
 still-read-of p none n e = e
 still-read-of (some x) (some y) n e = still-read (x .slot) (y .slot) n e
 still-read-of none (some y) n e =
     absurd (true≢false (sym (added (y .slot) n) ∙ ap (bit (y .slot)) e ∙ bit-of-zero (y .slot)))
+
+-- one more read hold makes it available to nobody
+pub read-hides : (ts : List Txn) (v w : LookUp) (x : Entry) → available ts v x ≡ false
+    → available ts v (heldBy ts w x false) ≡ false
+read-hides ts v w x n =
+    not-so _ (λ u. let h = available-free ts v (heldBy ts w x false) u in
+    true≢false (sym (free-available ts v x
+    (record {
+      matching = h .matching;
+      untaken = h .untaken;
+      owner = h .owner;
+      unread = λ k. still-read-of (liveTxn (v .txn .0) ts) (liveTxn (w .txn .0) ts) (x .readers) (h .unread k);
+    })) ∙ n))
 
 module _ (ts : List Txn) (v w : LookUp) (e : Entry) (av : available ts w e ≡ true) where
   hidden : (x : Entry) → removes w e ≡ false → available ts v x ≡ false → available ts v (marked ts w x) ≡ false
@@ -51,15 +64,7 @@ module _ (ts : List Txn) (v w : LookUp) (e : Entry) (av : available ts w e ≡ t
       held true t d =
           not-so _ (λ u. let z = available-free ts v (heldBy ts w x true) u .untaken in
           true≢false (sym (removed ts w e t (⊎-elim (λ q. q ∙ sym z) (λ q. q) (available-free ts w e av .owner))) ∙ r))
-      held false t d =
-          not-so _ (λ u. let h = available-free ts v (heldBy ts w x false) u in
-          true≢false (sym (free-available ts v x
-          (record {
-            matching = h .matching;
-            untaken = h .untaken;
-            owner = h .owner;
-            unread = λ k. still-read-of (liveTxn (v .txn .0) ts) (liveTxn (w .txn .0) ts) (x .readers) (h .unread k);
-          })) ∙ n))
+      held false t d = read-hides ts v w x n
 
   pub handOut-unavailable : (es : List Entry) → someAvailable ts v es ≡ false
       → someAvailable ts v (handOut ts w e es) ≡ false
