@@ -60,4 +60,3 @@ stored-order m f h =
     eqb-cases (Numbered (m .nextEntry + 1)) (f .leaseOrTimeout) 0 (λ _. (h .0, more))
     (λ _. let up = ascend-snoc (λ (e : Entry). e .id .0) (newEntry m f) (m .entries) (h .1) (h .0) in
     (up, all-snoc (m .entries) more (omega arith)))
-

@@ -56,4 +56,3 @@ module _ (m : Model) (f : Frame) where
       let c = lookUp m f in
       ap (λ (p : Carried). after (p .own) (finish f (p .model))) (part-lookUp t)
       ∙ ap (after (c .own)) (finish-quiet f (c .model) (lookUp-not-tick (f .op) t) (lookUp-serves f t))
-

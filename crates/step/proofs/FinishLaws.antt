@@ -1,8 +1,8 @@
 -- What a frame ends with, part by part.
 use Prim.Native.Nat.{ℕ, _+_, _*_, _≤_}
-use mathlib.Core.Bool.{Bool, false, not, cond}
+use mathlib.Core.Bool.{Bool, true, false, not, cond}
 use mathlib.Core.Logic.{⊎-elim}
-use mathlib.Core.Path.{_≡_, sym, ap, subst}
+use mathlib.Core.Path.{_≡_, refl, sym, ap, ap₂, _∙_, subst}
 use mathlib.Core.List.{List, _++_, List·Memᴰ}
 use native.Mathlib.Omega.{arith}
 use lib.ListN.{length, length-map}
@@ -11,22 +11,22 @@ use Rattle.rules.specs.Lists.{filterb}
 use Rattle.rules.specs.Numbers.{recordSize, maxTxns, maxWaits}
 use Rattle.rules.specs.State.{Model, withWaits}
 use Rattle.rules.specs.Done.{Done, quiet}
-use Rattle.rules.specs.Frame.{Frame, isTick}
+use Rattle.rules.specs.Frame.{Frame, isTick, serves}
 use Rattle.rules.specs.Records.{nothing}
 use Rattle.rules.specs.Step.{finish}
-use Rattle.rules.specs.Closing.{isOver, closeWaits}
+use Rattle.rules.specs.Closing.{isOver, closeWaits, endsConflicts}
 use Rattle.rules.specs.Sound.{Ahead}
 use Rattle.rules.specs.Service.{service}
+use Rattle.rules.specs.Tick.{lapsed}
 use Rattle.rules.specs.Words.{view}
 use Rattle.rules.proofs.BoolLaws.{bool-cases, cond-cases}
 use Rattle.rules.proofs.Capacity.{lapsed-fits, service-fits}
 use Rattle.rules.proofs.ListLaws.{filter-pass, count-mem}
-use Rattle.rules.proofs.SoundLaws.{service-ahead, none-over}
+use Rattle.rules.proofs.SoundLaws.{service-ahead, none-existing}
 use Rattle.rules.proofs.ViewLaws.{view-bounded}
 use Rattle.step.specs.declared.finish.Ending.{Ending}
-use Rattle.step.specs.declared.finish.Ending.the-variants.{Quiet, Service, Tick}
 use Rattle.step.specs.Does.{Does}
-use Rattle.step.specs.Ending.{inTick, served, EndsAs, endedBy, servedBy, someIfExists, closedBy, finishedBy}
+use Rattle.step.specs.Ending.{EndsAs, endedBy, servedBy, someIfExists, closedBy, finishedBy}
 use Rattle.step.proofs.AddsLaws.{does-then}
 
 -- none is over: all wait on
@@ -47,13 +47,13 @@ module _ (ws : List ℕ) (e : Ending) where
   -- at most 8 exceptions
   pub few-ended : length (endedBy e (view ws) .records) ≤ maxTxns
   few-ended =
-      cond-cases (λ (d : Done). length (d .records) ≤ maxTxns) (inTick e)
+      cond-cases (λ (d : Done). length (d .records) ≤ maxTxns) (e .ticks)
       (λ t. lapsed-fits (view ws) (view-bounded ws) .records-fit) (λ t. omega arith)
 
   -- a found for each look-up that waits no longer
   pub few-served : length (servedBy e (view ws) .records) + length (servedBy e (view ws) .model .waits) ≤ maxWaits
   few-served =
-      cond-cases (λ (d : Done). length (d .records) + length (d .model .waits) ≤ maxWaits) (served e)
+      cond-cases (λ (d : Done). length (d .records) + length (d .model .waits) ≤ maxWaits) (e .serves)
       (λ t. service-fits (view ws) (view-bounded ws) .1) (λ t. omega (arith, view-bounded ws .waits-fit))
 
 pub finish-parts : {ws₁ ws₂ ws₃ a a₁ a₂ a₃ : List ℕ} {c c₁ c₂ c₃ : ℕ} (ws : List ℕ) (e : Ending)
@@ -65,16 +65,40 @@ finish-parts {ws₂ = ws₂} {ws₃ = ws₃} {a₁ = a₁} {a₂ = a₂} {a₃ =
     let r′ = subst (λ m. Does (closedBy e m) ws₃ a₂ a₃ c₂ c₃) (q′ .model) r in
     does-then room (does-then room p q′) r′
 
--- the parts are the rules' own: between ticks deadlines lie ahead
+-- the parts are the rules' own: between ticks deadlines lie ahead, and most frames end no conflict
 closed-same : (m : Model) → Ahead m → cond (someIfExists m) (closeWaits m) (quiet m) ≡ closeWaits m
 closed-same m a =
-    ⊎-elim (λ t. rw t) (λ t. rw t (sym (none-over m a t))) (bool-cases (someIfExists m))
+    ⊎-elim (λ t. rw t) (λ t. rw t (sym (none-existing m a t))) (bool-cases (someIfExists m))
+
+-- one part behind another
+abbrev behind : Done → Done → Done
+behind d x = record { model = x .model; records = d .records ++ x .records }
+
+-- what is left before the nothings, in a frame that is no tick
+abbrev pub leftOf : Frame → Model → Model
+leftOf f m = cond (serves f) (service m .model) m
 
 pub finish-same : (f : Frame) (e : Ending) (m : Model) → EndsAs f e → (isTick (f .op) ≡ false → Ahead m)
-    → finishedBy e m ≡ finish f m
+    → (endsConflicts f ≡ false → closeWaits (leftOf f m) ≡ quiet (leftOf f m)) → finishedBy e m ≡ finish f m
 unfolding finish
-finish-same f Quiet m k a = rw (k .tick, k .service) (closed-same m (a (k .tick)))
-finish-same f Service m k a =
-    rw (k .tick, k .service) (ap (λ (d : Done). record { model = d .model; records = service m .records ++ d .records })
-    (closed-same (service m .model) (service-ahead m (a (k .tick)))))
-finish-same f Tick m k a = rw (k .tick, k .service)
+finish-same f e m k a h =
+    ap₂ (λ x y. finishedBy (record { ticks = x; serves = y; closes = e .closes }) m) (sym (k .tick)) (sym (k .service))
+    ∙ ap (λ z. finishedBy (record { ticks = isTick (f .op); serves = serves f; closes = z }) m) (sym (k .closing))
+    ∙ same (isTick (f .op)) (serves f) (endsConflicts f) a h
+  where
+    -- the rules' `finish`
+    by : Bool → Bool → Done
+    by t s =
+        let ended = cond t (lapsed m) (quiet m) in
+        let served = cond s (service (ended .model)) (quiet (ended .model)) in
+        let closed = closeWaits (served .model) in
+        record { model = closed .model; records = ended .records ++ served .records ++ closed .records }
+
+    same : (t s c : Bool) → (t ≡ false → Ahead m)
+        → (c ≡ false → closeWaits (cond s (service m .model) m) ≡ quiet (cond s (service m .model) m))
+        → finishedBy (record { ticks = t; serves = s; closes = c }) m ≡ by t s
+    same true s c a h = refl
+    same false true true a h = ap (behind (service m)) (closed-same (service m .model) (service-ahead m (a refl)))
+    same false false true a h = ap (behind (quiet m)) (closed-same m (a refl))
+    same false true false a h = ap (behind (service m)) (sym (h refl))
+    same false false false a h = ap (behind (quiet m)) (sym (h refl))

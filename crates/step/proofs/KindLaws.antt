@@ -1,17 +1,17 @@
 -- The frames of the four look-ups: what holds of each kind's operation.
 use Prim.Native.Nat.{ℕ}
-use mathlib.Core.Bool.{Bool, true, false}
-use mathlib.Core.Path.{_≡_, refl}
+use mathlib.Core.Bool.{Bool, true, false, not, _&&_, _||_, or-false}
+use mathlib.Core.Path.{_≡_, refl, sym, ap, _∙_}
+use lib.Dec.{eqb}
 use Rattle.rules.specs.declared.FindRequest.{FindRequest}
 use Rattle.rules.specs.declared.Request.the-variants.{Find}
 use Rattle.rules.specs.Numbers.{opRead, opTake, opReadIfExists, opTakeIfExists}
 use Rattle.rules.specs.State.{Model}
-use Rattle.rules.specs.Frame.{Frame, layoutOf, serves, isLookUp, isTick, isTake, isIfExists, lookUpOp}
+use Rattle.rules.specs.Frame.{Frame, layoutOf, serves, isLookUp, isTick, isTake, endsTxn, isIfExists, lookUpOp}
 use Rattle.rules.specs.LookUp.{lookUp}
 use Rattle.rules.specs.Requests.{frame, frameOf}
 use Rattle.rules.specs.Step.{ownPart}
 use Rattle.rules.proofs.LayoutLaws.{lookUp-serves}
-use Rattle.step.specs.declared.finish.Ending.the-variants.{Quiet}
 use Rattle.step.specs.Ending.{EndsAs}
 
 pub kind-cases : (P : ℕ → Type 0) (takes ifExists : Bool) → P opRead → P opTake → P opReadIfExists → P opTakeIfExists
@@ -39,11 +39,23 @@ own-find m l =
     let f : ℕ → Frame = λ op. frame op (l .party) (l .mask) (l .txn .0) (l .timeout) (l .fields) in
     kind-cases (λ op. lookUp m (f op) ≡ ownPart m (f op)) (l .takes) (l .«if_exists») refl refl refl refl
 
--- and it ends with nothing more
-pub find-ends : (l : FindRequest) → EndsAs (frameOf (Find l)) Quiet
+-- how it ends: of those who wait, only a transaction's take can leave one without a conflict
+pub find-ends : (l : FindRequest) (closes : Bool) → closes ≡ (l .takes && not (eqb (l .txn .0) 0))
+    → EndsAs (frameOf (Find l)) (record { ticks = false; serves = false; closes = closes })
 unfolding serves layoutOf
-find-ends l =
+find-ends l closes e =
     record {
       tick = kind-cases (λ op. isTick op ≡ false) (l .takes) (l .«if_exists») refl refl refl refl;
       service = lookUp-serves (frameOf (Find l)) (looks-up (l .takes) (l .«if_exists»));
+      closing =
+          kind-cases (λ op. (isTake op && inside || endsTxn op || isTick op) ≡ (isTake op && inside)) (l .takes)
+          (l .«if_exists») refl none-more refl none-more
+          ∙ ap (λ b. b && inside) (kind-back (l .takes) (l .«if_exists») .0)
+          ∙ sym e;
     }
+  where
+    inside : Bool
+    inside = not (eqb (l .txn .0) 0)
+
+    none-more : (inside || false || false) ≡ inside
+    none-more = ap (λ b. b || false) (or-false inside) ∙ or-false inside

@@ -26,6 +26,7 @@ use Rattle.rules.proofs.ListLaws.{none≢some}
 use Rattle.rules.proofs.BoolLaws.{cond-cases}
 use Rattle.rules.proofs.RefusalLaws.{is-one, none-applies, refusal-parts, form-not-area, space-not-area}
 use Rattle.rules.proofs.SoundLaws.{room-left, own-ahead}
+use Rattle.sound.proofs.ConflictLaws.{nobody-over}
 use Rattle.step.specs.Does.{Carries, Adds, Does}
 use Rattle.step.specs.Judge.{HasRoom}
 use Rattle.step.specs.declared.finish.Ending.{Ending}
@@ -97,8 +98,8 @@ unfolding formRefusal
 ends-same {bs} {q} m d x k s =
     let f = frameOf q in
     let form = none-applies (formRows bs (decode bs)) refl (sym (d .number)) 0 in
-    finish-same f x (ownPart m f .model) k
-    (λ t. own-ahead m f (ap (λ (g : Frame). isOperation (g .op)) (asked-frame d) ∙ is-one bs form) t (s .ahead))
+    let is = ap (λ (g : Frame). isOperation (g .op)) (asked-frame d) ∙ is-one bs form in
+    finish-same f x (ownPart m f .model) k (λ t. own-ahead m f is t (s .ahead)) (nobody-over m f s is)
 
 -- ---- what is allowed
 -- a step's outcome, where the number n is given

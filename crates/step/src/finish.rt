@@ -1,5 +1,7 @@
 // What every carried-out frame ends with: what ends now, service, and the look-ups that get nothing.
 ghost use mathlib.Core.Path.{_≡_};
+ghost use mathlib.Core.Bool.{not, _&&_};
+ghost use lib.Dec.{eqb};
 ghost use Prim.Native.Nat.{_+_, _*_, _≤_};
 ghost use lib.ListN.{length};
 ghost use Rattle.rules.specs.Numbers.{maxTxns, maxWaits, recordSize};
@@ -11,33 +13,66 @@ use crate::closing::any_if_exists;
 use crate::closing::close_waits;
 use crate::service::serve_waits;
 use crate::tick::lapse;
+use rules::FindRequest;
 use rules::Request;
 use words::rows::Words;
 
-// How a frame ends: with nothing more, with service, or as a tick does.
-pub(crate) enum Ending {
-    Quiet,
-    Service,
-    Tick,
+// How a frame ends: as a tick does, with service, with nothings for those who wait in vain from then on.
+pub(crate) struct Ending {
+    pub ticks: bool,
+    pub serves: bool,
+    pub closes: bool,
 }
 
-// Service follows a write outside transactions, a commit and an abort, and falls within a tick.
+// A transaction's take may be of its own private entry, for which others wait.
+pub(crate) fn takes_inside(l: FindRequest) -> bool
+    ensures { λ r. ⌜ r ≡ (l .takes && not (eqb (l .txn .0) 0)) ⌝ }
+{
+    if l.takes { l.txn.0 != 0 } else { false }
+}
+
+// Service follows a write outside transactions, a commit and an abort, and falls within a tick. A conflict ends with a
+// transaction's take, a commit, an abort and a tick only.
 pub(crate) fn ending_of(q: Request) -> Ending
     ensures { λ r. ⌜ EndsAs (frameOf q) r ⌝ }
 {
     match q {
         Request::Write(w) => {
-            if w.txn.0 == 0 {
-                Ending::Service
-            } else {
-                Ending::Quiet
+            let serves = w.txn.0 == 0;
+            Ending {
+                ticks: false,
+                serves,
+                closes: false,
             }
         }
-        Request::Find(_) => Ending::Quiet,
-        Request::Create(_, _) => Ending::Quiet,
-        Request::Commit(_, _) => Ending::Service,
-        Request::Abort(_, _) => Ending::Service,
-        Request::Tick => Ending::Tick,
+        Request::Find(l) => {
+            let closes = takes_inside(l);
+            Ending {
+                ticks: false,
+                serves: false,
+                closes,
+            }
+        }
+        Request::Create(_, _) => Ending {
+            ticks: false,
+            serves: false,
+            closes: false,
+        },
+        Request::Commit(_, _) => Ending {
+            ticks: false,
+            serves: true,
+            closes: true,
+        },
+        Request::Abort(_, _) => Ending {
+            ticks: false,
+            serves: true,
+            closes: true,
+        },
+        Request::Tick => Ending {
+            ticks: true,
+            serves: true,
+            closes: true,
+        },
     }
 }
 
@@ -47,10 +82,10 @@ pub(crate) fn end_now(space: &mut Words, answers: &mut [u8], count: usize, endin
     ensures { λ n. ⌜ Does (endedBy ending (view (now (space .entry)))) (now (space .exit))
         (now (answers .entry)) (now (answers .exit)) count n ⌝ }
 {
-    match ending {
-        Ending::Quiet => count,
-        Ending::Service => count,
-        Ending::Tick => lapse(space, answers, count),
+    if ending.ticks {
+        lapse(space, answers, count)
+    } else {
+        count
     }
 }
 
@@ -60,21 +95,25 @@ pub(crate) fn serve(space: &mut Words, answers: &mut [u8], count: usize, ending:
     ensures { λ n. ⌜ Does (servedBy ending (view (now (space .entry)))) (now (space .exit))
         (now (answers .entry)) (now (answers .exit)) count n ⌝ }
 {
-    match ending {
-        Ending::Quiet => count,
-        Ending::Service => serve_waits(space, answers, count),
-        Ending::Tick => serve_waits(space, answers, count),
+    if ending.serves {
+        serve_waits(space, answers, count)
+    } else {
+        count
     }
 }
 
-// Whether a look-up can be over: in a tick its deadline may be reached; between ticks only one of an IfExists kind can.
+// Whether a look-up can be over: in a tick its deadline may be reached; between ticks only one of an IfExists kind can,
+// and only where a conflict may have ended.
 pub(crate) fn can_close(space: &Words, ending: Ending) -> bool
     ensures { λ r. ⌜ r ≡ canClose ending (view (now (space .entry))) ⌝ }
 {
-    match ending {
-        Ending::Quiet => any_if_exists(space),
-        Ending::Service => any_if_exists(space),
-        Ending::Tick => true,
+    if ending.ticks {
+        return true;
+    }
+    if ending.closes {
+        any_if_exists(space)
+    } else {
+        false
     }
 }
 

@@ -5,17 +5,10 @@ use Rattle.step.proofs.finish.end_now.Statement.{statement}
 use Rattle.step.proofs.finish.end_now.Tie as tie
 
 returns : tie.Need-returns
-returns c = rw (c .enum-told .given .1) (does-nothing _ _ _)
+returns c = rw (c .before .before .before .before .before .if1 .taken) (c .before .before .lapse .ensures)
 
 returns-2 : tie.Need-returns-2
-returns-2 c = rw (c .enum-told2 .given .1) (does-nothing _ _ _)
-
-returns-3 : tie.Need-returns-3
-returns-3 c = rw (c .before .before .before .before .before .enum-told3 .given .1) (c .before .before .lapse .ensures)
+returns-2 c = rw (c .if1 .left) (does-nothing _ _ _)
 
 pub end-now-spec : {M : Type 1} → statement M
-end-now-spec =
-    tie.close
-    (tie.spec
-    (λ c. search needs) (λ c. search needs) (λ c. search needs) (λ c κs. search needs) returns returns-2
-    (λ c. search needs) returns-3)
+end-now-spec = tie.close (tie.spec (λ c κs. search needs) (λ c. search needs) returns returns-2)

@@ -5,21 +5,10 @@ use Rattle.step.proofs.finish.serve.Statement.{statement}
 use Rattle.step.proofs.finish.serve.Tie as tie
 
 returns : tie.Need-returns
-returns c = rw (c .enum-told .given .1) (does-nothing _ _ _)
+returns c = rw (c .before .before .before .before .before .if1 .taken) (c .before .before .serve-waits .ensures)
 
 returns-2 : tie.Need-returns-2
-returns-2 c =
-    let served = c .before .before in
-    rw (served .before .before .before .enum-told2 .given .1) (served .serve-waits .ensures)
-
-returns-3 : tie.Need-returns-3
-returns-3 c =
-    let served = c .before .before in
-    rw (served .before .before .before .enum-told3 .given .1) (served .serve-waits2 .ensures)
+returns-2 c = rw (c .if1 .left) (does-nothing _ _ _)
 
 pub serve-spec : {M : Type 1} → statement M
-serve-spec =
-    tie.close
-    (tie.spec
-    (λ c. search needs) (λ c. search needs) (λ c κs. search needs) (λ c. search needs) (λ c κs. search needs)
-    returns (λ c. search needs) returns-2 (λ c. search needs) returns-3)
+serve-spec = tie.close (tie.spec (λ c κs. search needs) (λ c. search needs) returns returns-2)
