@@ -26,7 +26,7 @@ use Rattle.rules.proofs.SoundLaws.{service-ahead, none-existing}
 use Rattle.rules.proofs.ViewLaws.{view-bounded}
 use Rattle.step.specs.declared.finish.Ending.{Ending}
 use Rattle.step.specs.Does.{Does}
-use Rattle.step.specs.Ending.{EndsAs, endedBy, servedBy, someIfExists, closedBy, finishedBy}
+use Rattle.step.specs.Ending.{inTick, served, closing, EndsAs, endedBy, servedBy, someIfExists, closedInVain, closedBy, finishedBy}
 use Rattle.step.proofs.AddsLaws.{does-then}
 
 -- none is over: all wait on
@@ -47,13 +47,13 @@ module _ (ws : List ℕ) (e : Ending) where
   -- at most 8 exceptions
   pub few-ended : length (endedBy e (view ws) .records) ≤ maxTxns
   few-ended =
-      cond-cases (λ (d : Done). length (d .records) ≤ maxTxns) (e .ticks)
+      cond-cases (λ (d : Done). length (d .records) ≤ maxTxns) (inTick e)
       (λ t. lapsed-fits (view ws) (view-bounded ws) .records-fit) (λ t. omega arith)
 
   -- a found for each look-up that waits no longer
   pub few-served : length (servedBy e (view ws) .records) + length (servedBy e (view ws) .model .waits) ≤ maxWaits
   few-served =
-      cond-cases (λ (d : Done). length (d .records) + length (d .model .waits) ≤ maxWaits) (e .serves)
+      cond-cases (λ (d : Done). length (d .records) + length (d .model .waits) ≤ maxWaits) (served e)
       (λ t. service-fits (view ws) (view-bounded ws) .1) (λ t. omega (arith, view-bounded ws .waits-fit))
 
 pub finish-parts : {ws₁ ws₂ ws₃ a a₁ a₂ a₃ : List ℕ} {c c₁ c₂ c₃ : ℕ} (ws : List ℕ) (e : Ending)
@@ -66,7 +66,7 @@ finish-parts {ws₂ = ws₂} {ws₃ = ws₃} {a₁ = a₁} {a₂ = a₂} {a₃ =
     does-then room (does-then room p q′) r′
 
 -- the parts are the rules' own: between ticks deadlines lie ahead, and most frames end no conflict
-closed-same : (m : Model) → Ahead m → cond (someIfExists m) (closeWaits m) (quiet m) ≡ closeWaits m
+closed-same : (m : Model) → Ahead m → closedInVain m ≡ closeWaits m
 closed-same m a =
     ⊎-elim (λ t. rw t) (λ t. rw t (sym (none-existing m a t))) (bool-cases (someIfExists m))
 
@@ -82,13 +82,20 @@ pub finish-same : (f : Frame) (e : Ending) (m : Model) → EndsAs f e → (isTic
     → (endsConflicts f ≡ false → closeWaits (leftOf f m) ≡ quiet (leftOf f m)) → finishedBy e m ≡ finish f m
 unfolding finish
 finish-same f e m k a h =
-    ap₂ (λ x y. finishedBy (record { ticks = x; serves = y; closes = e .closes }) m) (sym (k .tick)) (sym (k .service))
-    ∙ ap (λ z. finishedBy (record { ticks = isTick (f .op); serves = serves f; closes = z }) m) (sym (k .closing))
+    ap₂ (λ t s. parts t s (closing e)) (sym (k .tick)) (sym (k .service))
+    ∙ ap (parts (isTick (f .op)) (serves f)) (sym (k .closes))
     ∙ same (isTick (f .op)) (serves f) (endsConflicts f) a h
   where
-    -- the rules' `finish`
-    by : Bool → Bool → Done
-    by t s =
+    -- the code's parts, by what holds of the frame, and the rules'
+    parts : Bool → Bool → Bool → Done
+    parts t s c =
+        let ended = cond t (lapsed m) (quiet m) in
+        let served = cond s (service (ended .model)) (quiet (ended .model)) in
+        let closed = cond t (closeWaits (served .model)) (cond c (closedInVain (served .model)) (quiet (served .model))) in
+        record { model = closed .model; records = ended .records ++ served .records ++ closed .records }
+
+    rules : Bool → Bool → Done
+    rules t s =
         let ended = cond t (lapsed m) (quiet m) in
         let served = cond s (service (ended .model)) (quiet (ended .model)) in
         let closed = closeWaits (served .model) in
@@ -96,7 +103,7 @@ finish-same f e m k a h =
 
     same : (t s c : Bool) → (t ≡ false → Ahead m)
         → (c ≡ false → closeWaits (cond s (service m .model) m) ≡ quiet (cond s (service m .model) m))
-        → finishedBy (record { ticks = t; serves = s; closes = c }) m ≡ by t s
+        → parts t s c ≡ rules t s
     same true s c a h = refl
     same false true true a h = ap (behind (service m)) (closed-same (service m .model) (service-ahead m (a refl)))
     same false false true a h = ap (behind (quiet m)) (closed-same m (a refl))

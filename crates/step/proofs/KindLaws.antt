@@ -12,7 +12,8 @@ use Rattle.rules.specs.LookUp.{lookUp}
 use Rattle.rules.specs.Requests.{frame, frameOf}
 use Rattle.rules.specs.Step.{ownPart}
 use Rattle.rules.proofs.LayoutLaws.{lookUp-serves}
-use Rattle.step.specs.Ending.{EndsAs}
+use Rattle.step.specs.declared.finish.Ending.{Ending}
+use Rattle.step.specs.Ending.{inTick, served, closing, EndsAs}
 
 pub kind-cases : (P : ℕ → Type 0) (takes ifExists : Bool) → P opRead → P opTake → P opReadIfExists → P opTakeIfExists
     → P (lookUpOp takes ifExists)
@@ -39,19 +40,19 @@ own-find m l =
     let f : ℕ → Frame = λ op. frame op (l .party) (l .mask) (l .txn .0) (l .timeout) (l .fields) in
     kind-cases (λ op. lookUp m (f op) ≡ ownPart m (f op)) (l .takes) (l .«if_exists») refl refl refl refl
 
--- how it ends: of those who wait, only a transaction's take can leave one without a conflict
-pub find-ends : (l : FindRequest) (closes : Bool) → closes ≡ (l .takes && not (eqb (l .txn .0) 0))
-    → EndsAs (frameOf (Find l)) (record { ticks = false; serves = false; closes = closes })
+-- how it ends: of those who wait, only a take inside a transaction can leave one without a conflict
+pub find-ends : (l : FindRequest) (e : Ending) → inTick e ≡ false → served e ≡ false
+    → closing e ≡ (l .takes && not (eqb (l .txn .0) 0)) → EndsAs (frameOf (Find l)) e
 unfolding serves layoutOf
-find-ends l closes e =
+find-ends l e t s c =
     record {
-      tick = kind-cases (λ op. isTick op ≡ false) (l .takes) (l .«if_exists») refl refl refl refl;
-      service = lookUp-serves (frameOf (Find l)) (looks-up (l .takes) (l .«if_exists»));
-      closing =
+      tick = kind-cases (λ op. isTick op ≡ false) (l .takes) (l .«if_exists») refl refl refl refl ∙ sym t;
+      service = lookUp-serves (frameOf (Find l)) (looks-up (l .takes) (l .«if_exists»)) ∙ sym s;
+      closes =
           kind-cases (λ op. (isTake op && inside || endsTxn op || isTick op) ≡ (isTake op && inside)) (l .takes)
           (l .«if_exists») refl none-more refl none-more
           ∙ ap (λ b. b && inside) (kind-back (l .takes) (l .«if_exists») .0)
-          ∙ sym e;
+          ∙ sym c;
     }
   where
     inside : Bool

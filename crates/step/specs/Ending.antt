@@ -1,5 +1,5 @@
 -- How a frame ends, as the code hands it on.
-use mathlib.Core.Bool.{Bool, cond, _&&_, _||_}
+use mathlib.Core.Bool.{Bool, true, false, cond}
 use mathlib.Core.Path.{_≡_}
 use mathlib.Core.List.{_++_}
 use Rattle.rules.specs.declared.LookUp.{LookUp}
@@ -11,30 +11,53 @@ use Rattle.rules.specs.Service.{service}
 use Rattle.rules.specs.Tick.{lapsed}
 use Rattle.rules.specs.Closing.{closeWaits, endsConflicts}
 use Rattle.step.specs.declared.finish.Ending.{Ending}
+use Rattle.step.specs.declared.finish.Ending.the-variants.{Quiet, Nothings, Service, Both, Tick}
+
+-- whether it is a tick's, whether service is part of it, and whether a conflict may have ended
+abbrev pub inTick : Ending → Bool
+inTick Quiet = false
+inTick Nothings = false
+inTick Service = false
+inTick Both = false
+inTick Tick = true
+
+abbrev pub served : Ending → Bool
+served Quiet = false
+served Nothings = false
+served Service = true
+served Both = true
+served Tick = true
+
+abbrev pub closing : Ending → Bool
+closing Quiet = false
+closing Nothings = true
+closing Service = false
+closing Both = true
+closing Tick = true
 
 -- the frame f ends so
 pub record EndsAs (f : Frame) (e : Ending) : Type 0 where
-  pub tick : isTick (f .op) ≡ e .ticks
-  pub service : serves f ≡ e .serves
-  pub closing : endsConflicts f ≡ e .closes
+  pub tick : isTick (f .op) ≡ inTick e
+  pub service : serves f ≡ served e
+  pub closes : endsConflicts f ≡ closing e
 
 -- the parts of the rules' `finish`, as far as the code has to do them: what ends now, service, and the nothings.
 -- Between ticks every deadline lies ahead, so only a look-up of an IfExists kind can be over, and only where a conflict
 -- may have ended (`finish-same`)
 abbrev pub endedBy : Ending → Model → Done
-endedBy e m = cond (e .ticks) (lapsed m) (quiet m)
+endedBy e m = cond (inTick e) (lapsed m) (quiet m)
 
 abbrev pub servedBy : Ending → Model → Done
-servedBy e m = cond (e .serves) (service m) (quiet m)
+servedBy e m = cond (served e) (service m) (quiet m)
 
 abbrev pub someIfExists : Model → Bool
 someIfExists m = anyb (λ (w : LookUp). w .«if_exists») (m .waits)
 
-abbrev pub canClose : Ending → Model → Bool
-canClose e m = e .ticks || e .closes && someIfExists m
+abbrev pub closedInVain : Model → Done
+closedInVain m = cond (someIfExists m) (closeWaits m) (quiet m)
 
 abbrev pub closedBy : Ending → Model → Done
-closedBy e m = cond (canClose e m) (closeWaits m) (quiet m)
+closedBy e m = cond (inTick e) (closeWaits m) (cond (closing e) (closedInVain m) (quiet m))
 
 -- all of them
 abbrev pub finishedBy : Ending → Model → Done

@@ -6,7 +6,7 @@ ghost use Rattle.rules.specs.Closing.{closeWaits};
 ghost use Rattle.rules.specs.Numbers.{recordSize};
 ghost use Rattle.rules.specs.Words.{view};
 ghost use Rattle.step.specs.Does.{Adds, Does};
-ghost use Rattle.step.specs.Ending.{someIfExists};
+ghost use Rattle.step.specs.Ending.{someIfExists, closedInVain};
 use crate::answers::add_record;
 use codec::records::plain_record;
 use holds::endings::Leave;
@@ -67,4 +67,17 @@ pub(crate) fn close_waits(space: &mut Words, answers: &mut [u8], count: usize) -
     }
     leave_waits(space, Leave::Over);
     done
+}
+
+// Between ticks every deadline lies ahead: only a look-up of an IfExists kind can be over.
+pub(crate) fn close_in_vain(space: &mut Words, answers: &mut [u8], count: usize) -> usize
+    requires { ⌜ recordSize * (count + length (view (now space) .waits)) ≤ length (now answers) ⌝ }
+    ensures { λ n. ⌜ Does (closedInVain (view (now (space .entry)))) (now (space .exit))
+        (now (answers .entry)) (now (answers .exit)) count n ⌝ }
+{
+    if any_if_exists(space) {
+        close_waits(space, answers, count)
+    } else {
+        count
+    }
 }

@@ -1,15 +1,12 @@
 // What every carried-out frame ends with: what ends now, service, and the look-ups that get nothing.
-ghost use mathlib.Core.Path.{_≡_};
-ghost use mathlib.Core.Bool.{not, _&&_};
-ghost use lib.Dec.{eqb};
 ghost use Prim.Native.Nat.{_+_, _*_, _≤_};
 ghost use lib.ListN.{length};
 ghost use Rattle.rules.specs.Numbers.{maxTxns, maxWaits, recordSize};
 ghost use Rattle.rules.specs.Requests.{frameOf};
 ghost use Rattle.rules.specs.Words.{view};
 ghost use Rattle.step.specs.Does.{Does};
-ghost use Rattle.step.specs.Ending.{EndsAs, endedBy, servedBy, canClose, closedBy, finishedBy};
-use crate::closing::any_if_exists;
+ghost use Rattle.step.specs.Ending.{EndsAs, endedBy, servedBy, closedBy, finishedBy};
+use crate::closing::close_in_vain;
 use crate::closing::close_waits;
 use crate::service::serve_waits;
 use crate::tick::lapse;
@@ -17,62 +14,50 @@ use rules::FindRequest;
 use rules::Request;
 use words::rows::Words;
 
-// How a frame ends: as a tick does, with service, with nothings for those who wait in vain from then on.
-pub(crate) struct Ending {
-    pub ticks: bool,
-    pub serves: bool,
-    pub closes: bool,
+// How a frame ends.
+pub(crate) enum Ending {
+    // With nothing more.
+    Quiet,
+    // With nothings for those who wait in vain from then on.
+    Nothings,
+    // With service.
+    Service,
+    // With service, and then nothings.
+    Both,
+    // As a tick does: with what ends now, too.
+    Tick,
 }
 
-// A transaction's take may be of its own private entry, for which others wait.
-pub(crate) fn takes_inside(l: FindRequest) -> bool
-    ensures { λ r. ⌜ r ≡ (l .takes && not (eqb (l .txn .0) 0)) ⌝ }
+// A take inside a transaction may be of the transaction's own private entry, for which others wait.
+pub(crate) fn ending_of_find(l: FindRequest) -> Ending
+    ensures { λ r. ⌜ EndsAs (frameOf (Request.Find l)) r ⌝ }
 {
-    if l.takes { l.txn.0 != 0 } else { false }
+    if l.takes {
+        if l.txn.0 != 0 {
+            return Ending::Nothings;
+        }
+    }
+    Ending::Quiet
 }
 
-// Service follows a write outside transactions, a commit and an abort, and falls within a tick. A conflict ends with a
-// transaction's take, a commit, an abort and a tick only.
+// Service follows a write outside transactions, a commit and an abort, and falls within a tick. Only those that end a
+// conflict can leave somebody waiting in vain.
 pub(crate) fn ending_of(q: Request) -> Ending
     ensures { λ r. ⌜ EndsAs (frameOf q) r ⌝ }
 {
     match q {
         Request::Write(w) => {
-            let serves = w.txn.0 == 0;
-            Ending {
-                ticks: false,
-                serves,
-                closes: false,
+            if w.txn.0 == 0 {
+                Ending::Service
+            } else {
+                Ending::Quiet
             }
         }
-        Request::Find(l) => {
-            let closes = takes_inside(l);
-            Ending {
-                ticks: false,
-                serves: false,
-                closes,
-            }
-        }
-        Request::Create(_, _) => Ending {
-            ticks: false,
-            serves: false,
-            closes: false,
-        },
-        Request::Commit(_, _) => Ending {
-            ticks: false,
-            serves: true,
-            closes: true,
-        },
-        Request::Abort(_, _) => Ending {
-            ticks: false,
-            serves: true,
-            closes: true,
-        },
-        Request::Tick => Ending {
-            ticks: true,
-            serves: true,
-            closes: true,
-        },
+        Request::Find(l) => ending_of_find(l),
+        Request::Create(_, _) => Ending::Quiet,
+        Request::Commit(_, _) => Ending::Both,
+        Request::Abort(_, _) => Ending::Both,
+        Request::Tick => Ending::Tick,
     }
 }
 
@@ -82,10 +67,12 @@ pub(crate) fn end_now(space: &mut Words, answers: &mut [u8], count: usize, endin
     ensures { λ n. ⌜ Does (endedBy ending (view (now (space .entry)))) (now (space .exit))
         (now (answers .entry)) (now (answers .exit)) count n ⌝ }
 {
-    if ending.ticks {
-        lapse(space, answers, count)
-    } else {
-        count
+    match ending {
+        Ending::Quiet => count,
+        Ending::Nothings => count,
+        Ending::Service => count,
+        Ending::Both => count,
+        Ending::Tick => lapse(space, answers, count),
     }
 }
 
@@ -95,25 +82,12 @@ pub(crate) fn serve(space: &mut Words, answers: &mut [u8], count: usize, ending:
     ensures { λ n. ⌜ Does (servedBy ending (view (now (space .entry)))) (now (space .exit))
         (now (answers .entry)) (now (answers .exit)) count n ⌝ }
 {
-    if ending.serves {
-        serve_waits(space, answers, count)
-    } else {
-        count
-    }
-}
-
-// Whether a look-up can be over: in a tick its deadline may be reached; between ticks only one of an IfExists kind can,
-// and only where a conflict may have ended.
-pub(crate) fn can_close(space: &Words, ending: Ending) -> bool
-    ensures { λ r. ⌜ r ≡ canClose ending (view (now (space .entry))) ⌝ }
-{
-    if ending.ticks {
-        return true;
-    }
-    if ending.closes {
-        any_if_exists(space)
-    } else {
-        false
+    match ending {
+        Ending::Quiet => count,
+        Ending::Nothings => count,
+        Ending::Service => serve_waits(space, answers, count),
+        Ending::Both => serve_waits(space, answers, count),
+        Ending::Tick => serve_waits(space, answers, count),
     }
 }
 
@@ -123,10 +97,12 @@ pub(crate) fn close(space: &mut Words, answers: &mut [u8], count: usize, ending:
     ensures { λ n. ⌜ Does (closedBy ending (view (now (space .entry)))) (now (space .exit))
         (now (answers .entry)) (now (answers .exit)) count n ⌝ }
 {
-    if can_close(space, ending) {
-        close_waits(space, answers, count)
-    } else {
-        count
+    match ending {
+        Ending::Quiet => count,
+        Ending::Nothings => close_in_vain(space, answers, count),
+        Ending::Service => count,
+        Ending::Both => close_in_vain(space, answers, count),
+        Ending::Tick => close_waits(space, answers, count),
     }
 }
 
