@@ -1,16 +1,18 @@
 // The ends of transactions, and look-ups that leave.
 ghost use mathlib.Core.Path.{_≡_};
+ghost use Prim.Native.Nat.{_<_};
 ghost use Rattle.rules.specs.State.{withWaits};
 ghost use Rattle.rules.specs.Lists.{filterb};
+ghost use Rattle.rules.specs.Numbers.{maxWaits};
 ghost use Rattle.rules.specs.Words.{view};
 ghost use Rattle.rules.specs.Transactions.{commit, abort};
+ghost use Rattle.words.specs.Rows.{waitRow};
 ghost use Rattle.holds.specs.Leave.{leaves, stays};
 use crate::find::is_over;
 use crate::live::remove_txn;
 use crate::live::slot_of;
 use crate::sweep::Sweep;
 use crate::sweep::pass_over;
-use rules::LookUp;
 use rules::TxnId;
 use words::rows::Words;
 use words::rows::move_wait;
@@ -26,12 +28,17 @@ pub enum Leave {
     Over,
 }
 
-pub(crate) fn is_leaving(space: &Words, l: Leave, w: LookUp) -> bool
-    ensures { λ r. ⌜ r ≡ leaves (view (now (space .entry))) l w ⌝ }
+// Whether the look-up in row i is one of them.
+pub(crate) fn is_leaving(space: &Words, l: Leave, i: usize) -> bool
+    requires { ⌜ i < maxWaits ⌝ }
+    ensures { λ r. ⌜ r ≡ leaves (view (now (space .entry))) l (waitRow (now (space .entry)) i) ⌝ }
 {
     match l {
-        Leave::Inside(t) => w.txn.0 == t.0,
-        Leave::Over => is_over(space, w),
+        Leave::Inside(t) => {
+            let w = wait_at(space, i);
+            w.txn.0 == t.0
+        }
+        Leave::Over => is_over(space, i),
     }
 }
 
@@ -45,8 +52,7 @@ pub fn leave_waits(space: &mut Words, l: Leave)
     let mut i: usize = 0;
     let mut n: usize = 0;
     while i < count {
-        let w = wait_at(space, i);
-        if is_leaving(space, l, w) {
+        if is_leaving(space, l, i) {
             i += 1;
             continue;
         }

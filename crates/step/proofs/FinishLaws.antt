@@ -1,6 +1,6 @@
 -- What a frame ends with, part by part.
 use Prim.Native.Nat.{ℕ, _+_, _*_, _≤_}
-use mathlib.Core.Bool.{Bool, true, false, not, cond}
+use mathlib.Core.Bool.{Bool, true, false, true≢false, not, cond, _||_}
 use mathlib.Core.Logic.{⊎-elim}
 use mathlib.Core.Path.{_≡_, refl, sym, ap, ap₂, _∙_, subst}
 use mathlib.Core.List.{List, _++_, List·Memᴰ}
@@ -25,6 +25,7 @@ use Rattle.rules.proofs.ListLaws.{filter-pass, count-mem}
 use Rattle.rules.proofs.SoundLaws.{service-ahead, none-existing}
 use Rattle.rules.proofs.ViewLaws.{view-bounded}
 use Rattle.step.specs.declared.finish.Ending.{Ending}
+use Rattle.step.specs.declared.finish.Ending.the-variants.{Quiet, Nothings, Service, Both, Tick}
 use Rattle.step.specs.Does.{Does}
 use Rattle.step.specs.Ending.{inTick, served, closing, EndsAs, endedBy, servedBy, someIfExists, closedInVain, closedBy, finishedBy}
 use Rattle.step.proofs.AddsLaws.{does-then}
@@ -42,6 +43,14 @@ none-closed m e =
     not-due w i =
         ⊎-elim (λ t. absurd (omega (arith, e, count-mem due i t, length-map (filterb due (m .waits)) nothing)))
         (λ t. t) (bool-cases (due w))
+
+-- a frame that ends with nothing more does no more
+pub quiet-ends : (e : Ending) (m : Model) → not (served e || closing e) ≡ true → finishedBy e m ≡ quiet m
+quiet-ends Quiet m t = refl
+quiet-ends Nothings m t = absurd (true≢false (sym t))
+quiet-ends Service m t = absurd (true≢false (sym t))
+quiet-ends Both m t = absurd (true≢false (sym t))
+quiet-ends Tick m t = absurd (true≢false (sym t))
 
 module _ (ws : List ℕ) (e : Ending) where
   -- at most 8 exceptions

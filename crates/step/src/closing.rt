@@ -43,9 +43,10 @@ pub(crate) fn put_nothings(space: &Words, answers: &mut [u8], count: usize) -> u
     let mut done = count;
     let mut i: usize = 0;
     while i < waits {
+        let over = is_over(space, i);
         let w = wait_at(space, i);
         i += 1;
-        if !is_over(space, w) {
+        if !over {
             continue;
         }
         let r = plain_record(KIND_NOTHING, w.party, w.txn);

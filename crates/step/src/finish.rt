@@ -1,11 +1,13 @@
 // What every carried-out frame ends with: what ends now, service, and the look-ups that get nothing.
+ghost use mathlib.Core.Bool.{not, _||_};
+ghost use mathlib.Core.Path.{_≡_};
 ghost use Prim.Native.Nat.{_+_, _*_, _≤_};
 ghost use lib.ListN.{length};
 ghost use Rattle.rules.specs.Numbers.{maxTxns, maxWaits, recordSize};
 ghost use Rattle.rules.specs.Requests.{frameOf};
 ghost use Rattle.rules.specs.Words.{view};
 ghost use Rattle.step.specs.Does.{Does};
-ghost use Rattle.step.specs.Ending.{EndsAs, endedBy, servedBy, closedBy, finishedBy};
+ghost use Rattle.step.specs.Ending.{served, closing, EndsAs, endedBy, servedBy, closedBy, finishedBy};
 use crate::closing::close_in_vain;
 use crate::closing::close_waits;
 use crate::service::serve_waits;
@@ -106,13 +108,28 @@ pub(crate) fn close(space: &mut Words, answers: &mut [u8], count: usize, ending:
     }
 }
 
+pub(crate) fn is_quiet(ending: Ending) -> bool
+    ensures { λ r. ⌜ r ≡ not (served ending || closing ending) ⌝ }
+{
+    match ending {
+        Ending::Quiet => true,
+        Ending::Nothings => false,
+        Ending::Service => false,
+        Ending::Both => false,
+        Ending::Tick => false,
+    }
+}
+
 // What every carried-out frame ends with, behind the `count` records that stand in the answers area. The number
-// afterwards is returned.
+// afterwards is returned. Most frames are over here at once.
 pub(crate) fn finish(space: &mut Words, answers: &mut [u8], count: usize, ending: Ending) -> usize
     requires { ⌜ recordSize * (count + maxTxns + maxWaits) ≤ length (now answers) ⌝ }
     ensures { λ n. ⌜ Does (finishedBy ending (view (now (space .entry)))) (now (space .exit))
         (now (answers .entry)) (now (answers .exit)) count n ⌝ }
 {
+    if is_quiet(ending) {
+        return count;
+    }
     let ended = end_now(space, answers, count, ending);
     let served = serve(space, answers, ended, ending);
     close(space, answers, served, ending)

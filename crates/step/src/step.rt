@@ -43,8 +43,8 @@ pub(crate) fn take_up(space: &mut Words, frame: &[u8], answers: &mut [u8], q: Re
     if n != 0 {
         return refuse(answers, frame, n);
     }
-    let ending = ending_of(q);
     let own = carry_out(space, q);
     let count = add_record(answers, 0, own);
+    let ending = ending_of(q);
     finish(space, answers, count, ending) as u64
 }

@@ -32,22 +32,21 @@ leaves-same Over {ws₀} {ws} c k w = ap (λ m. isOver m w) (view-waits ws ws₀
 
 loop-again : tie.Need-loop-again Inv-loop μ-loop
 loop-again c =
-    let loop = c .before .before .before .before .before .before in
+    let loop = c .before .before .before .before in
     let i = loop .loop .inv in
     let same = leaves-same (loop .before .before .before .args .l) (i .1) (omega arith) _ in
     let test = ap not (sym same ∙ sym (c .before .is-leaving .ensures) ∙ c .if1 .taken) in
-    (omega arith, compact-passed (i .1) (c .before .before .before .wait-at .ensures) test)
+    (omega arith, compact-passed (i .1) refl test)
 
 loop-again-2 : tie.Need-loop-again-2 Inv-loop μ-loop
 loop-again-2 c =
     let b = c .before .before in
-    let loop = b .before .before .before .before .before .before in
+    let loop = b .before .before .before .before in
     let i = loop .loop .inv in
     let long = loop .before .wait-count .ensures .1 in
     let same = leaves-same (loop .before .before .before .args .l) (i .1) (omega arith) _ in
     let test = ap not (sym same ∙ sym (b .before .is-leaving .ensures) ∙ b .if1 .left) in
-    let r = b .before .before .before .wait-at .ensures in
-    (omega arith, compact-moved (i .1) r test (omega arith) (omega (arith, long)) (c .move-wait .ensures) refl)
+    (omega arith, compact-moved (i .1) refl test (omega arith) (omega (arith, long)) (c .move-wait .ensures) refl)
 
 returns : tie.Need-returns Inv-loop μ-loop
 unfolding view waits
@@ -60,6 +59,6 @@ pub leave-waits-spec : {M : Type 1} → statement M
 leave-waits-spec =
     tie.close
     (tie.spec Inv-loop μ-loop (λ c κs. tt) (λ c. (omega arith, compact-start)) (λ c κs. omega arith)
-    (λ c κs. tt) (λ c. omega arith) (λ c. omega arith) loop-again (λ c κs. omega arith) (λ c. omega arith)
+    (λ c. omega arith) (λ c. omega arith) loop-again (λ c κs. omega arith) (λ c. omega arith)
     (λ c. omega arith) (λ c. omega arith) loop-again-2
     (λ c κs. omega (arith, c .before .before .loop .inv .1 .behind)) returns)

@@ -1,7 +1,7 @@
 -- `step::closing::put_nothings` meets its contract. The loop's invariant: of the look-ups passed, those that are over
 -- have their nothings. Assumes nothing.
 use Prim.Native.Nat.{_≤_, _-_}
-use mathlib.Core.Path.{sym, _∙_}
+use mathlib.Core.Path.{refl, sym, ap, _∙_}
 use native.Mathlib.Omega.{arith}
 use borrow.Author.Tests.{not-true, not-false}
 use Rattle.rules.specs.Closing.{isOver, closeWaits}
@@ -25,8 +25,7 @@ loop-again : tie.Need-loop-again Inv-loop μ-loop
 loop-again c =
     let l = c .before .before .before .before .loop in (
       omega arith,
-      answered-passed (l .inv .1) (c .before .before .wait-at .ensures)
-          (sym (c .before .is-over .ensures) ∙ not-true _ (c .if1 .taken)),
+      answered-passed (l .inv .1) refl (sym (c .before .before .is-over .ensures) ∙ not-true _ (c .if1 .taken)),
     )
 
 add-record-requires : tie.Need-add-record-requires Inv-loop μ-loop
@@ -38,11 +37,13 @@ loop-again-2 : tie.Need-loop-again-2 Inv-loop μ-loop
 unfolding nothing
 loop-again-2 c =
     let made = c .before .before .before .before in
-    let test = made .before .before in
-    let l = test .before .before .before .loop in
-    let over = sym (test .is-over .ensures) ∙ not-false _ (made .before .if1 .left) in (
+    let read = made .before .before in
+    let l = read .before .before .before in
+    let m = view (l .before .before .before .args .space .now) in
+    let over =
+    ap (isOver m) (read .wait-at .ensures) ∙ sym (read .before .is-over .ensures) ∙ not-false _ (made .before .if1 .left) in (
       omega arith,
-      answered-more (l .inv .1) (test .before .wait-at .ensures) over (made .plain-record .ensures) (omega arith)
+      answered-more (l .loop .inv .1) (read .wait-at .ensures) over (made .plain-record .ensures) (omega arith)
           (c .before .before .add-record .ensures),
     )
 
@@ -61,6 +62,6 @@ pub put-nothings-spec : {M : Type 1} → statement M
 put-nothings-spec =
     tie.close
     (tie.spec
-    Inv-loop μ-loop (λ c κs. tt) (λ c. (omega arith, answered-start)) (λ c κs. omega arith) (λ c. omega arith)
-    (λ c κs. tt) (λ c. omega arith) loop-again (λ c κs. tt) add-record-requires (λ c. omega arith) loop-again-2
+    Inv-loop μ-loop (λ c κs. tt) (λ c. (omega arith, answered-start)) (λ c κs. omega arith) (λ c κs. omega arith)
+    (λ c. omega arith) (λ c. omega arith) loop-again (λ c κs. tt) add-record-requires (λ c. omega arith) loop-again-2
     same-length returns)

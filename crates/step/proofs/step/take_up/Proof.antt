@@ -14,13 +14,14 @@ returns c =
 
 returns-2 : tie.Need-returns-2
 returns-2 c =
-    let own = c .before .before .before .before .before .before .before in
+    let ending = c .before .before .before .before .before in
+    let own = ending .before .before .before in
     let carried = own .before .before in
-    let test = carried .before .before .before in
+    let test = carried .before .before in
     let start = test .before .before .before .before .before in
     stepped-done (start .pre .1) (start .pre .0) (sym (test .before .judge .ensures) ∙ test .if1 .left)
     (carried .carry-out .ensures) (own .add-record .ensures)
-    _ (carried .before .before .ending-of .ensures) (c .before .before .finish .ensures)
+    _ (ending .ending-of .ensures) (c .before .before .finish .ensures)
 
 pub take-up-spec : {M : Type 1} → statement M
 take-up-spec =
