@@ -13,7 +13,7 @@ use lib.ListN.{length}
 use Rattle.rules.specs.declared.Txn.{Txn}
 use Rattle.rules.specs.declared.LookUp.{LookUp}
 use Rattle.rules.specs.Numbers.{maxParty}
-use Rattle.rules.specs.Lists.{findb, anyb}
+use Rattle.rules.specs.Lists.{findb, anyb, All}
 use Rattle.rules.specs.State.{Model, empty}
 use Rattle.rules.specs.Template.{bit}
 use Rattle.rules.specs.Frame.{Frame, decode, isTick, hasTemplate, namesNoTxn}
@@ -23,20 +23,19 @@ use Rattle.rules.specs.Refusals.{badTemplate, malformed, wrongParty, refusal}
 use Rattle.rules.specs.Step.{Outcome, step}
 use Rattle.rules.specs.Words.{view}
 use Rattle.rules.specs.Allowed.{Answered, Allowed}
-use Rattle.demands.specs.Machine.{Handed, Input, inputOf, theSpace, answeredBy, theRules}
-use Rattle.demands.specs.History.{inputsOf, EveryState}
+use Rattle.rules.specs.Sound.{Consistent}
 use Rattle.rules.proofs.ListLaws.{find-some, none-mem}
 use Rattle.rules.proofs.BoolLaws.{cond-cases, bool-cases, or-left, or-right}
 use Rattle.rules.proofs.RefusalLaws.{clear}
 use Rattle.rules.proofs.ReaderLaws.{bit-suc, no-bits}
-use Rattle.rules.specs.Lists.{All}
+use Rattle.demands.specs.Machine.{Handed, Input, inputOf, theSpace, answeredBy, theRules}
+use Rattle.demands.specs.History.{inputsOf, EveryState}
 use Rattle.sound.proofs.HoldLaws.{not-so}
 use Rattle.demands.proofs.Runs.{runs, made, made-keep}
 use Rattle.demands.proofs.ByRule.{space-follows, run-of}
 use Rattle.demands.proofs.JudgedProof.{number-is, refused-model}
 use Rattle.sound.proofs.Events.{Heard, Events, over, then}
 use Rattle.sound.proofs.EventsProof.{step-events}
-use Rattle.rules.specs.Sound.{Consistent}
 use Rattle.sound.proofs.Becomes.{waits-all, txns-all}
 use Rattle.sound.proofs.ConsistentProof.{consistent-events, consistent-empty}
 use Rattle.demands.proofs.ByEvents.{consistent}

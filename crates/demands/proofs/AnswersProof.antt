@@ -4,8 +4,7 @@ use Prim.Native.Nat.{ℕ, _+_, _≤_}
 use mathlib.Core.Bool.{Bool, true, false, cond, not, _&&_, _||_, or-true, or-false, or-assoc, true≢false}
 use mathlib.Core.Logic.{_⊎_, inl, inr, ⊎-elim}
 use mathlib.Core.Path.{_≡_, refl, sym, ap, _∙_, subst, subst⁻¹}
-use mathlib.Core.List.{List, [], _∷_, _++_, append-assoc, append-nil, List·Memᴰ, Memᴰ·append-left}
-use mathlib.Core.List.{map}
+use mathlib.Core.List.{List, [], _∷_, _++_, append-assoc, append-nil, List·Memᴰ, Memᴰ·append-left, map}
 use native.Mathlib.Omega.{arith}
 use borrow.Author.Tests.{eq-eqb, ne-eqb, le-leb}
 use lib.Dec.{eqb}
@@ -21,22 +20,21 @@ use Rattle.rules.specs.Time.{until, reached}
 use Rattle.rules.specs.State.{Model}
 use Rattle.rules.specs.Holds.{someAvailable}
 use Rattle.rules.specs.Frame.{Frame, decode, isLookUp}
-use Rattle.rules.specs.Records.{found, nothing, aborted, exception}
+use Rattle.rules.specs.Records.{found, nothing, aborted, exception, isTicked}
 use Rattle.rules.specs.Write.{stored}
-use Rattle.rules.specs.LookUp.{lookUpOf, givesNothing}
+use Rattle.rules.specs.LookUp.{lookUpOf, givesNothing, asked}
 use Rattle.rules.specs.Transactions.{create, commit, abort}
 use Rattle.rules.specs.Tick.{dropEnded}
 use Rattle.rules.specs.Closing.{closeWaits}
 use Rattle.rules.specs.Refusals.{refusal}
 use Rattle.rules.specs.Step.{Outcome, step}
 use Rattle.rules.specs.SerialRun.{Logged, wasRefused}
+use Rattle.rules.specs.Sound.{Consistent, Sound}
 use Rattle.rules.proofs.BoolLaws.{cond-cases, bool-cases}
 use Rattle.rules.proofs.ListLaws.{filter-mem, any-append, count, count-append, count-cons}
 use Rattle.rules.proofs.LayoutLaws.{abort-ends}
 use Rattle.demands.specs.Machine.{Input}
 use Rattle.demands.specs.Answers.{AnsweredNow, Permitted, NothingLeft, closes}
-use Rattle.rules.specs.LookUp.{asked}
-use Rattle.rules.specs.Records.{isTicked}
 use Rattle.demands.specs.History.{recordsOf}
 use Rattle.demands.proofs.Runs.{runs, made, answersTo, runs-keep as keep-runs}
 use Rattle.sound.proofs.AllLaws.{out-or}
@@ -46,13 +44,11 @@ use Rattle.sound.proofs.Events.{Admitted, Closes, Heard, asking, saying, says, 
 use Rattle.sound.proofs.Events.{is-nothing, is-waiting, creates, commits, aborts, ticks, excepts, expires}
 use Rattle.sound.proofs.Becomes.{clock-moves}
 use Rattle.sound.proofs.EventsProof.{over-is, Shut, AtOnce, Rested, Carries, step-carries}
-use Rattle.rules.specs.Sound.{Consistent, Sound}
 use Rattle.sound.proofs.Consistent.{owner-inside}
 use Rattle.sound.proofs.ConsistentProof.{consistent-event}
-use Rattle.demands.proofs.ByEvents.{Reader, Keeps, hearsAll, readsLog, reads-log, runs-keep}
-use Rattle.demands.proofs.ByEvents.{orderly}
-use Rattle.sound.proofs.SoundProof.{none-mid, sound-step}
-use Rattle.demands.proofs.ByEvents.{sound, sound-kept}
+use Rattle.demands.proofs.ByEvents.{Reader, Keeps, hearsAll, readsLog, reads-log, runs-keep, orderly, sound}
+use Rattle.demands.proofs.ByEvents.{sound-kept}
+use Rattle.sound.proofs.SoundProof.{none-mid}
 use Rattle.demands.proofs.OldestLaws.{answered-now}
 
 each-asked : (m : Model) (f : Frame) → Consistent m → Admitted f m → Each (asked m f .waits)

@@ -22,18 +22,17 @@ use Rattle.rules.specs.Write.{stored}
 use Rattle.rules.specs.LookUp.{lookUpOf}
 use Rattle.rules.specs.Transactions.{create, withoutTxn, commit, abort}
 use Rattle.rules.specs.Tick.{dropEnded}
+use Rattle.rules.specs.Sound.{ofParty, Consistent}
 use Rattle.rules.proofs.ListLaws.{filter-filter, filter-pass, length-filter, count, count-cons, count-mem}
 use Rattle.demands.specs.Machine.{Input}
-use Rattle.rules.specs.Sound.{ofParty}
 use Rattle.demands.specs.Book.{LiveTold, Book, newBook, names, enters, entersAll, withAsked, arrives, keepBook}
 use Rattle.demands.specs.Book.{bookOf, Booked}
 use Rattle.demands.proofs.Runs.{runs, made}
 use Rattle.sound.proofs.AllLaws.{filter-map, Out, here, there}
 use Rattle.sound.proofs.HoldLaws.{not-so}
 use Rattle.sound.proofs.EachLaws.{Each}
-use Rattle.sound.proofs.Events.{Heard, Event, refuses, asks, writes, is-found, is-nothing, is-waiting, creates}
-use Rattle.sound.proofs.Events.{commits, aborts, ticks, excepts, expires}
-use Rattle.rules.specs.Sound.{Consistent}
+use Rattle.sound.proofs.Events.{Heard, Event, refuses, asks, writes, is-found, is-nothing, is-waiting, creates, commits}
+use Rattle.sound.proofs.Events.{aborts, ticks, excepts, expires}
 use Rattle.demands.proofs.ByEvents.{Reader, hearsAll, reads-log, made-keep}
 
 -- one place passes, and no other can: the rest is the list without it

@@ -17,20 +17,19 @@ use Rattle.rules.specs.Holds.{liveTxn, dropReaderOf, readByOther, isOther, avai
 use Rattle.rules.specs.Frame.{Frame}
 use Rattle.rules.specs.Write.{newEntry}
 use Rattle.rules.specs.LookUp.{lookUpOf}
+use Rattle.rules.specs.Sound.{ByNumber, At, TxnsOk, Consistent}
+use Rattle.rules.specs.Time.{EndFits}
 use Rattle.rules.proofs.BoolLaws.{bool-cases, and-left, and-right}
 use Rattle.rules.proofs.ListLaws.{any-mem, none-mem}
 use Rattle.rules.proofs.LayoutLaws.{write-leases, lookUp-leases, create-leases}
 use Rattle.rules.proofs.ReaderLaws.{bit-of-zero, no-bits}
 use Rattle.demands.specs.Machine.{Input}
 use Rattle.demands.specs.Bounds.{ReadByLive, OwnTakeHold, Timely}
-use Rattle.rules.specs.Sound.{ByNumber}
-use Rattle.rules.specs.Time.{EndFits}
 use Rattle.demands.proofs.Runs.{made}
 use Rattle.sound.proofs.AllLaws.{all-none}
 use Rattle.sound.proofs.HoldLaws.{equal-or, not-so, available-free}
 use Rattle.sound.proofs.Events.{Heard, Event}
 use Rattle.sound.proofs.Becomes.{kept-all, waits-all, txns-all, clock-moves}
-use Rattle.rules.specs.Sound.{At, TxnsOk, Consistent}
 use Rattle.sound.proofs.HolderLaws.{drop-live, drop-own, drop-other}
 use Rattle.demands.proofs.ByEvents.{made-has, consistent}
 

@@ -21,19 +21,18 @@ use Rattle.rules.specs.Tick.{dropEnded}
 use Rattle.rules.specs.Refusals.{refusal}
 use Rattle.rules.specs.Step.{step}
 use Rattle.rules.specs.SerialRun.{Kept, keptOf, wasRefused}
+use Rattle.rules.specs.Lists.{All}
+use Rattle.rules.specs.Sound.{Consistent}
 use Rattle.rules.proofs.BoolLaws.{cond-cases}
 use Rattle.demands.specs.Machine.{Input}
 use Rattle.demands.specs.Bounds.{InRange, AllInRange, AreBytes}
 use Rattle.demands.specs.History.{recordsOf}
 use Rattle.demands.proofs.Runs.{runs, answersTo}
 use Rattle.sound.proofs.AllLaws.{all-none, all-cons, all-append, out-mem}
-use Rattle.rules.specs.Lists.{All}
-use Rattle.sound.proofs.Events.{Heard, asking, saying, heard, Event, refuses, asks, writes, is-found}
-use Rattle.sound.proofs.Events.{is-nothing, is-waiting, creates, commits, aborts, ticks, excepts, expires}
-use Rattle.sound.proofs.Events.{Events, over, then}
+use Rattle.sound.proofs.Events.{Heard, asking, saying, heard, Event, refuses, asks, writes, is-found, is-nothing}
+use Rattle.sound.proofs.Events.{is-waiting, creates, commits, aborts, ticks, excepts, expires, Events, over, then}
 use Rattle.sound.proofs.Becomes.{kept-all, waits-all, txns-all}
 use Rattle.sound.proofs.EventsProof.{step-events}
-use Rattle.rules.specs.Sound.{Consistent}
 use Rattle.sound.proofs.ConsistentProof.{consistent-event, consistent-events, consistent-empty}
 use Rattle.demands.proofs.JudgedProof.{refusal-fits}
 

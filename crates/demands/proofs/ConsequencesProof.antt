@@ -9,12 +9,11 @@ use Rattle.rules.specs.State.{Model, withWaits}
 use Rattle.rules.specs.Time.{reached}
 use Rattle.rules.specs.Frame.{Frame, decode, isLookUp}
 use Rattle.rules.specs.Records.{found, nothing, waiting}
-use Rattle.rules.specs.LookUp.{lookUpOf}
+use Rattle.rules.specs.LookUp.{lookUpOf, asked}
+use Rattle.rules.specs.Sound.{OneEach}
 use Rattle.demands.specs.Machine.{theRules}
 use Rattle.demands.specs.Said.{Oldest}
-use Rattle.rules.specs.Sound.{OneEach}
 use Rattle.demands.specs.Answers.{FirstOf, AnsweredNow, Permitted}
-use Rattle.rules.specs.LookUp.{asked}
 use Rattle.demands.specs.Consequences.{ConsequencesFollow}
 use Rattle.demands.proofs.Twins.{Twins, some-same, asks-same, gives-same, oldest-back, available-in}
 use Rattle.demands.proofs.Twins.{conflicts-in, found-same}

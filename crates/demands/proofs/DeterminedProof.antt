@@ -20,27 +20,25 @@ use Rattle.rules.specs.Numbers.{maxTxns}
 use Rattle.rules.specs.Frame.{decode, isCreate}
 use Rattle.rules.specs.Records.{waiting, refused, answerBytes, areaAfter}
 use Rattle.rules.specs.Transactions.{privateTo}
-use Rattle.rules.specs.Refusals.{partyWaits, notLive, isOf, notOwn, tooLate, entriesFull, txnsFull, noNumber}
-use Rattle.rules.specs.Refusals.{refusal}
+use Rattle.rules.specs.Refusals.{partyWaits, notLive, isOf, notOwn, tooLate, entriesFull, txnsFull, noNumber, refusal}
 use Rattle.rules.specs.Step.{Outcome, step, accepted}
 use Rattle.rules.specs.Allowed.{Answered}
 use Rattle.rules.specs.SerialRun.{Logged, Kept, keptOf, Run, committedIn, numbersOf}
+use Rattle.rules.specs.Sound.{Ascending, TxnsOk, Consistent}
+use Rattle.rules.proofs.ListLaws.{mem-any}
+use Rattle.rules.proofs.BoolLaws.{bool-cases, and-false-right}
+use Rattle.rules.proofs.RefusalLaws.{clear}
+use Rattle.rules.proofs.DistinctLaws.{distinct-filter}
 use Rattle.demands.specs.Machine.{Handed, Machine, answeredBy, theRules}
 use Rattle.demands.specs.History.{logged, History, begun, handed, handedOf, answersOf, Made, inputsOf}
 use Rattle.demands.specs.Judged.{Judged}
 use Rattle.demands.specs.Book.{LiveTold, Book, Booked}
 use Rattle.demands.specs.Told.{Told, AsTold, Explained}
-use Rattle.rules.specs.Sound.{Ascending}
 use Rattle.demands.specs.Demands.{Demand1, Demand2, Demand3}
 use Rattle.demands.specs.Consequences.{Consequences}
 use Rattle.demands.specs.Determined.{ruled, Determined, ThirdFollows}
-use Rattle.rules.proofs.ListLaws.{mem-any}
-use Rattle.rules.proofs.BoolLaws.{bool-cases, and-false-right}
-use Rattle.rules.proofs.RefusalLaws.{clear}
-use Rattle.rules.proofs.DistinctLaws.{distinct-filter}
 use Rattle.sound.proofs.AscendingLaws.{ascend-unique}
 use Rattle.sound.proofs.Consistent.{cover}
-use Rattle.rules.specs.Sound.{TxnsOk, Consistent}
 use Rattle.sound.proofs.OrderLaws.{InOrder}
 use Rattle.demands.proofs.ByEvents.{consistent, orderly}
 use Rattle.demands.proofs.ByRule.{rules-follow, run-of}

@@ -14,30 +14,27 @@ use Rattle.rules.specs.State.{Model, empty, Bounded}
 use Rattle.rules.specs.Numbers.{forever}
 use Rattle.rules.specs.Lists.{filterb, anyb}
 use Rattle.rules.specs.Frame.{isLookUp}
-use Rattle.rules.specs.Records.{refused}
-use Rattle.rules.specs.LookUp.{lookUpOf}
+use Rattle.rules.specs.Records.{refused, isTicked}
+use Rattle.rules.specs.LookUp.{lookUpOf, asked}
 use Rattle.rules.specs.Refusals.{refusal}
 use Rattle.rules.specs.Step.{Outcome, step}
-use Rattle.rules.specs.Sound.{Sound}
+use Rattle.rules.specs.Sound.{Sound, ByNumber}
 use Rattle.rules.specs.Allowed.{Answered}
 use Rattle.rules.specs.SerialRun.{Logged, serialRun, Serial}
+use Rattle.rules.proofs.BoolLaws.{bool-cases}
+use Rattle.rules.proofs.Capacity.{step-fits}
+use Rattle.rules.proofs.AreaLaws.{area-length, area-front, area-rest}
 use Rattle.demands.specs.Machine.{Handed, frameIn, Input, inputOf, Machine}
 use Rattle.demands.specs.History.{recordsOf, History, handedOf, Made, inputsOf, EveryState, EveryStep}
 use Rattle.demands.specs.Judged.{CarriedOut, Judged}
 use Rattle.demands.specs.Answers.{AnsweredNow, NothingLeft, closes}
-use Rattle.rules.specs.LookUp.{asked}
-use Rattle.rules.specs.Records.{isTicked}
 use Rattle.demands.specs.Said.{Said}
 use Rattle.demands.specs.Book.{bookOf, Booked}
 use Rattle.demands.specs.Told.{Explained}
 use Rattle.demands.specs.Demands.{Demand1, Demand2, Demand3}
 use Rattle.demands.specs.Consequences.{Consequences}
 use Rattle.demands.specs.Bounds.{Timely, ReadByLive, OwnTakeHold, AreBytes, AllInRange, Bounds}
-use Rattle.rules.specs.Sound.{ByNumber}
-use Rattle.rules.proofs.BoolLaws.{bool-cases}
-use Rattle.rules.proofs.Capacity.{step-fits}
 use Rattle.sound.proofs.SoundProof.{sound-step}
-use Rattle.rules.proofs.AreaLaws.{area-length, area-front, area-rest}
 use Rattle.demands.proofs.Runs.{runs, made, answersTo}
 use Rattle.demands.proofs.ByRule.{ByRule, Follows, run-to, run-of, made-sound}
 use Rattle.demands.proofs.Capacities.{bounded}
@@ -45,9 +42,8 @@ use Rattle.demands.proofs.JudgedProof.{number-is, one-is, refused-recor
 use Rattle.demands.proofs.OldestLaws.{answered-now}
 use Rattle.demands.proofs.BoundsProof.{numbers-ascend, timely, readers-are-live, own-take-hold}
 use Rattle.sound.proofs.OrderLaws.{InOrder}
-use Rattle.demands.proofs.ByEvents.{orderly}
+use Rattle.demands.proofs.ByEvents.{orderly, sound}
 use Rattle.demands.proofs.SaidProof.{step-said}
-use Rattle.demands.proofs.ByEvents.{sound, sound-kept}
 use Rattle.demands.proofs.AnswersProof.{nothing-left, in-time, answersTo-cons}
 use Rattle.demands.proofs.BoundsRange.{range-demand}
 use Rattle.demands.proofs.BookProof.{book-demand}

@@ -6,6 +6,7 @@ use mathlib.Core.Path.{_≡_, refl, ap₂}
 use mathlib.Core.List.{List, _∷_, List·Memᴰ, List·Memᴰ·head, Memᴰ·append-right}
 use borrow.Author.Tests.{eqb-false}
 use lib.Dec.{eqb}
+use mathlib.Core.Option.{some}
 use Rattle.rules.specs.declared.LookUp.{LookUp}
 use Rattle.rules.specs.Lists.{filterb}
 use Rattle.rules.specs.State.{Model}
@@ -17,14 +18,13 @@ use Rattle.rules.specs.LookUp.{lookUpOf, givesNothing, answerFound, answerNothi
 use Rattle.rules.specs.Closing.{isOver, closeWaits}
 use Rattle.rules.specs.Refusals.{refusal}
 use Rattle.rules.specs.Step.{step, accepted}
-use Rattle.demands.specs.Answers.{AnsweredNow}
+use Rattle.rules.specs.declared.Entry.{Entry}
+use Rattle.rules.specs.declared.Txn.{Txn}
 use Rattle.rules.proofs.ListLaws.{any-none, any-find, filter-mem, find-some}
 use Rattle.rules.proofs.BoolLaws.{or-left, or-right}
 use Rattle.rules.proofs.TimeLaws.{until-later}
+use Rattle.demands.specs.Answers.{AnsweredNow}
 use Rattle.sound.proofs.OrderLaws.{InOrder, Numbered}
-use mathlib.Core.Option.{some}
-use Rattle.rules.specs.declared.Entry.{Entry}
-use Rattle.rules.specs.declared.Txn.{Txn}
 use Rattle.demands.specs.Said.{Oldest}
 use Rattle.sound.proofs.AscendingLaws.{find-lowest, lowest-found}
 use Rattle.sound.proofs.OwnPartLaws.{step-accepted, carried-lookUp}

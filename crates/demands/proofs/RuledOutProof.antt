@@ -19,22 +19,22 @@ use Rattle.rules.specs.Allowed.{Answered}
 use Rattle.rules.specs.SerialRun.{Logged, Kept, sameFields, isKept, failed, taking, carryOut, carryOutAll, perform}
 use Rattle.rules.specs.SerialRun.{listOf, thrownAway, lastTakes, advanced, follow, followAll, wasRefused, noteLookUp}
 use Rattle.rules.specs.SerialRun.{followLog, serialRun, left, committedIn, Serial}
+use Rattle.rules.specs.Sound.{Ascending}
+use Rattle.rules.proofs.ListLaws.{none-mem}
+use Rattle.rules.proofs.BoolLaws.{and-left, and-right}
 use Rattle.demands.specs.Machine.{Handed, Stepper, StepsBy, answeredBy, spaceOf}
 use Rattle.demands.specs.History.{History, begun, handed, Made}
 use Rattle.demands.specs.Book.{enters, entersAll, arrives, keepBook, bookOf}
 use Rattle.demands.specs.Told.{Told, readsNumber, whoTakes, whoReads, committedTold, privateTold, told}
-use Rattle.rules.specs.Sound.{Ascending}
 use Rattle.demands.specs.Demands.{Demand1, Demand2, Demand3}
-use Rattle.demands.specs.Frames.{E, write-by, read-by, take-by, readIfExists-by, create-by, commit-by, abort-by, a-tick}
+use Rattle.demands.specs.Frames.{E, write-by, read-by, take-by, readIfExists-by, create-by, commit-by, abort-by}
+use Rattle.demands.specs.Frames.{a-tick}
 use Rattle.demands.specs.RuledOut.{saysNothing, saysWaiting, refusesAll, sameRecord, storesNothing}
 use Rattle.demands.specs.RuledOut.{firstFrameOnly, oneMore, losesCommit, putsBackLate, ownReadBars, nothingFirst}
 use Rattle.demands.specs.RuledOut.{showsPrivate, ignoresWrites, writesTwice, ticksAtWrites, neverExpires}
-use Rattle.demands.specs.RuledOut.{lastExceptionFirst, lastServedFirst, servesEnded, newestFirst}
-use Rattle.demands.specs.RuledOut.{waitsInVain, givesUpFirst, byParty, nothingsByParty}
-use Rattle.demands.specs.RuledOut.{newestInService, takesLongCommits, gives14, keepsWithdrawn}
-use Rattle.demands.specs.RuledOut.{withdrawnGetsNothing, abortsAny, RuledOut}
-use Rattle.rules.proofs.ListLaws.{none-mem}
-use Rattle.rules.proofs.BoolLaws.{and-left, and-right}
+use Rattle.demands.specs.RuledOut.{lastExceptionFirst, lastServedFirst, servesEnded, newestFirst, waitsInVain}
+use Rattle.demands.specs.RuledOut.{givesUpFirst, byParty, nothingsByParty, newestInService, takesLongCommits}
+use Rattle.demands.specs.RuledOut.{gives14, keepsWithdrawn, withdrawnGetsNothing, abortsAny, RuledOut}
 use Rattle.sound.proofs.AllLaws.{all-none, all-cons, all-map}
 use Rattle.sound.proofs.OrderLaws.{Numbered}
 use Rattle.demands.proofs.SaidProof.{said-given}

@@ -23,18 +23,17 @@ use Rattle.rules.specs.Tick.{tick, endedTxns, abortAll, dropEnded, lapsed as la
 use Rattle.rules.specs.Closing.{isOver, closeWaits}
 use Rattle.rules.specs.Refusals.{refusal}
 use Rattle.rules.specs.Step.{step, Outcome, ownPart, finish, carriedOut, accepted, commitFrame, abortFrame}
+use Rattle.rules.proofs.ListLaws.{none-any, any-none}
+use Rattle.rules.proofs.BoolLaws.{cond-cases}
+use Rattle.rules.proofs.LayoutLaws.{lookUp-cases, write-serves, lookUp-serves, create-serves, commit-serves}
+use Rattle.rules.proofs.LayoutLaws.{abort-serves, tick-serves}
+use Rattle.rules.proofs.StepCases.{own-cases, serve-ind, serve-none, serve-some}
+use Rattle.rules.proofs.RefusalLaws.{clear, is-one}
 use Rattle.demands.specs.Said.{endNow, entriesLeft, inVain, Own, writes, finds, finds-none, waits, creates}
 use Rattle.demands.specs.Said.{commits, aborts, ticks, Serves, gone-through, is-found, waits-on, isServed}
 use Rattle.demands.specs.Said.{Service, follows, follows-not, exceptions, lapsed, nothings, Ends, in-order, Said}
 use Rattle.demands.specs.Said.{own-first}
-use Rattle.rules.proofs.ListLaws.{none-any, any-none}
-use Rattle.rules.proofs.BoolLaws.{cond-cases}
-use Rattle.rules.proofs.LayoutLaws.{lookUp-cases, write-serves, lookUp-serves, create-serves}
-use Rattle.rules.proofs.LayoutLaws.{commit-serves, abort-serves, tick-serves}
-use Rattle.rules.proofs.StepCases.{own-cases, serve-ind, serve-none, serve-some}
-use Rattle.rules.proofs.RefusalLaws.{clear, is-one}
-use Rattle.sound.proofs.OrderLaws.{Numbered, InOrder, numbered-filter, handed-numbered, freed-numbered}
-use Rattle.sound.proofs.OrderLaws.{stored-order}
+use Rattle.sound.proofs.OrderLaws.{Numbered, InOrder, numbered-filter, handed-numbered, freed-numbered, stored-order}
 use Rattle.demands.proofs.OldestLaws.{oldest-said, oldest-given}
 use Rattle.sound.proofs.OwnPartLaws.{step-accepted, part-at, part-lookUp}
 

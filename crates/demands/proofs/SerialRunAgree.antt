@@ -11,20 +11,19 @@ use lib.Dec.{eqb}
 use Rattle.rules.specs.declared.Entry.{Entry}
 use Rattle.rules.specs.declared.Fields.{Fields}
 use Rattle.rules.specs.declared.Txn.{Txn}
-use Rattle.rules.specs.Lists.{anyb}
+use Rattle.rules.specs.Lists.{anyb, All}
 use Rattle.rules.specs.Time.{reached}
 use Rattle.rules.specs.State.{Model}
 use Rattle.rules.specs.Template.{bit}
 use Rattle.rules.specs.SerialRun.{Kept, Operation, adds, finds, isKept, sameFields, keptOf}
+use Rattle.rules.specs.Sound.{Live}
 use Rattle.rules.proofs.BoolLaws.{cond-cases, and-left, and-right, or-cases}
 use Rattle.rules.proofs.ListLaws.{any-append, any-mem, mem-any, none-mem, all-false}
 use Rattle.demands.specs.Told.{takesNumber, readsNumber}
 use Rattle.sound.proofs.AllLaws.{all-snoc}
-use Rattle.rules.specs.Lists.{All}
 use Rattle.sound.proofs.HoldLaws.{eqb-cases}
 use Rattle.demands.proofs.SerialRunOps.{after, afterAll, CanOne, Can, mentionsIt, mentions, takesIt, kept-number}
 use Rattle.demands.proofs.SerialRunOps.{after-snoc, can-snoc}
-use Rattle.rules.specs.Sound.{Live}
 
 -- whether an operation that finds a number gives these fields
 abbrev pub fits : ℕ → Fields → Operation → Bool

@@ -11,7 +11,7 @@ use Rattle.rules.specs.declared.Entry.{Entry}
 use Rattle.rules.specs.declared.Txn.{Txn}
 use Rattle.rules.specs.declared.Until.{Until}
 use Rattle.rules.specs.declared.Until.the-variants.{Tick, Forever}
-use Rattle.rules.specs.Lists.{filterb, anyb}
+use Rattle.rules.specs.Lists.{filterb, anyb, All}
 use Rattle.rules.specs.Time.{reached}
 use Rattle.rules.specs.State.{Model, withClock}
 use Rattle.rules.specs.Template.{bit}
@@ -19,15 +19,14 @@ use Rattle.rules.specs.Holds.{liveTxn, dropReaderOf}
 use Rattle.rules.specs.Transactions.{noTxn, released, withoutTxn, commit, abort, privateTo, takenBy}
 use Rattle.rules.specs.Tick.{dropEnded}
 use Rattle.rules.specs.SerialRun.{Kept, Operation, keptOf}
+use Rattle.rules.specs.Sound.{Live, Consistent}
 use Rattle.rules.proofs.BoolLaws.{bool-cases}
 use Rattle.rules.proofs.ListLaws.{mem-filter, filter-mem}
 use Rattle.rules.proofs.ReaderLaws.{bit-of-zero}
 use Rattle.demands.specs.Told.{takesNumber}
 use Rattle.sound.proofs.AllLaws.{all-append, all-filter, all-map}
-use Rattle.rules.specs.Lists.{All}
 use Rattle.sound.proofs.HoldLaws.{eqb-cases, not-so, cleared-cases}
 use Rattle.sound.proofs.HolderLaws.{drop-other, stays-live}
-use Rattle.rules.specs.Sound.{Live, Consistent}
 use Rattle.demands.proofs.SerialRunOps.{afterAll, Can, mentions, takesIt, survives, after-split, can-keep}
 use Rattle.demands.proofs.SerialRunAgree.{Holds, Stored, Same, Ties, Agree, AgreeIn, takes-same, takes-mentions}
 use Rattle.demands.proofs.SerialRunAgree.{takes-number}

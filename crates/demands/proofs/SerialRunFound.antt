@@ -10,23 +10,22 @@ use lib.Dec.{eqb}
 use Rattle.rules.specs.declared.Entry.{Entry}
 use Rattle.rules.specs.declared.Txn.{Txn}
 use Rattle.rules.specs.declared.LookUp.{LookUp}
-use Rattle.rules.specs.Lists.{filterb, anyb}
+use Rattle.rules.specs.Lists.{filterb, anyb, All}
 use Rattle.rules.specs.State.{Model}
 use Rattle.rules.specs.Template.{bit}
 use Rattle.rules.specs.Holds.{available}
 use Rattle.rules.specs.LookUp.{removes, marked, handOut}
 use Rattle.rules.specs.SerialRun.{Kept, Operation, finds, isKept, keptOf}
+use Rattle.rules.specs.Sound.{Ok, Consistent}
 use Rattle.rules.proofs.BoolLaws.{and-left, and-right, bool-cases}
 use Rattle.rules.proofs.ListLaws.{filter-mem, mem-any}
 use Rattle.rules.proofs.ReaderLaws.{bit-of-zero}
 use Rattle.demands.specs.Told.{takesNumber, readsNumber}
 use Rattle.sound.proofs.AllLaws.{all-snoc, all-filter}
-use Rattle.rules.specs.Lists.{All}
-use Rattle.sound.proofs.HoldLaws.{equal-or, not-so, Free, available-free, heldBy, mark-cases, removes-why}
-use Rattle.sound.proofs.HoldLaws.{handed-all, others-stay, mark-stays}
+use Rattle.sound.proofs.HoldLaws.{equal-or, not-so, Free, available-free, heldBy, mark-cases, removes-why, handed-all}
+use Rattle.sound.proofs.HoldLaws.{others-stay, mark-stays}
 use Rattle.sound.proofs.HolderLaws.{add-own, add-other, drop-own, drop-other}
 use Rattle.sound.proofs.Consistent.{unique-entry}
-use Rattle.rules.specs.Sound.{Ok, Consistent}
 use Rattle.demands.proofs.SerialRunOps.{after, afterAll, afterFind, Can, CanOne, mentions, survives, after-split}
 use Rattle.demands.proofs.SerialRunOps.{can-keep, kept-number}
 use Rattle.demands.proofs.SerialRunAgree.{fits, Holds, Stored, Same, Ties, AgreeIn, fields-same, kept-is}

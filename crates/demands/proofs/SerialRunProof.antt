@@ -13,7 +13,7 @@ use Rattle.rules.specs.declared.Entry.{Entry}
 use Rattle.rules.specs.declared.Record.{Record}
 use Rattle.rules.specs.declared.Txn.{Txn}
 use Rattle.rules.specs.declared.LookUp.{LookUp}
-use Rattle.rules.specs.Lists.{filterb, anyb, distinct}
+use Rattle.rules.specs.Lists.{filterb, anyb, distinct, All}
 use Rattle.rules.specs.Time.{reached}
 use Rattle.rules.specs.State.{Model, empty, withClock}
 use Rattle.rules.specs.Frame.{Frame, isTake}
@@ -28,24 +28,21 @@ use Rattle.rules.specs.SerialRun.{Kept, Operation, adds, finds, Pending, Run, s
 use Rattle.rules.specs.SerialRun.{taking, carryOut, carryOutAll, perform, listOf, thrownAway, lastTakes, advanced}
 use Rattle.rules.specs.SerialRun.{follow, followAll, noteLookUp, followLog, serialRun, left, keptOf, committedIn}
 use Rattle.rules.specs.SerialRun.{numbersOf, Serial, writtenBy}
+use Rattle.rules.specs.Sound.{Ascending, ByNumber, Ok, Consistent}
 use Rattle.rules.proofs.BoolLaws.{cond-cases}
 use Rattle.rules.proofs.LayoutLaws.{lookUp-not-abort, commit-ends, abort-ends}
 use Rattle.rules.proofs.ListLaws.{filter-append, filter-filter, filter-same, mem-filter, filter-mem, any-mem}
 use Rattle.rules.proofs.ListLaws.{any-filter, all-false, count, count-append, count-cons, count-filter, count-map}
 use Rattle.rules.proofs.ListLaws.{count-mem}
 use Rattle.demands.specs.Machine.{Input}
-use Rattle.rules.specs.Sound.{Ascending, ByNumber}
 use Rattle.demands.proofs.Runs.{runs, made}
 use Rattle.sound.proofs.AllLaws.{all-none, all-snoc, all-filter, all-map, out-mem, out-all}
-use Rattle.rules.specs.Lists.{All}
 use Rattle.sound.proofs.AscendingLaws.{ascend-filter, ascending-distinct}
 use Rattle.sound.proofs.HoldLaws.{equal-or, eqb-cases, not-so}
-use Rattle.sound.proofs.Events.{Heard, Event, refuses, asks, writes, is-found, is-nothing, is-waiting, creates}
-use Rattle.sound.proofs.Events.{commits, aborts, ticks, excepts, expires}
+use Rattle.sound.proofs.Events.{Heard, Event, refuses, asks, writes, is-found, is-nothing, is-waiting, creates, commits}
+use Rattle.sound.proofs.Events.{aborts, ticks, excepts, expires}
 use Rattle.sound.proofs.Consistent.{live-above}
-use Rattle.rules.specs.Sound.{Ok, Consistent}
-use Rattle.demands.proofs.ByEvents.{Reader, hearsAll, reads-log, made-keep, consistent}
-use Rattle.demands.proofs.ByEvents.{lasting}
+use Rattle.demands.proofs.ByEvents.{Reader, hearsAll, reads-log, made-keep, consistent, lasting}
 use Rattle.demands.proofs.SerialRunOps.{after, afterAll, CanOne, Can, carryOut-can, carryOutAll-can, isNumber}
 use Rattle.demands.proofs.SerialRunOps.{total, addsIt, total-carryOut, total-carryOutAll}
 use Rattle.demands.proofs.SerialRunAgree.{Agree, AgreeIn, put, Performs, agree-now, agree-put}

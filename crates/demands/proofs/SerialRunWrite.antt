@@ -9,24 +9,23 @@ use native.Mathlib.Omega.{arith}
 use borrow.Author.Tests.{ne-eqb}
 use Rattle.rules.specs.declared.Entry.{Entry}
 use Rattle.rules.specs.declared.Txn.{Txn}
-use Rattle.rules.specs.Lists.{anyb}
+use Rattle.rules.specs.Lists.{anyb, All}
 use Rattle.rules.specs.Time.{reached}
 use Rattle.rules.specs.State.{Model}
 use Rattle.rules.specs.Frame.{Frame, isCreate}
 use Rattle.rules.specs.Write.{newEntry, stored}
 use Rattle.rules.specs.Transactions.{create}
 use Rattle.rules.specs.SerialRun.{Kept, Operation, adds, keptOf}
+use Rattle.rules.specs.Sound.{Live, Consistent}
 use Rattle.rules.proofs.ListLaws.{all-false}
 use Rattle.rules.proofs.TimeLaws.{until-now}
 use Rattle.rules.proofs.ReaderLaws.{bit-of-zero}
 use Rattle.demands.specs.Told.{takesNumber}
 use Rattle.sound.proofs.AllLaws.{all-none, all-snoc, all-gone}
-use Rattle.rules.specs.Lists.{All}
 use Rattle.sound.proofs.HoldLaws.{eqb-cases, not-so}
 use Rattle.sound.proofs.Events.{Admitted}
 use Rattle.sound.proofs.Becomes.{newTxn}
 use Rattle.sound.proofs.Consistent.{ok-below, slot-free}
-use Rattle.rules.specs.Sound.{Live, Consistent}
 use Rattle.demands.proofs.SerialRunOps.{after, afterAll, Can, mentionsIt, mentions, can-keep}
 use Rattle.demands.proofs.SerialRunAgree.{fits, Stored, Same, Ties, AgreeIn, takes-mentions, fits-unfound}
 use Rattle.demands.proofs.SerialRunAgree.{ties-more, Performs}

@@ -2,7 +2,7 @@
 use Prim.Native.Nat.{ℕ}
 use mathlib.Core.Bool.{false, cond, _&&_, and-false}
 use mathlib.Core.Logic.{⊎-elim}
-use mathlib.Core.Path.{_≡_, refl, sym, ap, _∙_, subst, subst⁻¹}
+use mathlib.Core.Path.{_≡_, refl, sym, ap, _∙_, subst⁻¹}
 use mathlib.Core.List.{List, [], _∷_}
 use native.Mathlib.Omega.{arith}
 use borrow.Author.Tests.{eqb-true, lt-leb}
@@ -16,12 +16,13 @@ use Rattle.rules.specs.Sound.{Sound}
 use Rattle.rules.specs.Step.{Outcome, step, carriedOut, accepted, refusedWith}
 use Rattle.rules.specs.Allowed.{Answered}
 use Rattle.rules.specs.SerialRun.{Logged}
-use Rattle.demands.specs.Machine.{Handed, Stepper, StepsBy, answeredBy, spaceOf, theRules}
-use Rattle.demands.specs.History.{History, begun, handed, Made}
-use Rattle.demands.specs.Tidied.{waitsRefused, mustWait, waitsFull, refusalBefore, stepBefore, theRulesBefore, Tidied}
 use Rattle.rules.proofs.BoolLaws.{bool-cases}
 use Rattle.rules.proofs.RefusalLaws.{first-append, clear}
 use Rattle.rules.proofs.SoundLaws.{room-left}
+use Rattle.demands.specs.Machine.{Handed, Stepper, StepsBy, answeredBy, spaceOf, theRules}
+use Rattle.demands.specs.History.{History, begun, handed, Made}
+use Rattle.demands.specs.Tidied.{waitsRefused, mustWait, waitsFull, refusalBefore, stepBefore, theRulesBefore}
+use Rattle.demands.specs.Tidied.{Tidied}
 use Rattle.sound.proofs.SoundProof.{sound-empty, sound-step}
 use Rattle.demands.proofs.JudgedProof.{refusal-fits, number-is}
 

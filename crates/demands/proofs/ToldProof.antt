@@ -11,12 +11,13 @@ use borrow.Author.Tests.{eqb-true, eqb-false, eq-eqb, ne-eqb, not-true}
 use lib.Dec.{eqb}
 use Rattle.rules.specs.declared.Entry.{Entry}
 use Rattle.rules.specs.declared.Txn.{Txn}
-use Rattle.rules.specs.Lists.{filterb, anyb, joined}
+use Rattle.rules.specs.Lists.{filterb, anyb, joined, All}
 use Rattle.rules.specs.Time.{reached}
 use Rattle.rules.specs.State.{Model, empty}
 use Rattle.rules.specs.Template.{bit}
 use Rattle.rules.specs.SerialRun.{Kept, Operation, adds, finds, Pending, Run, isKept, taking, carryOut, carryOutAll}
 use Rattle.rules.specs.SerialRun.{serialRun, keptOf}
+use Rattle.rules.specs.Sound.{Live, Consistent}
 use Rattle.rules.proofs.BoolLaws.{cond-cases, and-right}
 use Rattle.rules.proofs.ListLaws.{mem-filter, filter-mem, any-mem, mem-any, none-mem, all-false, count, count-cons}
 use Rattle.rules.proofs.ListLaws.{count-mem, count-map, count-filter}
@@ -26,13 +27,10 @@ use Rattle.demands.specs.Told.{Told, takesNumber, readsNumber, whoTakes,
 use Rattle.demands.specs.Told.{told, AsTold, Explained}
 use Rattle.demands.proofs.Runs.{runs, made}
 use Rattle.sound.proofs.AllLaws.{all-none, all-cons, all-append, all-filter, all-map}
-use Rattle.rules.specs.Lists.{All}
 use Rattle.sound.proofs.AscendingLaws.{ascending-distinct}
 use Rattle.sound.proofs.HoldLaws.{not-so, eqb-cases}
 use Rattle.sound.proofs.Consistent.{live-above}
-use Rattle.rules.specs.Sound.{Live, Consistent}
-use Rattle.demands.proofs.ByEvents.{consistent}
-use Rattle.demands.proofs.ByEvents.{lasting}
+use Rattle.demands.proofs.ByEvents.{consistent, lasting}
 use Rattle.demands.proofs.SerialRunOps.{after, afterAll, CanOne, Can, carryOut-can, carryOutAll-can, takesIt}
 use Rattle.demands.proofs.SerialRunOps.{after-split, survives, mentionsIt, isNumber, addsIt, total-carryOutAll}
 use Rattle.demands.proofs.SerialRunAgree.{Holds, Same, takes-number}

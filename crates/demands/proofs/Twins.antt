@@ -15,7 +15,7 @@ use Rattle.rules.specs.declared.Record.{Record}
 use Rattle.rules.specs.declared.Txn.{Txn}
 use Rattle.rules.specs.declared.TxnId.{TxnId}
 use Rattle.rules.specs.declared.LookUp.{LookUp}
-use Rattle.rules.specs.Lists.{filterb, anyb}
+use Rattle.rules.specs.Lists.{filterb, anyb, All}
 use Rattle.rules.specs.Time.{until, reached}
 use Rattle.rules.specs.Template.{bit}
 use Rattle.rules.specs.State.{Model, withEntries, withTxns, withWaits, withClock, withNextEntry, withNextTxn}
@@ -29,18 +29,17 @@ use Rattle.rules.specs.LookUp.{lookUpOf, removes, withHold, marked, isEntry, ha
 use Rattle.rules.specs.Transactions.{create, noTxn, released, withoutTxn, commit, abort, privateTo, takenBy}
 use Rattle.rules.specs.Tick.{abortAll}
 use Rattle.rules.specs.SerialRun.{Kept, keptOf}
-use Rattle.demands.specs.Book.{LiveTold}
-use Rattle.demands.specs.Said.{endNow, entriesLeft, inVain, Own, writes, finds, finds-none, waits, creates}
-use Rattle.demands.specs.Said.{commits, aborts, ticks, Serves, gone-through, is-found, waits-on}
-use Rattle.demands.specs.Said.{Service, follows, follows-not, exceptions, lapsed, givenNothing, nothings, Ends}
-use Rattle.demands.specs.Said.{in-order, Said, own-first, Oldest}
+use Rattle.rules.specs.Sound.{At, TxnsOk}
 use Rattle.rules.proofs.ListLaws.{mem-filter, filter-mem, any-mem, mem-any, filter-same}
 use Rattle.rules.proofs.ReaderLaws.{bit-of-zero, no-bits}
+use Rattle.demands.specs.Book.{LiveTold}
+use Rattle.demands.specs.Said.{endNow, entriesLeft, inVain, Own, writes, finds, finds-none, waits, creates}
+use Rattle.demands.specs.Said.{commits, aborts, ticks, Serves, gone-through, is-found, waits-on, Service, follows}
+use Rattle.demands.specs.Said.{follows-not, exceptions, lapsed, givenNothing, nothings, Ends, in-order, Said}
+use Rattle.demands.specs.Said.{own-first, Oldest}
 use Rattle.sound.proofs.AllLaws.{all-filter, all-map, all-snoc}
-use Rattle.rules.specs.Lists.{All}
 use Rattle.sound.proofs.HoldLaws.{equal-or, not-so}
 use Rattle.sound.proofs.Consistent.{slot-free, txns-filter, txns-snoc}
-use Rattle.rules.specs.Sound.{At, TxnsOk}
 use Rattle.sound.proofs.Becomes.{newTxn}
 use Rattle.sound.proofs.HolderLaws.{add-live, drop-live, add-own, drop-own, add-other, drop-other, freed-at}
 

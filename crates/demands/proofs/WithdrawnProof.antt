@@ -13,20 +13,19 @@ use Rattle.rules.specs.Numbers.{opAbort, waitingRefused}
 use Rattle.rules.specs.State.{Model}
 use Rattle.rules.specs.Frame.{Frame, layoutOf, decode, isAbort}
 use Rattle.rules.specs.Holds.{liveTxn}
-use Rattle.rules.specs.Refusals.{withdraws, partyWaits, notLive, notOwn, noLease, tooLate, entriesFull, txnsFull, noNumber}
-use Rattle.rules.specs.Refusals.{refusal}
+use Rattle.rules.specs.Refusals.{withdraws, partyWaits, notLive, notOwn, noLease, tooLate, entriesFull, txnsFull}
+use Rattle.rules.specs.Refusals.{noNumber, refusal}
 use Rattle.rules.specs.Step.{carriedOut, accepted, refusedWith, step}
+use Rattle.rules.specs.Sound.{LiveOf, TxnsOk, Consistent}
+use Rattle.rules.proofs.ListLaws.{mem-any, all-false, none-mem, any-find, find-some}
+use Rattle.rules.proofs.BoolLaws.{bool-cases, and-left, and-right}
+use Rattle.rules.proofs.RefusalLaws.{first-append, first-without}
 use Rattle.sound.proofs.EachLaws.{same-party}
-use Rattle.rules.specs.Sound.{LiveOf}
-use Rattle.rules.specs.Sound.{TxnsOk, Consistent}
 use Rattle.demands.proofs.ByEvents.{consistent}
 use Rattle.demands.proofs.ByRule.{rules-follow, run-of}
 use Rattle.demands.specs.Machine.{theRules}
 use Rattle.demands.specs.History.{inputsOf}
 use Rattle.demands.specs.Withdrawn.{waitedBefore, aheadOf6, behind6, refusalBefore, stepBefore, Withdrawn}
-use Rattle.rules.proofs.ListLaws.{mem-any, all-false, none-mem, any-find, find-some}
-use Rattle.rules.proofs.BoolLaws.{bool-cases, and-left, and-right}
-use Rattle.rules.proofs.RefusalLaws.{first-append, first-without}
 
 -- an abort of a live transaction of the party is let pass by the rows behind 6
 none-for : (m : Model) (f : Frame) → f .op ≡ opAbort → eqb (f .txn) 0 ≡ false → {n : ℕ} → TxnsOk n (m .txns)

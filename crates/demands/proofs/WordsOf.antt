@@ -14,14 +14,13 @@ use Rattle.rules.specs.declared.LookUp.{LookUp}
 use Rattle.rules.specs.declared.Until.{Until}
 use Rattle.rules.specs.declared.Until.the-variants.{Tick, Forever}
 use Rattle.rules.specs.Numbers.{forever, maxEntries, maxTxns, maxWaits}
-use Rattle.rules.specs.Lists.{joined}
+use Rattle.rules.specs.Lists.{joined, All}
 use Rattle.rules.specs.State.{Model, Bounded}
 use Rattle.rules.specs.Frame.{lookUpOp, isTake, isIfExists}
 use Rattle.rules.specs.Words.{upTo, row, table, untilOf, untilWord, entryOf, txnOf, waitOf, entries, txns, waits, view}
 use Rattle.rules.specs.Words.{entryWords, txnWords, waitWords, entriesAt, entryWidth, txnsAt, txnWidth, waitsAt}
 use Rattle.rules.specs.Words.{waitWidth}
 use Rattle.rules.specs.Time.{EndFits}
-use Rattle.rules.specs.Lists.{All}
 
 -- ---- a table of words, with zeros behind its rows
 

@@ -1,21 +1,20 @@
 -- What a look-up is answered: at once, after each step, and by its deadline. (`Consequences` says it of any space that
 -- meets the demands.)
 use Prim.Native.Nat.{ℕ}
-use mathlib.Core.Bool.{Bool, true, false, cond, _&&_, _||_}
+use mathlib.Core.Bool.{Bool, true, false, _&&_, _||_}
 use mathlib.Core.Path.{_≡_}
 use mathlib.Core.Logic.{_⊎_}
-use mathlib.Core.List.{List, [], _∷_, _++_, map, List·Memᴰ}
+use mathlib.Core.List.{List, _∷_, map, List·Memᴰ}
 use lib.Dec.{eqb}
 use Rattle.rules.specs.declared.Entry.{Entry}
 use Rattle.rules.specs.declared.LookUp.{LookUp}
 use Rattle.rules.specs.declared.Record.{Record}
-use Rattle.rules.specs.Numbers.{kindFound, kindNothing, kindAborted, kindException, kindTicked}
+use Rattle.rules.specs.Numbers.{kindFound, kindNothing, kindAborted, kindException}
 use Rattle.rules.specs.Time.{reached}
-use Rattle.rules.specs.State.{Model, withWaits}
+use Rattle.rules.specs.State.{Model}
 use Rattle.rules.specs.Holds.{someAvailable, someConflicts}
-use Rattle.rules.specs.Frame.{Frame, isLookUp}
 use Rattle.rules.specs.Records.{found, nothing, waiting}
-use Rattle.rules.specs.LookUp.{lookUpOf, givesNothing}
+use Rattle.rules.specs.LookUp.{givesNothing}
 use Rattle.demands.specs.Said.{Oldest}
 
 -- a step's first record, and the nothings of those who wait in vain from now on

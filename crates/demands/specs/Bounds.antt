@@ -4,7 +4,7 @@ use Prim.Native.Nat.{ℕ, _≤_, _<_}
 use mathlib.Core.Bool.{true, false}
 use mathlib.Core.Path.{_≡_}
 use mathlib.Core.Logic.{_↔_}
-use mathlib.Core.List.{List, [], _∷_, map, List·Memᴰ}
+use mathlib.Core.List.{List, List·Memᴰ}
 use Rattle.rules.specs.declared.Entry.{Entry}
 use Rattle.rules.specs.declared.LookUp.{LookUp}
 use Rattle.rules.specs.declared.Record.{Record}

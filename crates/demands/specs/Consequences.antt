@@ -8,15 +8,14 @@ use lib.ListN.{length}
 use Rattle.rules.specs.Numbers.{forever, stepRecords}
 use Rattle.rules.specs.Lists.{filterb, anyb}
 use Rattle.rules.specs.Frame.{isLookUp}
-use Rattle.rules.specs.LookUp.{lookUpOf}
+use Rattle.rules.specs.LookUp.{lookUpOf, asked}
 use Rattle.rules.specs.Sound.{OneEach}
 use Rattle.rules.specs.SerialRun.{Logged}
+use Rattle.rules.specs.Records.{isTicked}
 use Rattle.demands.specs.Machine.{frameIn, Machine}
 use Rattle.demands.specs.History.{recordsOf, History, EveryState, EveryStep}
 use Rattle.demands.specs.Judged.{CarriedOut}
 use Rattle.demands.specs.Answers.{AnsweredNow, NothingLeft, Settled, closes}
-use Rattle.rules.specs.LookUp.{asked}
-use Rattle.rules.specs.Records.{isTicked}
 use Rattle.demands.specs.Demands.{Demand1, Demand2}
 
 pub record Consequences (S : Machine) : Type 0 where

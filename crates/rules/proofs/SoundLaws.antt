@@ -3,41 +3,40 @@
 use Prim.Native.Nat.{ℕ, zero, suc, _+_, _≤_, _<_}
 use mathlib.Core.Bool.{Bool, true, false, true≢false, cond, not, _&&_, _||_, and-false}
 use mathlib.Core.Logic.{_⊎_, ⊎-elim}
-use mathlib.Core.Path.{_≡_, sym, ap, ap₂, _∙_, subst, subst⁻¹}
+use mathlib.Core.Path.{_≡_, sym, ap, ap₂, _∙_, subst⁻¹}
 use mathlib.Core.Option.{Option, none, some}
-use mathlib.Core.List.{List, [], _∷_, _++_, map, List·Memᴰ, List·Memᴰ·head, List·Memᴰ·tail, List·Memᴰ·not-nil}
-use mathlib.Core.List.{List·Memᴰ·cases-cons, List·Memᴰ·append-cases, List·Memᴰ·eq-of-singleton}
+use mathlib.Core.List.{List, [], _∷_, _++_, map, List·Memᴰ, List·Memᴰ·head, List·Memᴰ·tail, List·Memᴰ·cases-cons}
+use mathlib.Core.List.{List·Memᴰ·append-cases, List·Memᴰ·eq-of-singleton}
 use native.Mathlib.Omega.{arith}
-use borrow.Author.Tests.{eqb-true, eqb-false, ne-eqb, leb-false, le-leb, lt-leb, ltb-false, not-true}
+use borrow.Author.Tests.{eqb-true, eqb-false, ne-eqb, leb-false, le-leb, lt-leb, ltb-false}
 use lib.Dec.{eqb, leb, ltb}
 use lib.ListN.{length, length-append}
 use Rattle.rules.specs.declared.Entry.{Entry}
 use Rattle.rules.specs.declared.LookUp.{LookUp}
 use Rattle.rules.specs.declared.Txn.{Txn}
-use Rattle.rules.specs.Lists.{All, filterb, anyb}
+use Rattle.rules.specs.Lists.{All, anyb}
 use Rattle.rules.specs.Numbers.{maxParty, maxWaits}
 use Rattle.rules.specs.Time.{reached}
-use Rattle.rules.specs.State.{Model, empty, withWaits}
+use Rattle.rules.specs.State.{Model, withWaits}
 use Rattle.rules.specs.Sound.{IsParty, ofParty, OneEach, Ahead, Hopeful, Sound}
-use Rattle.rules.specs.Frame.{Frame, decode, isOperation, isLookUp, isTick, serves}
+use Rattle.rules.specs.Frame.{Frame, isOperation, isLookUp, isTick}
 use Rattle.rules.specs.Records.{nothing}
-use Rattle.rules.specs.Done.{Carried, Done, quiet}
+use Rattle.rules.specs.Done.{Carried, quiet}
 use Rattle.rules.specs.LookUp.{lookUpOf, givesNothing, answer, answerFound, answerNothing, answerWaiting, lookUp}
 use Rattle.rules.specs.Holds.{oldest, someConflicts}
 use Rattle.rules.specs.Write.{stored, write}
 use Rattle.rules.specs.Transactions.{create, commit, abort}
 use Rattle.rules.specs.Service.{serve, service}
-use Rattle.rules.specs.Tick.{tick, endedTxns, abortAll, dropEnded, lapsed}
 use Rattle.rules.specs.Closing.{isOver, closeWaits}
 use Rattle.rules.specs.Refusals.{wrongParty, partyWaits}
-use Rattle.rules.specs.Step.{Outcome, commitFrame, abortFrame, ownPart, finish, carriedOut, step, accepted, refusedWith}
+use Rattle.rules.specs.Step.{commitFrame, abortFrame, ownPart}
 use Rattle.rules.proofs.ListLaws.{mem-filter, none-mem, any-filter, all-false, filter-pass, count, count-append}
-use Rattle.rules.proofs.ListLaws.{count-cons, count-filter}
+use Rattle.rules.proofs.ListLaws.{count-cons}
 use Rattle.rules.proofs.BoolLaws.{bool-cases, cond-cases, or-left, or-right}
 use Rattle.rules.proofs.TimeLaws.{until-later}
 use Rattle.rules.proofs.LayoutLaws.{lookUp-not-tick, lookUp-not-abort}
-use Rattle.rules.proofs.StepCases.{step-cases, own-cases, serve-ind}
-use Rattle.rules.proofs.RefusalLaws.{Clear, clear, is-one, none-waits}
+use Rattle.rules.proofs.StepCases.{own-cases, serve-ind}
+use Rattle.rules.proofs.RefusalLaws.{none-waits}
 
 -- what is kept in the midst of a step too: who waits
 record Named (m : Model) : Type 0 where

@@ -4,17 +4,16 @@ use mathlib.Core.Bool.{Bool, true, false, cond, true≢false}
 use mathlib.Core.Logic.{_⊎_, inl, inr}
 use mathlib.Core.Option.{some}
 use mathlib.Core.Path.{_≡_, refl, sym, ap, _∙_, subst⁻¹}
-use mathlib.Core.List.{List, [], _∷_, _++_, map, List·Memᴰ, List·Memᴰ·head, List·Memᴰ·tail, Memᴰ·map}
-use mathlib.Core.List.{List·Memᴰ·not-nil, List·Memᴰ·cases-cons}
+use mathlib.Core.List.{List, [], _∷_, _++_, map, List·Memᴰ, List·Memᴰ·head, List·Memᴰ·tail, Memᴰ·map, List·Memᴰ·not-nil}
+use mathlib.Core.List.{List·Memᴰ·cases-cons}
 use native.Mathlib.Omega.{arith}
 use borrow.Author.Tests.{ne-eqb}
 use lib.Dec.{eqb}
-use Rattle.rules.specs.Lists.{filterb, findb, distinct}
+use Rattle.rules.specs.Lists.{filterb, findb, distinct, All}
+use Rattle.rules.specs.Sound.{Ascending}
 use Rattle.rules.proofs.BoolLaws.{cond-cases}
 use Rattle.rules.proofs.ListLaws.{all-false, any-find, mem-any, find-some}
-use Rattle.rules.specs.Sound.{Ascending}
 use Rattle.sound.proofs.AllLaws.{all-none, all-snoc, all-filter, all-map}
-use Rattle.rules.specs.Lists.{All}
 
 module _ {A : Type 0} (number : A → ℕ) where
   pub ascend-filter : (p : A → Bool) (xs : List A) → Ascending (map number xs) → Ascending (map number (filterb p xs))

@@ -9,23 +9,21 @@ use lib.Dec.{eqb}
 use Rattle.rules.specs.declared.Entry.{Entry}
 use Rattle.rules.specs.declared.Txn.{Txn}
 use Rattle.rules.specs.declared.LookUp.{LookUp}
-use Rattle.rules.specs.Lists.{filterb}
+use Rattle.rules.specs.Lists.{filterb, All}
 use Rattle.rules.specs.Time.{until, reached}
 use Rattle.rules.specs.State.{Model}
 use Rattle.rules.specs.Holds.{available}
 use Rattle.rules.specs.Frame.{Frame, isWrite, isLookUp, isCreate, isCommit, isTick}
 use Rattle.rules.specs.Records.{written, found, nothing, waiting, created, committed, aborted, exception, ticked}
-use Rattle.rules.specs.Records.{refused}
+use Rattle.rules.specs.Records.{refused, isTicked}
 use Rattle.rules.specs.Write.{newEntry, stored}
 use Rattle.rules.specs.LookUp.{lookUpOf}
 use Rattle.rules.specs.Transactions.{freeSlot, create, privateTo, takenBy, released, withoutTxn, commit, abort}
 use Rattle.rules.specs.Tick.{dropEnded}
 use Rattle.rules.specs.SerialRun.{Kept, keptOf}
-use Rattle.rules.proofs.ListLaws.{count}
-use Rattle.rules.specs.Records.{isTicked}
 use Rattle.rules.specs.Sound.{ByNumber}
+use Rattle.rules.proofs.ListLaws.{count}
 use Rattle.sound.proofs.AllLaws.{all-snoc, all-filter, all-map, out-all, out-mem}
-use Rattle.rules.specs.Lists.{All}
 use Rattle.sound.proofs.AscendingLaws.{ascend-unique}
 use Rattle.sound.proofs.HoldLaws.{eqb-cases, heldBy, handed-all}
 use Rattle.sound.proofs.Events.{Admitted, Heard, says, Event, refuses, asks, writes, is-found, is-nothing}

@@ -5,7 +5,7 @@ use mathlib.Core.Bool.{Bool, true, false, cond, not, _&&_, _||_, and-false, or-t
 use mathlib.Core.Logic.{inl, inr, ⊎-elim}
 use mathlib.Core.Path.{_≡_, refl, sym, ap, ap₂, _∙_}
 use mathlib.Core.Option.{Option, none, some}
-use mathlib.Core.List.{List, [], _∷_, _++_, List·Memᴰ, List·Memᴰ·head, List·Memᴰ·tail}
+use mathlib.Core.List.{List, [], _∷_, List·Memᴰ, List·Memᴰ·head, List·Memᴰ·tail}
 use native.Mathlib.Omega.{arith}
 use borrow.Author.Tests.{eqb-true, eqb-false, ne-eqb, not-true, not-false}
 use lib.Dec.{eqb}
@@ -16,26 +16,25 @@ use Rattle.rules.specs.Lists.{All, anyb}
 use Rattle.rules.specs.State.{Model}
 use Rattle.rules.specs.Template.{matches}
 use Rattle.rules.specs.Holds.{liveTxn, addReaderOf, dropReaderOf, readByOther, isOther, available, availableIf}
-use Rattle.rules.specs.Holds.{othersIf, conflicts, someConflicts}
-use Rattle.rules.specs.LookUp.{removes, marked, handOut}
-use Rattle.rules.specs.Sound.{TxnsOk}
-use Rattle.rules.proofs.BoolLaws.{option-cases, bool-cases, cond-cases, and-left, and-right, and-false-right, or-cases, or-left, or-right}
+use Rattle.rules.specs.Holds.{othersIf, conflicts, someConflicts, oldest}
+use Rattle.rules.specs.LookUp.{removes, marked, handOut, lookUpOf, answer, answerFound, answerNothing, answerWaiting}
+use Rattle.rules.specs.LookUp.{givesNothing, lookUp}
+use Rattle.rules.specs.Sound.{TxnsOk, Ahead, Hopeful, Sound}
 use Rattle.rules.specs.Frame.{Frame, isOperation, isTake, isTick, endsTxn, serves}
 use Rattle.rules.specs.Done.{Carried, quiet}
 use Rattle.rules.specs.Write.{newEntry, stored, write}
-use Rattle.rules.specs.LookUp.{lookUpOf, answer, answerFound, answerNothing, answerWaiting, givesNothing, lookUp}
-use Rattle.rules.specs.Holds.{oldest}
 use Rattle.rules.specs.Transactions.{create}
 use Rattle.rules.specs.Service.{serve, service}
 use Rattle.rules.specs.Closing.{closeWaits, endsConflicts}
 use Rattle.rules.specs.Step.{ownPart}
-use Rattle.rules.specs.Sound.{Ahead, Hopeful, Sound}
+use Rattle.rules.proofs.BoolLaws.{option-cases, bool-cases, cond-cases, and-left, and-right, and-false-right, or-cases}
+use Rattle.rules.proofs.BoolLaws.{or-left, or-right}
 use Rattle.rules.proofs.ListLaws.{any-mem, mem-any, any-append, any-same, find-some, none-mem}
 use Rattle.rules.proofs.StepCases.{own-cases, serve-ind}
 use Rattle.rules.proofs.LayoutLaws.{lookUp-serves, create-serves, write-serves, commit-ends, abort-ends}
 use Rattle.rules.proofs.SoundLaws.{served-among, own-ahead, service-ahead, all-hopeful}
-use Rattle.sound.proofs.HoldLaws.{equal-or, not-so, available-free, heldBy, removes-why, mark-cases}
-use Rattle.sound.proofs.HoldLaws.{eqb-cases, others-stay, mark-stays, handed-all}
+use Rattle.sound.proofs.HoldLaws.{equal-or, not-so, available-free, heldBy, removes-why, mark-cases, eqb-cases}
+use Rattle.sound.proofs.HoldLaws.{others-stay, mark-stays, handed-all}
 use Rattle.sound.proofs.AllLaws.{all-snoc}
 use Rattle.sound.proofs.AscendingLaws.{ascend-unique}
 use Rattle.sound.proofs.OrderLaws.{Numbered, handed-numbered, stored-order}

@@ -13,21 +13,17 @@ use lib.ListN.{length}
 use Rattle.rules.specs.declared.Entry.{Entry}
 use Rattle.rules.specs.declared.Txn.{Txn}
 use Rattle.rules.specs.Numbers.{maxTxns}
-use Rattle.rules.specs.Lists.{filterb, anyb, findb, distinct}
+use Rattle.rules.specs.Lists.{filterb, anyb, findb, distinct, All}
 use Rattle.rules.specs.State.{Model}
-use Rattle.rules.specs.Template.{bit}
 use Rattle.rules.specs.Frame.{Frame, isAbort}
-use Rattle.rules.specs.Sound.{OneEach, TxnsOk, Consistent, Live, Ok}
+use Rattle.rules.specs.Sound.{TxnsOk, Consistent, Live, Ok, LiveOf}
 use Rattle.rules.specs.Transactions.{orZero, freeSlot}
 use Rattle.rules.proofs.ListLaws.{count-mem, length-split, mem-filter, filter-mem, any-mem, mem-any, none-mem}
 use Rattle.rules.proofs.ListLaws.{find-some, find-none}
 use Rattle.rules.proofs.BoolLaws.{and-left, and-right, option-cases}
-use Rattle.rules.specs.Sound.{ByNumber}
 use Rattle.sound.proofs.AllLaws.{all-snoc}
-use Rattle.rules.specs.Lists.{All}
 use Rattle.sound.proofs.AscendingLaws.{ascend-unique}
 use Rattle.sound.proofs.Events.{Admitted}
-use Rattle.rules.specs.Sound.{LiveOf}
 
 -- two entries with one number are one
 pub unique-entry : {m : Model} → Consistent m → {a b : Entry} → List·Memᴰ a (m .entries) → List·Memᴰ b (m .entries)

@@ -1,43 +1,36 @@
 -- Each event keeps a space consistent; and what each event keeps, of a consistent space and of what a reader of frames and
 -- records makes of them, holds of every space that frames make of the empty one.
-use Prim.Native.Nat.{ℕ, _+_, _<_}
-use mathlib.Core.Bool.{Bool, true, false, cond, not, _&&_, true≢false}
+use Prim.Native.Nat.{ℕ, _<_}
+use mathlib.Core.Bool.{Bool, true, false, cond, not, true≢false}
 use mathlib.Core.Logic.{_⊎_, inl, inr, ⊎-elim}
-use mathlib.Core.Path.{_≡_, refl, sym, ap, _∙_, subst⁻¹}
+use mathlib.Core.Path.{_≡_, refl, sym, ap, _∙_}
 use mathlib.Core.Option.{none}
-use mathlib.Core.List.{List, [], _∷_, _++_, map, List·Memᴰ·not-nil, Memᴰ·append-left}
+use mathlib.Core.List.{List, map, List·Memᴰ·not-nil, Memᴰ·append-left}
 use native.Mathlib.Omega.{arith}
 use lib.Dec.{eqb}
 use Rattle.rules.specs.declared.Entry.{Entry}
-use Rattle.rules.specs.declared.Record.{Record}
 use Rattle.rules.specs.declared.Txn.{Txn}
 use Rattle.rules.specs.declared.TxnId.{TxnId}
 use Rattle.rules.specs.declared.LookUp.{LookUp}
 use Rattle.rules.specs.State.{Model, empty}
 use Rattle.rules.specs.Holds.{liveTxn, dropReaderOf}
-use Rattle.rules.specs.Frame.{Frame, decode, isLookUp}
+use Rattle.rules.specs.Frame.{Frame}
 use Rattle.rules.specs.Write.{newEntry, stored}
 use Rattle.rules.specs.LookUp.{lookUpOf}
 use Rattle.rules.specs.Transactions.{noTxn, create, released, withoutTxn, commit, abort}
 use Rattle.rules.specs.Tick.{dropEnded}
-use Rattle.rules.specs.Step.{step}
-use Rattle.rules.specs.SerialRun.{Logged, wasRefused}
+use Rattle.rules.specs.Sound.{Ascending, IsParty, LiveOf, Ok, EntryOk, TxnsOk, Consistent}
 use Rattle.rules.proofs.LayoutLaws.{lookUp-not-abort, commit-not-abort, commit-ends, lookUp-not-tick}
 use Rattle.rules.proofs.ReaderLaws.{bit-of-zero}
-use Rattle.rules.specs.Sound.{Ascending, IsParty}
+use Rattle.rules.proofs.SoundLaws.{each-snoc}
 use Rattle.sound.proofs.AllLaws.{all-none}
 use Rattle.sound.proofs.AscendingLaws.{ascend-filter, ascend-snoc}
-use Rattle.rules.proofs.SoundLaws.{each-snoc}
 use Rattle.sound.proofs.EachLaws.{Each, filtered, each-out}
 use Rattle.sound.proofs.HoldLaws.{cleared-cases, available-free}
 use Rattle.sound.proofs.OrderLaws.{InOrder, numbered-filter, handed-numbered, freed-numbered, stored-order}
-use Rattle.sound.proofs.Events.{Heard, asking, saying, heard, Event, refuses, asks, writes, is-found}
-use Rattle.rules.specs.Sound.{LiveOf}
-use Rattle.sound.proofs.Events.{is-nothing, is-waiting, creates, commits, aborts, ticks, excepts, expires}
-use Rattle.sound.proofs.Events.{Events, over, then}
-use Rattle.sound.proofs.EventsProof.{step-events}
+use Rattle.sound.proofs.Events.{Heard, Event, refuses, asks, writes, is-found, is-nothing, is-waiting, creates}
+use Rattle.sound.proofs.Events.{commits, aborts, ticks, excepts, expires, Events, over, then}
 use Rattle.sound.proofs.Consistent.{not-inside, slot-free, txns-filter, txns-snoc}
-use Rattle.rules.specs.Sound.{Ok, EntryOk, TxnsOk, Consistent}
 use Rattle.sound.proofs.HolderLaws.{lives-on, stays-live, add-live, drop-live, drop-none, freed-at}
 use Rattle.sound.proofs.Becomes.{newTxn, Becomes, is-new, as-was, as-ever, is-held, is-freed, becomes, WaitsOn}
 use Rattle.sound.proofs.Becomes.{is-asked, waited, waited-ever, waited-commit, is-outside, waits-on, waits-all}

@@ -12,7 +12,7 @@ use Rattle.rules.specs.declared.Record.{Record}
 use Rattle.rules.specs.declared.Txn.{Txn}
 use Rattle.rules.specs.declared.LookUp.{LookUp}
 use Rattle.rules.specs.Numbers.{forever, lastClock, maxTxns}
-use Rattle.rules.specs.Time.{until, reached}
+use Rattle.rules.specs.Time.{until, reached, EndFits}
 use Rattle.rules.specs.State.{Model, withEntries, withWaits, withClock}
 use Rattle.rules.specs.Holds.{available, someAvailable, someConflicts}
 use Rattle.rules.specs.Frame.{Frame, decode, isWrite, isLookUp, isCreate, isCommit, isAbort, isTick, hasLeaseOrTimeout}
@@ -25,8 +25,7 @@ use Rattle.rules.specs.Transactions.{create, commit, abort}
 use Rattle.rules.specs.Tick.{dropEnded}
 use Rattle.rules.specs.Refusals.{refusal}
 use Rattle.rules.specs.SerialRun.{wasRefused}
-use Rattle.rules.specs.Time.{EndFits}
-use Rattle.rules.specs.Sound.{Ascending, LiveOf, IsParty}
+use Rattle.rules.specs.Sound.{LiveOf, IsParty}
 use Rattle.sound.proofs.AllLaws.{Out}
 
 -- what the refusal table lets pass

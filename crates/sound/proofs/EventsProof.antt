@@ -15,8 +15,8 @@ use Rattle.rules.specs.declared.Record.{Record}
 use Rattle.rules.specs.declared.Txn.{Txn}
 use Rattle.rules.specs.declared.LookUp.{LookUp}
 use Rattle.rules.specs.Numbers.{forever, lastClock, maxTxns, areaRefused, kindRefused, kindFound, kindNothing}
-use Rattle.rules.specs.Lists.{filterb}
-use Rattle.rules.specs.Time.{until, reached}
+use Rattle.rules.specs.Lists.{filterb, All}
+use Rattle.rules.specs.Time.{until, reached, EndFits}
 use Rattle.rules.specs.State.{Model, withEntries, withWaits}
 use Rattle.rules.specs.Holds.{liveTxn, available, oldest, someAvailable, someConflicts}
 use Rattle.rules.specs.Frame.{Frame, decode, isWrite, isLookUp, isCreate, isTick, hasLeaseOrTimeout, isOperation}
@@ -26,7 +26,7 @@ use Rattle.rules.specs.Records.{refused}
 use Rattle.rules.specs.Done.{Carried, Done, quiet}
 use Rattle.rules.specs.Write.{write}
 use Rattle.rules.specs.LookUp.{removes, isEntry, marked, lookUpOf, handOut, givesNothing, answer, answerFound}
-use Rattle.rules.specs.LookUp.{answerNothing, answerWaiting, lookUp}
+use Rattle.rules.specs.LookUp.{answerNothing, answerWaiting, lookUp, asked}
 use Rattle.rules.specs.Transactions.{create, withoutTxn, abort}
 use Rattle.rules.specs.Service.{serve, service}
 use Rattle.rules.specs.Tick.{tick, endedTxns, abortAll, dropEnded, lapsed}
@@ -34,6 +34,7 @@ use Rattle.rules.specs.Closing.{isOver, closeWaits}
 use Rattle.rules.specs.Refusals.{isOf, inTxn, notOwn, tooLate, txnsFull, noNumber, refusal}
 use Rattle.rules.specs.Step.{Outcome, commitFrame, abortFrame, finish, carriedOut, step, accepted, refusedWith}
 use Rattle.rules.specs.SerialRun.{wasRefused}
+use Rattle.rules.specs.Sound.{Ascending, Lasting, NoneFor, LiveOf, Ordered}
 use Rattle.rules.proofs.BoolLaws.{cond-cases, bool-cases, and-left, and-right, or-left, or-right, or-cases}
 use Rattle.rules.proofs.BoolLaws.{and-false-right}
 use Rattle.rules.proofs.ListLaws.{filter-mem, none-any, find-some}
@@ -42,18 +43,13 @@ use Rattle.rules.proofs.LayoutLaws.{lookUp-not-abort, tick-serves, lookUp-serve
 use Rattle.rules.proofs.StepCases.{own-cases, serve-ind}
 use Rattle.rules.proofs.SoundLaws.{is-party}
 use Rattle.rules.proofs.RefusalLaws.{Clear, clear, is-one, none-waits}
-use Rattle.rules.specs.Time.{EndFits}
-use Rattle.rules.specs.Sound.{Ascending, Lasting, NoneFor, IsParty}
-use Rattle.rules.specs.LookUp.{asked}
-use Rattle.sound.proofs.AllLaws.{all-none, all-cons, all-append, all-snoc, all-filter, all-map, Out, here}
-use Rattle.rules.specs.Lists.{All}
-use Rattle.sound.proofs.AllLaws.{there, out-last}
-use Rattle.sound.proofs.HoldLaws.{mark-cases}
 use Rattle.rules.proofs.TimeLaws.{until-later, until-now}
-use Rattle.sound.proofs.Events.{Admitted, Heard, saying, heard, Closes, Event, refuses, asks}
-use Rattle.rules.specs.Sound.{LiveOf, Ordered}
-use Rattle.sound.proofs.Events.{writes, is-found, is-nothing, is-waiting, creates, commits, aborts, ticks}
-use Rattle.sound.proofs.Events.{excepts, expires, Events, over, then, join}
+use Rattle.sound.proofs.AllLaws.{all-none, all-cons, all-append, all-snoc, all-filter, all-map, Out, here, there}
+use Rattle.sound.proofs.AllLaws.{out-last}
+use Rattle.sound.proofs.HoldLaws.{mark-cases}
+use Rattle.sound.proofs.Events.{Admitted, Heard, saying, heard, Closes, Event, refuses, asks, writes, is-found}
+use Rattle.sound.proofs.Events.{is-nothing, is-waiting, creates, commits, aborts, ticks, excepts, expires}
+use Rattle.sound.proofs.Events.{Events, over, then, join}
 use Rattle.sound.proofs.Becomes.{waits-all}
 use Rattle.sound.proofs.Unavailable.{serve-settled}
 use Rattle.sound.proofs.AscendingLaws.{ascend-filter}

@@ -15,10 +15,10 @@ use Rattle.rules.specs.Template.{matches}
 use Rattle.rules.specs.Holds.{liveTxn, addReaderOf, dropReaderOf, readByOther, visible, available}
 use Rattle.rules.specs.LookUp.{removes, withHold, marked, isEntry, handOut}
 use Rattle.rules.specs.Transactions.{noTxn}
+use Rattle.rules.specs.Lists.{All}
 use Rattle.rules.proofs.BoolLaws.{cond-cases, bool-cases, and-left, and-right, or-cases}
 use Rattle.rules.proofs.ListLaws.{filter-mem}
 use Rattle.sound.proofs.AllLaws.{all-filter, all-map}
-use Rattle.rules.specs.Lists.{All}
 
 -- a number is another, or is not
 pub equal-or : (a b : ℕ) → (a ≡ b) ⊎ (a ≡ b → ⊥)

@@ -11,11 +11,11 @@ use Rattle.rules.specs.declared.Txn.{Txn}
 use Rattle.rules.specs.Template.{bit}
 use Rattle.rules.specs.Holds.{liveTxn, dropReader, addReaderOf, dropReaderOf}
 use Rattle.rules.specs.Transactions.{withoutTxn}
+use Rattle.rules.specs.Sound.{Live, At, TxnsOk}
 use Rattle.rules.proofs.ListLaws.{filter-mem, find-some, find-none}
 use Rattle.rules.proofs.BoolLaws.{option-cases, cond-cases}
 use Rattle.rules.proofs.ReaderLaws.{added, added-other, dropped, dropped-other, bit-of-zero}
 use Rattle.sound.proofs.HoldLaws.{equal-or}
-use Rattle.rules.specs.Sound.{Live, At, TxnsOk}
 
 pub live-is : (t : ℕ) (ts : List Txn) (y : Txn) → liveTxn t ts ≡ some y → List·Memᴰ y ts × (y .id .0 ≡ t)
 unfolding liveTxn

@@ -3,25 +3,21 @@
 use Prim.Native.Nat.{ℕ, _+_, _<_}
 use mathlib.Core.Bool.{Bool, cond, not}
 use mathlib.Core.Path.{_≡_, refl}
-use mathlib.Core.Option.{some}
 use mathlib.Core.List.{List, map}
 use native.Mathlib.Omega.{arith}
 use Rattle.rules.specs.declared.Entry.{Entry}
 use Rattle.rules.specs.declared.Txn.{Txn}
 use Rattle.rules.specs.declared.LookUp.{LookUp}
-use Rattle.rules.specs.Lists.{filterb}
+use Rattle.rules.specs.Lists.{filterb, All}
 use Rattle.rules.specs.State.{Model}
-use Rattle.rules.specs.Holds.{available, oldest}
 use Rattle.rules.specs.Frame.{Frame}
 use Rattle.rules.specs.Write.{newEntry, stored}
 use Rattle.rules.specs.LookUp.{removes, isEntry, marked, handOut}
 use Rattle.rules.specs.Transactions.{released}
-use Rattle.rules.proofs.BoolLaws.{cond-cases}
-use Rattle.rules.proofs.ListLaws.{find-some}
 use Rattle.rules.specs.Sound.{Ascending}
+use Rattle.rules.proofs.BoolLaws.{cond-cases}
 use Rattle.sound.proofs.AllLaws.{all-snoc, all-filter, all-map}
-use Rattle.rules.specs.Lists.{All}
-use Rattle.sound.proofs.AscendingLaws.{ascend-filter, ascend-map, ascend-snoc, find-lowest, lowest-found}
+use Rattle.sound.proofs.AscendingLaws.{ascend-filter, ascend-map, ascend-snoc}
 use Rattle.sound.proofs.HoldLaws.{eqb-cases, mark-cases}
 
 abbrev pub Numbered : ℕ → List Entry → Type 0

@@ -1,28 +1,19 @@
 -- A frame's own part, by its operation; and what a look-up frame is answered, for the four kinds together.
 use Prim.Native.Nat.{ℕ}
-use mathlib.Core.Bool.{true, false, cond, not, _||_}
-use mathlib.Core.Path.{_≡_, refl, ap, ap₂, _∙_}
-use mathlib.Core.List.{List, _∷_, List·Memᴰ, List·Memᴰ·head, Memᴰ·append-right}
-use borrow.Author.Tests.{eqb-false}
-use lib.Dec.{eqb}
-use Rattle.rules.specs.declared.LookUp.{LookUp}
-use Rattle.rules.specs.Lists.{filterb}
+use mathlib.Core.Bool.{true, cond}
+use mathlib.Core.Path.{_≡_, refl, ap, _∙_}
+use mathlib.Core.List.{List}
 use Rattle.rules.specs.State.{Model}
-use Rattle.rules.specs.Holds.{available}
 use Rattle.rules.specs.Frame.{Frame, decode, isWrite, isLookUp, isCreate, isCommit, isAbort}
 use Rattle.rules.specs.Done.{Carried, after}
 use Rattle.rules.specs.Write.{write}
-use Rattle.rules.specs.LookUp.{lookUpOf, givesNothing, answerFound, answerNothing, answerWaiting, answer, lookUp}
+use Rattle.rules.specs.LookUp.{lookUp}
 use Rattle.rules.specs.Transactions.{create}
 use Rattle.rules.specs.Tick.{tick}
-use Rattle.rules.specs.Closing.{isOver, closeWaits}
+use Rattle.rules.specs.Closing.{closeWaits}
 use Rattle.rules.specs.Refusals.{refusal}
 use Rattle.rules.specs.Step.{step, accepted, ownPart, finish, carriedOut, commitFrame, abortFrame}
-use Rattle.rules.proofs.ListLaws.{any-none, any-find, filter-mem}
-use Rattle.rules.proofs.BoolLaws.{or-left, or-right}
-use Rattle.rules.proofs.TimeLaws.{until-later}
 use Rattle.rules.proofs.LayoutLaws.{lookUp-cases, finish-quiet, lookUp-serves, lookUp-not-tick}
-use Rattle.sound.proofs.OrderLaws.{InOrder}
 
 -- a frame that is not refused is carried out
 pub step-accepted : (m : Model) (bs : List ℕ) (area : ℕ) → refusal m bs area ≡ 0

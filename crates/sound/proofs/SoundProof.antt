@@ -23,22 +23,20 @@ use Rattle.rules.specs.LookUp.{lookUpOf}
 use Rattle.rules.specs.Transactions.{create}
 use Rattle.rules.specs.Closing.{isOver, closeWaits}
 use Rattle.rules.specs.Step.{step}
+use Rattle.rules.specs.Lists.{All}
+use Rattle.rules.specs.Sound.{NoneFor, Ahead, Hopeful, Lasting, Sound, Consistent}
 use Rattle.rules.proofs.BoolLaws.{bool-cases}
 use Rattle.rules.proofs.ListLaws.{none-mem, all-false}
 use Rattle.rules.proofs.LayoutLaws.{write-not-abort, write-serves, commit-serves, abort-serves, tick-serves}
-use Rattle.sound.proofs.AllLaws.{all-none, all-snoc, all-filter, out-all}
-use Rattle.rules.specs.Lists.{All}
-use Rattle.sound.proofs.HoldLaws.{eqb-cases, not-so, available-free}
 use Rattle.rules.proofs.TimeLaws.{until-later}
+use Rattle.sound.proofs.AllLaws.{all-none, all-snoc, all-filter, out-all}
+use Rattle.sound.proofs.HoldLaws.{eqb-cases, not-so, available-free}
 use Rattle.sound.proofs.Unavailable.{handOut-unavailable}
 use Rattle.sound.proofs.Events.{Heard, Event, refuses, asks, writes, is-found, is-nothing, is-waiting, creates}
 use Rattle.sound.proofs.Events.{commits, aborts, ticks, excepts, expires, Events, over, then}
 use Rattle.sound.proofs.Becomes.{newTxn, kept-all, clock-moves}
-use Rattle.sound.proofs.EventsProof.{not-over, in-hope}
-use Rattle.rules.specs.Sound.{NoneFor, Ahead, Hopeful, Lasting, Sound}
-use Rattle.sound.proofs.EventsProof.{Carries, StepIs, is-carried, is-refused, step-is}
+use Rattle.sound.proofs.EventsProof.{not-over, in-hope, Carries, StepIs, is-carried, is-refused, step-is}
 use Rattle.sound.proofs.Consistent.{ok-below, not-inside}
-use Rattle.rules.specs.Sound.{Consistent}
 use Rattle.sound.proofs.ConsistentProof.{consistent-event, consistent-events, consistent-empty}
 
 -- in the midst of a frame's step: so but for its own look-up, and for what a tick or service mends

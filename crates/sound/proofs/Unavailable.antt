@@ -9,8 +9,7 @@ use Rattle.rules.specs.declared.Entry.{Entry}
 use Rattle.rules.specs.declared.Txn.{Txn}
 use Rattle.rules.specs.declared.LookUp.{LookUp}
 use Rattle.rules.specs.Template.{bit}
-use Rattle.rules.specs.Holds.{liveTxn, addReader, dropReader, addReaderOf, dropReaderOf, available}
-use Rattle.rules.specs.Holds.{someAvailable}
+use Rattle.rules.specs.Holds.{liveTxn, addReader, dropReader, addReaderOf, dropReaderOf, available, someAvailable}
 use Rattle.rules.specs.LookUp.{removes, marked, isEntry, handOut}
 use Rattle.rules.specs.Service.{serve}
 use Rattle.rules.proofs.ListLaws.{find-some, none-any, none-mem, all-false}
@@ -18,8 +17,7 @@ use Rattle.rules.proofs.StepCases.{serve-ind}
 use Rattle.rules.proofs.BoolLaws.{cond-cases}
 use Rattle.rules.proofs.ReaderLaws.{added, added-other, dropped, dropped-other, bit-of-zero, no-bits}
 use Rattle.sound.proofs.AllLaws.{all-filter, all-map}
-use Rattle.sound.proofs.HoldLaws.{equal-or, not-so, available-free, free-available, heldBy, mark-cases}
-use Rattle.sound.proofs.HoldLaws.{removed}
+use Rattle.sound.proofs.HoldLaws.{equal-or, not-so, available-free, free-available, heldBy, mark-cases, removed}
 
 -- with one reader more an entry is read by another as before
 still-read : (p q n : ℕ) → dropReader p (addReader q n) ≡ 0 → dropReader p n ≡ 0
