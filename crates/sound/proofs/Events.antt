@@ -1,6 +1,6 @@
 -- The events of a step: each is small, and at most one thing is heard of it, that the frame's look-up arrives, or a
 -- record. A new operation is a constructor here, its part in EventsProof, and a clause in each lemma that goes by
--- events (in Becomes, ConsistentProof, SettledProof, AnswersProof, BookProof, BoundsRange and SerialRunProof).
+-- events (in Becomes, ConsistentProof and SoundProof; in demands AnswersProof, BookProof, BoundsRange and SerialRunProof).
 use Prim.Native.Nat.{ℕ, _+_, _<_}
 use mathlib.Core.Bool.{Bool, true, false, cond, not, _&&_}
 use mathlib.Core.Logic.{_⊎_}
