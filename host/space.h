@@ -162,11 +162,11 @@ void space_empty(uint32_t space[SPACE_WORDS]);
  * read.
  * On words made in any other way the call ends and keeps to its buffers, and a refused frame is answered in the same
  * way. The words are read as tables: counts above the limits as the limits, a party, a mask and readers modulo 256, a
- * slot modulo 8, a waiting look-up's operation that is not 2 to 5 as 2. A frame that is carried out gives what the rules
- * give for these tables if they are sound, as all are that frames make: entries and transactions stand by number, below
- * the next numbers; what holds an entry is live; who waits is a party of 1 to 16, once, outside transactions or in a
- * live one of its own; no lease and no deadline is over; nobody waits who has an available entry, or, of the IfExists
- * kinds, who has no conflicting one (`Sound`, crates/rules/specs/Sound.antt). */
+ * slot modulo 8, a waiting look-up's operation that is not 2 to 5 as 2. A frame that is carried out gives what the
+ * rules give for these tables if they are sound, as all are that frames make: entries and transactions stand by number,
+ * below the next numbers; what holds an entry is live; who waits is a party of 1 to 16, once, outside transactions or
+ * in a live one of its own; no lease and no deadline is over; nobody waits who has an available entry, or, of the
+ * IfExists kinds, who has no conflicting one (`Sound`, crates/rules/specs/Sound.antt). */
 uint64_t space_step(uint32_t space[SPACE_WORDS], const uint8_t *frame, size_t frame_len,
                     uint8_t *answers, size_t answers_len);
 

@@ -23,9 +23,9 @@ unfolding until reached bit matches liveTxn addReader dropReader readByOther vis
     layoutOf frameLength serves written found nothing waiting created committed aborted exception ticked refused
     lookUpOf removes withHold marked handOut givesNothing answerFound answerNothing answerWaiting answer lookUp
     freeSlot create released withoutTxn commit abort serve service endedTxns abortAll dropEnded lapsed isOver
-    closeWaits tick noOperation wrongLength malformed wrongParty partyWaits notLive notOwn noLease tooLate entriesFull txnsFull noNumber
-    refusal newEntry stored write ownPart finish commitFrame abortFrame carriedOut refusedWith accepted step
-all-rules = tt
+    closeWaits tick noOperation wrongLength malformed wrongParty partyWaits notLive notOwn noLease tooLate entriesFull
+    txnsFull noNumber refusal newEntry stored write ownPart finish commitFrame abortFrame carriedOut refusedWith
+    accepted step all-rules = tt
 
 -- and the trays'
 unfoldable pub all-trays : Unit {0}

@@ -541,7 +541,8 @@ module _ {ts us : List Txn} {x y : Txn} (p : Peers (x .id .0) ts us) (same : liv
         ok = txns-snoc x ts (p .counted) free (p .ok);
         ok′ =
             subst⁻¹ (λ n. TxnsOk (n + 1) (us ++ (y ∷ []))) numbers
-            (txns-snoc y us (subst (λ n. 0 < n) numbers (p .counted)) free′ (subst (λ n. TxnsOk n us) numbers (p .ok′)));
+            (txns-snoc y us (subst (λ n. 0 < n) numbers (p .counted)) free′
+            (subst (λ n. TxnsOk n us) numbers (p .ok′)));
         live =
             live-ind (λ ts us. SameLive (ts ++ (x ∷ [])) (us ++ (y ∷ [])))
             (ap {B = List LiveTold} (λ l. l ∷ []) same)
@@ -553,7 +554,8 @@ module _ {ts us : List Txn} {x y : Txn} (p : Peers (x .id .0) ts us) (same : liv
       record {
         bits = λ a b i j.
             all-snoc {Q = λ a. All (λ b. a .id .0 ≡ b .id .0 → bit (a .slot) r ≡ bit (b .slot) q) (us ++ (y ∷ []))} ts
-            (λ a i. all-snoc us (λ b j. h .bits a b i j) (λ e. absurd (let l = p .ok .below a i in let n = numbers in omega arith)))
+            (λ a i. all-snoc us (λ b j. h .bits a b i j)
+            (λ e. absurd (let l = p .ok .below a i in let n = numbers in omega arith)))
             (all-snoc us (λ b j e. absurd (let l = p .ok′ .below b j in omega arith))
             (λ e. not-so (bit (x .slot) r) (λ t. let z = h .live (x .slot) t in free (z .0) (z .1) (z .2))
             ∙ sym (not-so (bit (y .slot) q) (λ t. let z = h .live′ (y .slot) t in free′ (z .0) (z .1) (z .2)))))

@@ -91,7 +91,8 @@ waits-fit m s =
     omega (arith, few maxParty m s, ap length all)
 
 -- ---- who waits after service waited before
-pub served-among : (ts : List Txn) (es : List Entry) (ws : List LookUp) → All (λ w. List·Memᴰ w ws) (serve ts es ws .waits)
+pub served-among : (ts : List Txn) (es : List Entry) (ws : List LookUp)
+    → All (λ w. List·Memᴰ w ws) (serve ts es ws .waits)
 served-among ts es ws =
     serve-ind ts (λ es ws r. All (λ w. List·Memᴰ w ws) (r .waits)) (λ es w i. i)
     (λ es w ws e below v i.
@@ -184,5 +185,6 @@ module _ (m : Model) (a : Ahead m) where
   all-hopeful h =
       none-over m
       (λ w i. let hope = someConflicts (m .txns) w (m .entries) in
-      ap₂ {C = Bool} (λ x y. x || y) (a w i) (⊎-elim (λ t. ap (λ b. w .«if_exists» && not b) (h w i t) ∙ and-false (w .«if_exists»))
+      ap₂ {C = Bool} (λ x y. x || y) (a w i)
+      (⊎-elim (λ t. ap (λ b. w .«if_exists» && not b) (h w i t) ∙ and-false (w .«if_exists»))
       (λ t. ap (λ b. b && not hope) t) (bool-cases (w .«if_exists»))))

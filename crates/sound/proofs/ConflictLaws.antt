@@ -1,5 +1,5 @@
--- Conflicts last: handing an entry out ends none, unless a transaction takes its own private entry. So of all frames only
--- a take inside a transaction, a commit, an abort and a tick can end one (document 02, T-07).
+-- Conflicts last: handing an entry out ends none, unless a transaction takes its own private entry. So of all frames
+-- only a take inside a transaction, a commit, an abort and a tick can end one (document 02, T-07).
 use Prim.Native.Nat.{ℕ}
 use mathlib.Core.Bool.{Bool, true, false, cond, not, _&&_, _||_, and-false, or-true, true≢false}
 use mathlib.Core.Logic.{inl, inr, ⊎-elim}
@@ -146,7 +146,8 @@ module _ (ts : List Txn) (v w : LookUp) (e : Entry) (av : available ts v e ≡ t
   handOut-conflicts ok es unique i outside h =
       let x = any-mem (conflicts ts w) es h in
       ⊎-elim (λ q. own (sym (ap (conflicts ts w) (unique (x .0) (x .1) q)) ∙ x .2))
-      (λ d. mem-any (conflicts ts w) (others-stay ts v e es av (x .0) (x .1) d) (x .2)) (equal-or (x .0 .id .0) (e .id .0))
+      (λ d. mem-any (conflicts ts w) (others-stay ts v e es av (x .0) (x .1) d) (x .2))
+      (equal-or (x .0 .id .0) (e .id .0))
     where
       own : conflicts ts w e ≡ true → someConflicts ts w (handOut ts v e es) ≡ true
       own c =
@@ -158,10 +159,11 @@ module _ (ts : List Txn) (v w : LookUp) (e : Entry) (av : available ts v e ≡ t
               let free = available-free ts v e av in
               let why = removes-why ts v e r in
               let z = outside r in
+              let holder = liveTxn (w .txn .0) ts in
               let unread : e .readers ≡ 0 =
-              sym (ap (λ n. dropReaderOf (liveTxn n ts) (e .readers)) z ∙ ap (λ o. dropReaderOf o (e .readers)) (none-zero ok))
+              sym (ap (λ (o : Option Txn). dropReaderOf o (e .readers)) (ap (λ n. liveTxn n ts) z ∙ none-zero ok))
               ∙ free .unread (why .0) in
-              free-of ts w e (why .1 ∙ z) (free .untaken) (ap (dropReaderOf (liveTxn (w .txn .0) ts)) unread ∙ drop-none (liveTxn (w .txn .0) ts)) c
+              free-of ts w e (why .1 ∙ z) (free .untaken) (ap (dropReaderOf holder) unread ∙ drop-none holder) c
 
 -- ---- service ends none where only committed entries are available to those who wait
 abbrev Committed : List Txn → List Entry → LookUp → Type 0
@@ -186,6 +188,10 @@ serve-conflicts k ts ok v =
     (handOut-conflicts ts w v x (r .1) ok es unique (r .0) (λ y. sym (removes-why ts w x y .1) ∙ c) h))
 
 -- ---- the frames that end none
+-- what is left before the nothings, in a frame that is no tick
+abbrev pub leftOf : Frame → Model → Model
+leftOf f m = cond (serves f) (service m .model) m
+
 conflicts-same : (ts us : List Txn) (w : LookUp) → liveTxn (w .txn .0) ts ≡ liveTxn (w .txn .0) us → (e : Entry)
     → conflicts ts w e ≡ conflicts us w e
 unfolding conflicts available readByOther
@@ -241,9 +247,9 @@ module _ (m : Model) (f : Frame) (s : Sound m) where
       none : (v : LookUp) → List·Memᴰ v (m .waits) → Committed (m .txns) (m .entries) v
       none v j e k a = absurd (true≢false (sym a ∙ none-mem (available (m .txns) v) (s .none-for v j) k))
 
-  -- what the others leave, with the service that follows
-  abbrev pub left : Model
-  left = let own = ownPart m f .model in cond (serves f) (service own .model) own
+  -- what the others leave
+  abbrev left : Model
+  left = leftOf f (ownPart m f .model)
 
   module _ (is : isOperation (f .op) ≡ true) (spares : endsConflicts f ≡ false) where
     no-tick : isTick (f .op) ≡ false
@@ -252,7 +258,7 @@ module _ (m : Model) (f : Frame) (s : Sound m) where
     hope-lasts : Hopeful left
     unfolding write
     hope-lasts =
-        own-cases (λ (c : Carried). Hopeful (cond (serves f) (service (c .model) .model) (c .model))) m f is
+        own-cases (λ (c : Carried). Hopeful (leftOf f (c .model))) m f is
         (λ t. rw (write-serves f t) (eqb-cases Hopeful (f .txn) 0 (λ z. service-hopeful z) (λ _. write-hopeful)))
         (λ t. rw (lookUp-serves f t) (lookUp-hopeful outside)) (λ t. rw (create-serves f t) create-hopeful)
         (λ t. absurd (true≢false (sym (commit-ends (f .op) t) ∙ ends-none)))

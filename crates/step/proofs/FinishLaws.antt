@@ -24,10 +24,12 @@ use Rattle.rules.proofs.Capacity.{lapsed-fits, service-fits}
 use Rattle.rules.proofs.ListLaws.{filter-pass, count-mem}
 use Rattle.rules.proofs.SoundLaws.{service-ahead, none-existing}
 use Rattle.rules.proofs.ViewLaws.{view-bounded}
+use Rattle.sound.proofs.ConflictLaws.{leftOf}
 use Rattle.step.specs.declared.finish.Ending.{Ending}
 use Rattle.step.specs.declared.finish.Ending.the-variants.{Quiet, Nothings, Service, Both, Tick}
 use Rattle.step.specs.Does.{Does}
-use Rattle.step.specs.Ending.{inTick, served, closing, EndsAs, endedBy, servedBy, someIfExists, closedInVain, closedBy, finishedBy}
+use Rattle.step.specs.Ending.{inTick, served, closing, EndsAs, endedBy, servedBy, someIfExists, closedInVain}
+use Rattle.step.specs.Ending.{closedBy, finishedBy}
 use Rattle.step.proofs.AddsLaws.{does-then}
 
 -- none is over: all wait on
@@ -45,12 +47,12 @@ none-closed m e =
         (λ t. t) (bool-cases (due w))
 
 -- a frame that ends with nothing more does no more
-pub quiet-ends : (e : Ending) (m : Model) → not (served e || closing e) ≡ true → finishedBy e m ≡ quiet m
+pub quiet-ends : (e : Ending) (m : Model) → (served e || closing e) ≡ false → finishedBy e m ≡ quiet m
 quiet-ends Quiet m t = refl
-quiet-ends Nothings m t = absurd (true≢false (sym t))
-quiet-ends Service m t = absurd (true≢false (sym t))
-quiet-ends Both m t = absurd (true≢false (sym t))
-quiet-ends Tick m t = absurd (true≢false (sym t))
+quiet-ends Nothings m t = absurd (true≢false t)
+quiet-ends Service m t = absurd (true≢false t)
+quiet-ends Both m t = absurd (true≢false t)
+quiet-ends Tick m t = absurd (true≢false t)
 
 module _ (ws : List ℕ) (e : Ending) where
   -- at most 8 exceptions
@@ -83,10 +85,6 @@ closed-same m a =
 abbrev behind : Done → Done → Done
 behind d x = record { model = x .model; records = d .records ++ x .records }
 
--- what is left before the nothings, in a frame that is no tick
-abbrev pub leftOf : Frame → Model → Model
-leftOf f m = cond (serves f) (service m .model) m
-
 pub finish-same : (f : Frame) (e : Ending) (m : Model) → EndsAs f e → (isTick (f .op) ≡ false → Ahead m)
     → (endsConflicts f ≡ false → closeWaits (leftOf f m) ≡ quiet (leftOf f m)) → finishedBy e m ≡ finish f m
 unfolding finish
@@ -95,24 +93,20 @@ finish-same f e m k a h =
     ∙ ap (parts (isTick (f .op)) (serves f)) (sym (k .closes))
     ∙ same (isTick (f .op)) (serves f) (endsConflicts f) a h
   where
-    -- the code's parts, by what holds of the frame, and the rules'
-    parts : Bool → Bool → Bool → Done
-    parts t s c =
+    -- a frame's end, by what holds of it and by the nothings it ends with: the code's, and the rules'
+    ends : (Model → Done) → Bool → Bool → Done
+    ends closes t s =
         let ended = cond t (lapsed m) (quiet m) in
         let served = cond s (service (ended .model)) (quiet (ended .model)) in
-        let closed = cond t (closeWaits (served .model)) (cond c (closedInVain (served .model)) (quiet (served .model))) in
+        let closed = closes (served .model) in
         record { model = closed .model; records = ended .records ++ served .records ++ closed .records }
 
-    rules : Bool → Bool → Done
-    rules t s =
-        let ended = cond t (lapsed m) (quiet m) in
-        let served = cond s (service (ended .model)) (quiet (ended .model)) in
-        let closed = closeWaits (served .model) in
-        record { model = closed .model; records = ended .records ++ served .records ++ closed .records }
+    parts : Bool → Bool → Bool → Done
+    parts t s c = ends (λ n. cond t (closeWaits n) (cond c (closedInVain n) (quiet n))) t s
 
     same : (t s c : Bool) → (t ≡ false → Ahead m)
         → (c ≡ false → closeWaits (cond s (service m .model) m) ≡ quiet (cond s (service m .model) m))
-        → parts t s c ≡ rules t s
+        → parts t s c ≡ ends closeWaits t s
     same true s c a h = refl
     same false true true a h = ap (behind (service m)) (closed-same (service m .model) (service-ahead m (a refl)))
     same false false true a h = ap (behind (quiet m)) (closed-same m (a refl))

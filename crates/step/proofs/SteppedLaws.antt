@@ -92,8 +92,8 @@ has-room {bs} {q} m d e s l =
     (none-applies (admissionRows m f ++ roomRows m f) refl e 0) s
 
 -- and it ends as the rules say
-ends-same : {bs : List ℕ} {q : Request} (m : Model) → Decodes bs (Asks q) → (x : Ending) → EndsAs (frameOf q) x → Sound m
-    → finishedBy x (ownPart m (frameOf q) .model) ≡ finish (frameOf q) (ownPart m (frameOf q) .model)
+ends-same : {bs : List ℕ} {q : Request} (m : Model) → Decodes bs (Asks q) → (x : Ending) → EndsAs (frameOf q) x
+    → Sound m → finishedBy x (ownPart m (frameOf q) .model) ≡ finish (frameOf q) (ownPart m (frameOf q) .model)
 unfolding formRefusal
 ends-same {bs} {q} m d x k s =
     let f = frameOf q in

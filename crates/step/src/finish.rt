@@ -1,5 +1,4 @@
 // What every carried-out frame ends with: what ends now, service, and the look-ups that get nothing.
-ghost use mathlib.Core.Bool.{not, _||_};
 ghost use mathlib.Core.Path.{_≡_};
 ghost use Prim.Native.Nat.{_+_, _*_, _≤_};
 ghost use lib.ListN.{length};
@@ -7,7 +6,7 @@ ghost use Rattle.rules.specs.Numbers.{maxTxns, maxWaits, recordSize};
 ghost use Rattle.rules.specs.Requests.{frameOf};
 ghost use Rattle.rules.specs.Words.{view};
 ghost use Rattle.step.specs.Does.{Does};
-ghost use Rattle.step.specs.Ending.{served, closing, EndsAs, endedBy, servedBy, closedBy, finishedBy};
+ghost use Rattle.step.specs.Ending.{inTick, served, closing, EndsAs, endedBy, servedBy, closedBy, finishedBy};
 use crate::closing::close_in_vain;
 use crate::closing::close_waits;
 use crate::service::serve_waits;
@@ -63,18 +62,55 @@ pub(crate) fn ending_of(q: Request) -> Ending
     }
 }
 
+// Whether it is a tick's.
+pub(crate) fn is_in_tick(ending: Ending) -> bool
+    ensures { λ r. ⌜ r ≡ inTick ending ⌝ }
+{
+    match ending {
+        Ending::Quiet => false,
+        Ending::Nothings => false,
+        Ending::Service => false,
+        Ending::Both => false,
+        Ending::Tick => true,
+    }
+}
+
+// Whether service is part of it.
+pub(crate) fn is_served(ending: Ending) -> bool
+    ensures { λ r. ⌜ r ≡ served ending ⌝ }
+{
+    match ending {
+        Ending::Quiet => false,
+        Ending::Nothings => false,
+        Ending::Service => true,
+        Ending::Both => true,
+        Ending::Tick => true,
+    }
+}
+
+// Whether a conflict may have ended.
+pub(crate) fn is_closing(ending: Ending) -> bool
+    ensures { λ r. ⌜ r ≡ closing ending ⌝ }
+{
+    match ending {
+        Ending::Quiet => false,
+        Ending::Nothings => true,
+        Ending::Service => false,
+        Ending::Both => true,
+        Ending::Tick => true,
+    }
+}
+
 // What ends now, in a tick.
 pub(crate) fn end_now(space: &mut Words, answers: &mut [u8], count: usize, ending: Ending) -> usize
     requires { ⌜ recordSize * (count + maxTxns) ≤ length (now answers) ⌝ }
     ensures { λ n. ⌜ Does (endedBy ending (view (now (space .entry)))) (now (space .exit))
         (now (answers .entry)) (now (answers .exit)) count n ⌝ }
 {
-    match ending {
-        Ending::Quiet => count,
-        Ending::Nothings => count,
-        Ending::Service => count,
-        Ending::Both => count,
-        Ending::Tick => lapse(space, answers, count),
+    if is_in_tick(ending) {
+        lapse(space, answers, count)
+    } else {
+        count
     }
 }
 
@@ -84,12 +120,10 @@ pub(crate) fn serve(space: &mut Words, answers: &mut [u8], count: usize, ending:
     ensures { λ n. ⌜ Does (servedBy ending (view (now (space .entry)))) (now (space .exit))
         (now (answers .entry)) (now (answers .exit)) count n ⌝ }
 {
-    match ending {
-        Ending::Quiet => count,
-        Ending::Nothings => count,
-        Ending::Service => serve_waits(space, answers, count),
-        Ending::Both => serve_waits(space, answers, count),
-        Ending::Tick => serve_waits(space, answers, count),
+    if is_served(ending) {
+        serve_waits(space, answers, count)
+    } else {
+        count
     }
 }
 
@@ -99,24 +133,13 @@ pub(crate) fn close(space: &mut Words, answers: &mut [u8], count: usize, ending:
     ensures { λ n. ⌜ Does (closedBy ending (view (now (space .entry)))) (now (space .exit))
         (now (answers .entry)) (now (answers .exit)) count n ⌝ }
 {
-    match ending {
-        Ending::Quiet => count,
-        Ending::Nothings => close_in_vain(space, answers, count),
-        Ending::Service => count,
-        Ending::Both => close_in_vain(space, answers, count),
-        Ending::Tick => close_waits(space, answers, count),
+    if is_in_tick(ending) {
+        return close_waits(space, answers, count);
     }
-}
-
-pub(crate) fn is_quiet(ending: Ending) -> bool
-    ensures { λ r. ⌜ r ≡ not (served ending || closing ending) ⌝ }
-{
-    match ending {
-        Ending::Quiet => true,
-        Ending::Nothings => false,
-        Ending::Service => false,
-        Ending::Both => false,
-        Ending::Tick => false,
+    if is_closing(ending) {
+        close_in_vain(space, answers, count)
+    } else {
+        count
     }
 }
 
@@ -127,7 +150,8 @@ pub(crate) fn finish(space: &mut Words, answers: &mut [u8], count: usize, ending
     ensures { λ n. ⌜ Does (finishedBy ending (view (now (space .entry)))) (now (space .exit))
         (now (answers .entry)) (now (answers .exit)) count n ⌝ }
 {
-    if is_quiet(ending) {
+    let more = is_served(ending) | is_closing(ending);
+    if !more {
         return count;
     }
     let ended = end_now(space, answers, count, ending);

@@ -370,9 +370,9 @@ impl Space {
         Ok(())
     }
 
-    /// Nothing, in order of arrival, for each waiting look-up whose deadline is reached, and, by document 02 "after every
-    /// frame that is not refused, once service is over", for each "waiting IfExists look-up with no conflicting entry
-    /// left".
+    /// Nothing, in order of arrival, for each waiting look-up whose deadline is reached, and, by document 02 "after
+    /// every frame that is not refused, once service is over", for each "waiting IfExists look-up with no conflicting
+    /// entry left".
     fn close_waits(&mut self, answers: &mut Answers) {
         let (clock, entries) = (self.clock, &self.entries);
         self.waiting.retain(|look_up| {

@@ -45,8 +45,8 @@ pub fn record_words(record: &Record, clock: u32) -> String {
     }
 }
 
-/// A record of a frame in words, with what the tables tell besides: whether an abort withdraws a look-up, and why a wait
-/// ends with nothing.
+/// A record of a frame in words, with what the tables tell besides: whether an abort withdraws a look-up, and why a
+/// wait ends with nothing.
 pub fn told(history: &History, place: usize, record: &Record) -> String {
     let (before, clock) = (history.before(place), history.steps[place].after.clock);
     let words = record_words(record, clock);

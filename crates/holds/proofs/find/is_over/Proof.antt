@@ -31,9 +31,10 @@ returns-2 : tie.Need-returns-2
 returns-2 c =
     let test = c .before .before in
     let read = test .before .before .before in
+    let m = view (read .before .args .space .now) in
     c .lacks-conflict .ensures
-    ∙ sym (over-as (view (read .before .args .space .now)) (read .wait-at .ensures) (test .before .before .clock .ensures)
-    (test .before .reached-at .ensures) (test .if1 .left) (c .before .if2 .taken))
+    ∙ sym (over-as m (read .wait-at .ensures) (test .before .before .clock .ensures) (test .before .reached-at .ensures)
+    (test .if1 .left) (c .before .if2 .taken))
 
 returns-3 : tie.Need-returns-3
 returns-3 c =

@@ -1,5 +1,5 @@
--- `step::closing::any_if_exists` meets its contract. The loop's invariant: none of the look-ups passed is of an IfExists
--- kind. Assumes nothing.
+-- `step::closing::any_if_exists` meets its contract. The loop's invariant: none of the look-ups passed is of an
+-- IfExists kind. Assumes nothing.
 use Prim.Native.Nat.{_≤_, _-_}
 use mathlib.Core.Path.{sym}
 use native.Mathlib.Omega.{arith}

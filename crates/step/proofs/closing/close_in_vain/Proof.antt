@@ -13,4 +13,5 @@ returns-2 : tie.Need-returns-2
 returns-2 c = rw (sym (c .before .any-if-exists .ensures) ∙ c .if1 .left) (does-nothing _ _ _)
 
 pub close-in-vain-spec : {M : Type 1} → statement M
-close-in-vain-spec = tie.close (tie.spec (λ c κs. search needs) (λ c κs. search needs) (λ c. search needs) returns returns-2)
+close-in-vain-spec =
+    tie.close (tie.spec (λ c κs. search needs) (λ c κs. search needs) (λ c. search needs) returns returns-2)

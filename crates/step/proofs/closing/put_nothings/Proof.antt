@@ -40,8 +40,8 @@ loop-again-2 c =
     let read = made .before .before in
     let l = read .before .before .before in
     let m = view (l .before .before .before .args .space .now) in
-    let over =
-    ap (isOver m) (read .wait-at .ensures) ∙ sym (read .before .is-over .ensures) ∙ not-false _ (made .before .if1 .left) in (
+    let test = sym (read .before .is-over .ensures) ∙ not-false _ (made .before .if1 .left) in
+    let over = ap (isOver m) (read .wait-at .ensures) ∙ test in (
       omega arith,
       answered-more (l .loop .inv .1) (read .wait-at .ensures) over (made .plain-record .ensures) (omega arith)
           (c .before .before .add-record .ensures),

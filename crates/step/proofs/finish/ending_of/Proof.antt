@@ -8,12 +8,14 @@ use Rattle.step.proofs.finish.ending_of.Tie as tie
 
 returns : tie.Need-returns
 unfolding serves layoutOf
-returns c = rw (c .before .before .before .q .given .1)
+returns c =
+    rw (c .before .before .before .q .given .1)
     (record { tick = refl; service = rw (eq-eqb _ _ (c .if1 .taken)); closes = refl })
 
 returns-2 : tie.Need-returns-2
 unfolding serves layoutOf
-returns-2 c = rw (c .before .before .before .q .given .1)
+returns-2 c =
+    rw (c .before .before .before .q .given .1)
     (record { tick = refl; service = rw (ne-eqb _ _ (c .if1 .left)); closes = refl })
 
 returns-3 : tie.Need-returns-3
@@ -36,4 +38,8 @@ unfolding serves layoutOf
 returns-7 c = rw (c .enum-told4 .given .1) (record { tick = refl; service = refl; closes = refl })
 
 pub ending-of-spec : {M : Type 1} → statement M
-ending-of-spec = tie.close (tie.spec (λ c. search needs) (λ c. search needs) (λ c κs. search needs) (λ c. search needs) (λ c. search needs) (λ c. search needs) (λ c. search needs) returns returns-2 returns-3 returns-4 returns-5 returns-6 returns-7)
+ending-of-spec =
+    tie.close
+    (tie.spec
+    (λ c. search needs) (λ c. search needs) (λ c κs. search needs) (λ c. search needs) (λ c. search needs)
+    (λ c. search needs) (λ c. search needs) returns returns-2 returns-3 returns-4 returns-5 returns-6 returns-7)

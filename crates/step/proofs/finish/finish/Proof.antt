@@ -1,7 +1,9 @@
 -- `step::finish::finish` meets its contract. Assumes nothing.
-use mathlib.Core.Path.{sym, ap, _∙_}
+use mathlib.Core.Bool.{_||_}
+use mathlib.Core.Path.{sym, ap, ap₂, _∙_}
 use native.Mathlib.Omega.{arith}
 use borrow.Author.Needs.{needs}
+use borrow.Author.Tests.{not-true}
 use lib.ListN.{length}
 use Rattle.rules.specs.State.{Model}
 use Rattle.rules.specs.Words.{view}
@@ -13,7 +15,7 @@ use Rattle.step.proofs.finish.finish.Tie as tie
 serve-requires : tie.Need-serve-requires
 serve-requires c κs =
     let ended = c .before .before .before .before in
-    let start = ended .before .before .before .before .before .before in
+    let start = ended .before .before .before .before .before .before .before in
     omega (
       arith,
       start .pre,
@@ -27,7 +29,7 @@ close-requires : tie.Need-close-requires
 close-requires c κs =
     let served = c .before .before .before .before in
     let ended = served .before .before .before .before .before in
-    let start = ended .before .before .before .before .before .before in
+    let start = ended .before .before .before .before .before .before .before in
     let s = served .serve .ensures in
     omega (
       arith,
@@ -41,16 +43,18 @@ close-requires c κs =
 
 returns : tie.Need-returns
 returns c =
-    let a = c .before .before .before .args in
-    let over = quiet-ends (a .ending) (view (a .space .now)) (sym (c .before .is-quiet .ensures) ∙ c .if1 .taken) in
-    rw over (does-nothing _ _ _)
+    let a = c .before .before .before .before .args in
+    let more =
+    ap₂ (λ x y. x || y) (sym (c .before .before .is-served .ensures)) (sym (c .before .is-closing .ensures))
+    ∙ not-true _ (c .if1 .taken) in
+    rw (quiet-ends (a .ending) (view (a .space .now)) more) (does-nothing _ _ _)
 
 returns-2 : tie.Need-returns-2
 returns-2 c =
     let closed = c .before .before in
     let served = closed .before .before .before .before .before in
     let ended = served .before .before .before .before .before in
-    let start = ended .before .before .before .before .before .before in
+    let start = ended .before .before .before .before .before .before .before in
     finish-parts (start .args .space .now) (start .args .ending) (omega (arith, start .pre)) (ended .end-now .ensures)
     (served .serve .ensures) (closed .close .ensures)
 
@@ -58,4 +62,5 @@ pub finish-spec : {M : Type 1} → statement M
 finish-spec =
     tie.close
     (tie.spec
-    (λ c κs. search needs) returns (λ c κs. search needs) serve-requires close-requires (λ c. search needs) returns-2)
+    (λ c κs. search needs) (λ c κs. search needs) returns (λ c κs. search needs) serve-requires close-requires
+    (λ c. search needs) returns-2)
