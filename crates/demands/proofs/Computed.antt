@@ -25,7 +25,8 @@ unfolding until reached bit matches liveTxn addReader dropReader readByOther vis
     freeSlot create released withoutTxn commit abort serve service endedTxns abortAll dropEnded lapsed isOver
     closeWaits tick noOperation wrongLength malformed wrongParty partyWaits notLive notOwn noLease tooLate entriesFull
     txnsFull noNumber refusal newEntry stored write ownPart finish commitFrame abortFrame carriedOut refusedWith
-    accepted step all-rules = tt
+    accepted step
+all-rules = tt
 
 -- and the trays'
 unfoldable pub all-trays : Unit {0}
