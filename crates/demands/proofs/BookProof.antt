@@ -36,7 +36,7 @@ use Rattle.sound.proofs.Events.{aborts, ticks, excepts, expires}
 use Rattle.demands.proofs.ByEvents.{Reader, hearsAll, reads-log, made-keep}
 
 -- one place passes, and no other can: the rest is the list without it
-one-passes : {A : Type 0} (p : A → Bool) {x : A} {xs ys : List A} → Out x xs ys → p x ≡ true → count p xs ≤ 1
+pub one-passes : {A : Type 0} (p : A → Bool) {x : A} {xs ys : List A} → Out x xs ys → p x ≡ true → count p xs ≤ 1
     → (filterb (λ y. not (p y)) xs ≡ ys) × (count p xs ≡ 1)
 one-passes p {x} (here xs) t h =
     let n : count p (x ∷ xs) ≡ 1 + count p xs = count-cons p x xs ∙ ap (λ b. cond b 1 0 + count p xs) t in
@@ -54,7 +54,7 @@ one-passes {A} p (there {y} {xs} {ys} o) t h = go (p y) refl (one-passes p o t (
     go false e r = (ap {B = List A} (λ l. y ∷ l) (r .0), r .1)
 
 -- where each party has one look-up at most, a record names one look-up at most
-named : (a : Record) (w : LookUp) {xs ys : List LookUp} → names a w ≡ true → Each xs → Out w xs ys
+pub named : (a : Record) (w : LookUp) {xs ys : List LookUp} → names a w ≡ true → Each xs → Out w xs ys
     → (filterb (λ v. not (names a v)) xs ≡ ys) × (count (names a) xs ≡ 1)
 named a w {xs} t h o =
     let inside : LookUp → Bool = λ v. eqb (v .txn .0) (a .txn .0) in
@@ -63,7 +63,7 @@ named a w {xs} t h o =
     (length-filter inside (filterb (ofParty (a .party)) xs)) in
     one-passes (names a) o t (le-trans few (h (a .party)))
 
-itself : (w : LookUp) → (eqb (w .party) (w .party) && eqb (w .txn .0) (w .txn .0)) ≡ true
+pub itself : (w : LookUp) → (eqb (w .party) (w .party) && eqb (w .txn .0) (w .txn .0)) ≡ true
 itself w = ap₂ (λ p q. p && q) (eq-eqb (w .party) (w .party) refl) (eq-eqb (w .txn .0) (w .txn .0) refl)
 
 -- the live transactions without one

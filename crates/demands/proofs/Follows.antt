@@ -82,7 +82,7 @@ module _ (S : Machine) (f : Follows S) where
   of-made P h r = let q = run-of S f r in subst⁻¹ P (q .model) (h (inputsOf r))
 
   -- and so with its log
-  of-log : (P : List Logged → Model → Type 0) → ((is : List Input) → P (runs empty is .log) (made is))
+  pub of-log : (P : List Logged → Model → Type 0) → ((is : List Input) → P (runs empty is .log) (made is))
       → EveryState S (λ log t. P log (S .view t))
   of-log P h log t r =
       let q = run-of S f r in

@@ -32,6 +32,7 @@ pub mod Twins
 pub mod DeterminedProof
 pub mod FixedProof
 pub mod ConsequencesProof
+pub mod WaitingListProof
 -- trays, the course's examples, wrong spaces
 pub mod TraysProof
 pub mod Computed
@@ -39,4 +40,5 @@ pub mod CourseProof
 pub mod TidiedProof
 pub mod WithdrawnProof
 pub mod RuledOutProof
+pub mod WrongTalliesProof
 pub mod Theorems

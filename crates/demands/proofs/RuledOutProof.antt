@@ -70,7 +70,7 @@ played does m [] = begun m
 played does m (f ∷ fs) =
     handed (handIn f) (answerTo does m f) (one-step does m f) (played does (does m f 700 .model) fs)
 
-from-empty : (does : Stepper) (fs : List (List ℕ)) → Made (spaceOf does) (logOf does empty fs) (lastOf does empty fs)
+pub from-empty : (does : Stepper) (fs : List (List ℕ)) → Made (spaceOf does) (logOf does empty fs) (lastOf does empty fs)
 from-empty does fs = (empty, refl, played does empty fs)
 
 -- the serial run, and what it tells, computed

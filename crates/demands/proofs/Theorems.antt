@@ -4,6 +4,7 @@ use Rattle.demands.specs.Demands.{Demand1, Demand2, Demand3}
 use Rattle.demands.specs.Determined.{Determined, ThirdFollows}
 use Rattle.demands.specs.Fixed.{Fixed}
 use Rattle.demands.specs.Consequences.{Consequences, ConsequencesFollow}
+use Rattle.demands.specs.WaitingList.{WaitingList, WaitingListFollows, WrongTallies}
 use Rattle.demands.specs.Bounds.{Bounds}
 use Rattle.demands.specs.RuledOut.{RuledOut}
 use Rattle.demands.specs.Tidied.{Tidied}
@@ -14,6 +15,8 @@ use Rattle.demands.proofs.Answering.{space-begins, space-answers, rules
 use Rattle.demands.proofs.DeterminedProof.{every-history, every-serial}
 use Rattle.demands.proofs.FixedProof.{every-reply}
 use Rattle.demands.proofs.ConsequencesProof.{every-consequence}
+use Rattle.demands.proofs.WaitingListProof.{every-list}
+use Rattle.demands.proofs.WrongTalliesProof.{each-wrong}
 use Rattle.demands.proofs.TidiedProof.{the-number-is-tidied}
 use Rattle.demands.proofs.WithdrawnProof.{escape-is-carried-out}
 use Rattle.demands.proofs.RuledOutProof.{each-ruled-out}
@@ -61,6 +64,18 @@ consequences-follow = every-consequence
 pub consequences : Consequences theSpace
 unfolding ConsequencesFollow
 consequences = consequences-follow theSpace demand1 demand2
+
+-- and the waiting list is explained by its history
+pub waiting-list-follows : WaitingListFollows
+waiting-list-follows = every-list
+
+pub waiting-list : WaitingList theSpace
+unfolding WaitingListFollows
+waiting-list = waiting-list-follows theSpace demand1 demand2
+
+-- which wrong tallies do not do
+pub wrong-tallies : WrongTallies
+wrong-tallies = each-wrong
 
 -- What was shown before the number 14 was removed.
 pub tidied : Tidied

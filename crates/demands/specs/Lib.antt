@@ -11,6 +11,7 @@ pub mod Determined
 pub mod Fixed
 pub mod Answers
 pub mod Consequences
+pub mod WaitingList
 -- what else holds, of the space and of trays; the course's examples; wrong spaces
 pub mod Bounds
 pub mod Trays
