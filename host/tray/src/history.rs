@@ -5,6 +5,7 @@ use crate::bytes::frames_of;
 use crate::frame::{Class, Request};
 use crate::oracle::Sought;
 use crate::record::Record;
+use crate::tally::Logged;
 use crate::text::{Asked, Expectation, Text};
 use crate::words::{tables, Tables};
 
@@ -76,6 +77,16 @@ impl History {
         }
     }
 
+    /// The tables after the last frame.
+    pub fn last(&self) -> &Tables {
+        self.before(self.steps.len())
+    }
+
+    /// Frames and answers alone.
+    pub fn log(&self) -> Vec<Logged<'_>> {
+        self.steps.iter().map(|Step { asked, records, .. }| Logged { frame: &asked.frame, records }).collect()
+    }
+
     /// The look-up to which a record of a frame is the answer: the frame's own, or one that waited before it.
     pub fn sought(&self, place: usize, record: usize) -> Option<Sought> {
         let step = &self.steps[place];
@@ -96,6 +107,13 @@ pub struct Outcome {
     pub area: Vec<u8>,
     /// The frames that the tray has; none of a refused one.
     pub frames: usize,
+}
+
+impl Outcome {
+    /// As a whole, with 15 or 16: no frame was run.
+    pub fn is_refused(&self) -> bool {
+        self.done.number > 1
+    }
 }
 
 /// Runs a text's tray as the program does, and the frames that were done one by one.

@@ -4,9 +4,11 @@ use std::io::{IsTerminal, Read, Write};
 use std::process::ExitCode;
 use tray::explore::analysis::analyse;
 use tray::explore::{report, Bounds, Explored};
+use tray::history::Outcome;
 use tray::line::Fault;
 use tray::tell::tell;
 use tray::typed::{self, Typed};
+use tray::waiting::{self, Account};
 use tray::{bytes, draw, history, panes, run, text};
 
 /// What the program ends with.
@@ -17,6 +19,7 @@ enum Status {
     BadTextOrUsage = 2,
     TrayRefused = 3,
     NotAsExpected = 4,
+    NotAsProved = 5,
 }
 
 /// Why nothing was done.
@@ -61,6 +64,15 @@ const VERBS: &[Verb] = &[
         about: "a history in words, frame by frame",
         help: include_str!("help/run.txt"),
         act: run_verb,
+    },
+    Verb {
+        name: "waiting",
+        usage: "tray waiting FILE [--after N]",
+        flags: &[],
+        values: &["--after"],
+        about: "who waits after a history, and why",
+        help: include_str!("help/waiting.txt"),
+        act: waiting_verb,
     },
     Verb {
         name: "draw",
@@ -220,11 +232,39 @@ fn run_verb(arguments: &Arguments) -> Ended {
     for failure in &failures {
         complain(&Fault::new(failure.line, &failure.why).in_file(arguments.file()?));
     }
+    Ok(match status_of(arguments, &outcome)? {
+        Status::Done if !failures.is_empty() => Status::NotAsExpected,
+        status => status,
+    })
+}
+
+/// The status of a history that has been told; what the proofs exclude is told, too.
+fn status_of(arguments: &Arguments, outcome: &Outcome) -> Ended {
+    let faults = Account::of(&outcome.history).faults();
+    for fault in &faults {
+        complain(&format!("{}: {fault}: the archive is damaged, or this tool is wrong", arguments.file()?));
+    }
     Ok(match outcome.done.number {
-        0 if failures.is_empty() => Status::Done,
-        0 => Status::NotAsExpected,
+        _ if !faults.is_empty() => Status::NotAsProved,
+        0 => Status::Done,
         _ => Status::TrayRefused,
     })
+}
+
+fn waiting_verb(arguments: &Arguments) -> Ended {
+    let after = arguments.number::<usize>("--after")?;
+    let (text, tray) = arguments.tray()?;
+    let mut outcome = history::run(&text, &tray);
+    let done = outcome.done.frames;
+    if let Some(after) = after.filter(|_| !outcome.is_refused()) {
+        if after > done {
+            let why = format!("expected a number of frames from 0 to {done} behind --after, found {after}");
+            return Err(Failed::usage(format!("{}: {why}", arguments.file()?)));
+        }
+        outcome.history.steps.truncate(after);
+    }
+    print(waiting::words(&outcome).as_bytes())?;
+    status_of(arguments, &outcome)
 }
 
 fn write(file: &str, bytes: &[u8]) -> Result<(), Failed> {
@@ -237,13 +277,13 @@ fn draw_verb(arguments: &Arguments) -> Ended {
     let to = arguments.value("-o").ok_or_else(|| Failed::usage(format!("expected {}", arguments.verb.usage)))?;
     let width = arguments.number::<u32>("--width")?.map_or(draw::default_width(), |width| f64::from(width.max(300)));
     let outcome = history::run(&text, &tray);
-    if outcome.done.number > 1 {
+    if outcome.is_refused() {
         let why = format!("{file}: the tray is {}", tray::prose::refusal_words(outcome.done.number));
         return Err(Failed { status: Status::TrayRefused, why });
     }
     let drawn = draw::for_file(to, &outcome.history, &file_name(file), width).map_err(Failed::usage)?;
     write(to, drawn.as_bytes())?;
-    Ok(if outcome.done.number == 0 { Status::Done } else { Status::TrayRefused })
+    status_of(arguments, &outcome)
 }
 
 /// The file's name without folders and ending.
@@ -373,4 +413,20 @@ fn main() -> ExitCode {
         status
     });
     ExitCode::from(status as u8)
+}
+
+#[cfg(test)]
+mod tests {
+    use super::*;
+
+    /// An answer is lost, as no sound archive loses one.
+    #[test]
+    fn what_the_proofs_exclude_has_a_status() {
+        let text = text::parse("party 1 write 7 1 40 9 lease 5\nparty 2 take kind 7 timeout 0\n").unwrap();
+        let mut outcome = history::run(&text, &text.tray().unwrap());
+        let arguments = Arguments::parse(&VERBS[0], &["made-up".to_string()]).unwrap_or_else(|_| panic!("a file"));
+        assert!(matches!(status_of(&arguments, &outcome), Ok(Status::Done)));
+        outcome.history.steps[1].records[0].kind = tray::record::WAITING;
+        assert!(matches!(status_of(&arguments, &outcome), Ok(Status::NotAsProved)));
+    }
 }

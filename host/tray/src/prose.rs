@@ -157,14 +157,19 @@ pub fn why_record(history: &History, place: usize, record: usize, matcher: &mut 
     }
 }
 
+/// Why a waiting look-up waits.
+pub fn why_waits(look_up: &LookUp, tables: &Tables, matcher: &mut Matcher) -> Vec<String> {
+    Sought::of_look_up(look_up).map(|sought| why(&sought, tables, matcher)).unwrap_or_default()
+}
+
 /// The tables, a line for each row; under a waiting look-up, why it waits.
 pub fn state_lines(tables: &Tables, matcher: &mut Matcher) -> Vec<String> {
     let mut lines: Vec<String> = tables.entries.iter().map(|entry| entry_words(entry, tables)).collect();
     lines.extend(tables.transactions.iter().map(transaction_words));
     for look_up in &tables.look_ups {
         lines.push(look_up_words(look_up));
-        let reasons = Sought::of_look_up(look_up).map(|sought| why(&sought, tables, matcher));
-        lines.extend(reasons.unwrap_or_default().into_iter().map(|reason| format!("  {reason}")));
+        let reasons = why_waits(look_up, tables, matcher);
+        lines.extend(reasons.into_iter().map(|reason| format!("  {reason}")));
     }
     if lines.is_empty() {
         lines.push("nothing stored, live or waiting".to_string());

@@ -5,6 +5,7 @@ use crate::history::{History, Outcome, Step};
 use crate::oracle::Matcher;
 use crate::prose::{record_words, refusal_words, state_lines, told, why_record};
 use crate::record::{Record, NOTHING, RECORD_BYTES};
+use crate::waiting::Account;
 use std::fmt::Write;
 
 /// An expectation that was not met.
@@ -64,16 +65,27 @@ pub fn step_words(history: &History, place: usize, states: bool, matcher: &mut M
     text
 }
 
-fn ending(outcome: &Outcome) -> String {
-    let Done { frames, records, number } = outcome.done;
-    match number {
-        0 => format!("{frames} frames, {records} records\n"),
+/// Why not all frames were done, as a line; empty if all were.
+pub fn stop_words(outcome: &Outcome) -> String {
+    match outcome.done.number {
+        0 => String::new(),
         1 => format!(
             "stopped with 1 before frame {} of {}: under 700 bytes of the answers area were left\n",
-            frames + 1,
+            outcome.done.frames + 1,
             outcome.frames
         ),
         number => format!("the tray is {}\n", refusal_words(number)),
+    }
+}
+
+/// The history's sums stand behind every history; a tray that is refused has none.
+fn ending(outcome: &Outcome) -> String {
+    let Done { frames, records, number } = outcome.done;
+    let sums = || Account::of(&outcome.history).equation();
+    match number {
+        0 => format!("{frames} frames, {records} records\n{}\n", sums()),
+        1 => format!("{}{}\n", stop_words(outcome), sums()),
+        _ => stop_words(outcome),
     }
 }
 

@@ -51,7 +51,7 @@ impl Typed {
 
     fn state(&mut self) -> String {
         let history = self.history();
-        let tables = history.steps.last().map_or(&history.beginning, |step| &step.after);
+        let tables = history.last();
         let lines = state_lines(tables, &mut self.matcher);
         format!("clock {}\n", tables.clock) + &lines.iter().map(|line| format!("| {line}\n")).collect::<String>()
     }

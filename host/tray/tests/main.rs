@@ -7,4 +7,5 @@ mod explore;
 mod layout;
 mod run;
 mod typed;
+mod waiting;
 mod xml;

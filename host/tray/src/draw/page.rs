@@ -8,6 +8,7 @@ use crate::frame::plain_fields;
 use crate::history::History;
 use crate::oracle::Matcher;
 use crate::prose::{holds_words, lease_words, look_up_words, told, why_record};
+use crate::waiting::Account;
 use crate::words::{Entry, Tables};
 
 pub const PAGE_CSS: &str = include_str!("page.css");
@@ -132,7 +133,8 @@ fn table(history: &History) -> String {
     let mut matcher = Matcher::default();
     let rows: String = (0..history.steps.len()).map(|frame| table_row(history, frame, &mut matcher)).collect();
     format!(
-        "<h2>The history in words, and what the space holds after each frame</h2>\n<p class=\"src\">&#9656; new or changed &#160; &#215; gone &#160; = as before. The numbers above the drawing lead here.</p>\n<table><colgroup><col style=\"width:3.2em\"/><col style=\"width:3.2em\"/><col style=\"width:33%\"/><col style=\"width:24%\"/><col/></colgroup><thead><tr><th>frame</th><th>clock</th><th>request</th><th>answers</th><th>the space afterwards</th></tr></thead><tbody>\n{rows}</tbody></table>\n"
+        "<h2>The history in words, and what the space holds after each frame</h2>\n<p class=\"src\">&#9656; new or changed &#160; &#215; gone &#160; = as before. The numbers above the drawing lead here.</p>\n<table><colgroup><col style=\"width:3.2em\"/><col style=\"width:3.2em\"/><col style=\"width:33%\"/><col style=\"width:24%\"/><col/></colgroup><thead><tr><th>frame</th><th>clock</th><th>request</th><th>answers</th><th>the space afterwards</th></tr></thead><tbody>\n{rows}</tbody></table>\n<p class=\"src\">{}</p>\n",
+        Account::of(history).equation()
     )
 }
 
