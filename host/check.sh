@@ -205,12 +205,15 @@ check_damaged() {
     echo "ok: damaged trays, $checker: $(cat "$out/checked.out")"
 }
 
-# A discrepancy is a text that can be run: it is left in target/host/differ-NAME.txt.
+# A discrepancy is a text that can be run: it is left in target/host/differ-NAME.txt. That the look-ups add up (document
+# 02, T-11) is checked after every frame; the report has the sums of all trays and histories.
 check_differ() { # NAME FRAMES
-    local report=$out/differ-$1.txt
+    local sums report=$out/differ-$1.txt
     "$built/differ" "$2" 1 "$1" 2> "$out/differ.progress" > "$report" ||
         { head -n 60 "$report"; fail "the $1 and the reference differ, or too little occurred: $report"; }
+    sums=$(grep '^look-ups not refused: [1-9][0-9]* = ' "$report") || fail "the $1: its look-ups do not add up: $report"
     echo "ok: the $1, $(tail -n 2 "$report" | head -n 1)"
+    echo "ok: the $1, $sums"
 }
 
 check_builds

@@ -3,7 +3,7 @@
 use crate::view::view;
 use reference::space::Space;
 use tray::boundary;
-use tray::words::{Words, WORDS, WORD_CLOCK, WORD_NEXT_ENTRY, WORD_NEXT_TRANSACTION};
+use tray::words::{Words, WORDS, WORD_CLOCK, WORD_NEXT_ENTRY, WORD_NEXT_TRANSACTION, WORD_WAITING_COUNT};
 
 /// Where a history begins: nothing is stored, live or waiting, and so many ticks, writes with lease 0 and ended
 /// transactions lie behind.
@@ -38,6 +38,11 @@ pub trait Subject: Clone + PartialEq {
 
     /// Its tables, with read holds by number; none if it does not show them.
     fn tables(&self) -> Option<Space>;
+
+    /// How many look-ups wait, by its own count; none if it does not show it.
+    fn waiting(&self) -> Option<usize> {
+        self.tables().map(|space| space.waiting.len())
+    }
 }
 
 /// The proved space.
@@ -68,6 +73,10 @@ impl Subject for Proved {
 
     fn tables(&self) -> Option<Space> {
         Some(view(&self.0))
+    }
+
+    fn waiting(&self) -> Option<usize> {
+        Some(self.0[WORD_WAITING_COUNT] as usize)
     }
 }
 

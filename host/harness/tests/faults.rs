@@ -3,13 +3,14 @@
 use harness::compare::{compare, replay, Coverage, Discrepancy};
 use harness::subject::{Beginning, Subject};
 use reference::answer::{RECORD, STEP};
-use reference::frame::{Template, FOREVER, LOOK_UPS};
+use reference::frame::{Template, FOREVER, LOOK_UPS, NONE};
 use reference::space::{End, Space};
 use reference::tray::{judge, run};
 use tray::text::parse;
 
 /// The mistakes that document 01 tells of students, and what its contracts exclude; then smaller ones; then the order
-/// that document 02 fixes; then one that only some areas show; then the rule of document 01 that document 02 replaces.
+/// that document 02 fixes; then one that only some areas show; then the rule of document 01 that document 02 replaces;
+/// then a count of its own that answers and tables do not show.
 const LEASE_STOPS_UNDER_A_TAKE_HOLD: u8 = 0;
 const OWN_READ_BARS_OWN_TAKE: u8 = 1;
 const NOTHING_BEFORE_SERVICE: u8 = 2;
@@ -25,6 +26,7 @@ const NEWEST_FIRST_AT_ONCE: u8 = 11;
 const NEWEST_FIRST_IN_SERVICE: u8 = 12;
 const LONGER_AREA_TOUCHED: u8 = 13;
 const WAITS_ON_IN_VAIN: u8 = 14;
+const WAITING_INSIDE_NOT_COUNTED: u8 = 15;
 
 /// The reference with a fault.
 #[derive(Clone, PartialEq)]
@@ -131,6 +133,11 @@ impl<const FAULT: u8> Subject for Wrong<FAULT> {
         }
         Some(space)
     }
+
+    fn waiting(&self) -> Option<usize> {
+        let counted = |transaction| FAULT != WAITING_INSIDE_NOT_COUNTED || transaction == NONE;
+        Some(self.0.waiting.iter().filter(|look_up| counted(look_up.transaction)).count())
+    }
 }
 
 /// The first discrepancy, of those that a text alone shows or of the others.
@@ -196,6 +203,14 @@ fn another_order_is_shown() {
 #[test]
 fn a_wait_in_vain_is_shown() {
     shows::<WAITS_ON_IN_VAIN>();
+}
+
+/// Document 02: "still waiting, the last counted in the space".
+#[test]
+fn look_ups_that_do_not_add_up_are_shown() {
+    shows::<WAITING_INSIDE_NOT_COUNTED>();
+    let why = found::<WAITING_INSIDE_NOT_COUNTED>(true).why;
+    assert!(why.contains("look-ups not refused: 1, which is NOT 0 found + 0 nothing + 0 closed"), "{why}");
 }
 
 /// Only the tray's run is wrong: the text is the tray's, and a comment says what to run it with.

@@ -6,11 +6,12 @@ use reference::frame::{look_up_kind, word, Refusal, LOOK_UPS, NONE};
 use reference::space::{End, Entry, LookUp, Space, MOST_ENTRIES, MOST_TRANSACTIONS, MOST_WAITING};
 use std::collections::BTreeMap;
 use tray::record::KINDS;
+use tray::tally::Tally;
 
 /// Document 02, T-04: "14 is never given out again".
 const NEVER_GIVEN: usize = 14;
 
-const SITUATIONS: [&str; 33] = [
+const SITUATIONS: [&str; 36] = [
     "64 entries stored",
     "8 transactions live",
     "16 look-ups waiting",
@@ -20,6 +21,9 @@ const SITUATIONS: [&str; 33] = [
     "found in the tick of the deadline",
     "look-up closed by an exception",
     "look-up withdrawn by an abort",
+    "exception or abort, no look-up inside",
+    "waiting at the end of a tray",
+    "waiting at the end of a history",
     "withdrawn, and others served in the step",
     "waits inside, commit of the same",
     "waits inside, abort of another of its own",
@@ -56,6 +60,9 @@ pub struct Coverage {
     situations: BTreeMap<&'static str, u64>,
     /// At once, and in service.
     founds: [[u64; 2]; FOUNDS.len()],
+    /// Of all trays and histories, and those waiting at their ends.
+    pub sums: Tally,
+    pub waiting: usize,
 }
 
 impl Coverage {
@@ -66,6 +73,13 @@ impl Coverage {
     fn note(&mut self, situation: &'static str, times: usize) {
         debug_assert!(SITUATIONS.contains(&situation));
         *self.situations.entry(situation).or_default() += times as u64;
+    }
+
+    /// A tray or a history is over, with so many waiting.
+    pub fn ended(&mut self, situation: &'static str, tally: Tally, waiting: usize) {
+        self.note(situation, waiting);
+        self.sums += tally;
+        self.waiting += waiting;
     }
 
     /// A frame has been compared.
@@ -97,6 +111,7 @@ impl Coverage {
             entry.taken_by != NONE && now.is_some_and(|e| e.taken_by == NONE)
         };
         self.note("entry back after abort or exception", before.entries.iter().filter(back).count());
+        self.ends(before, records);
         self.nothings(before, records, after);
         if records[0].is(Kind::Ticked) {
             self.tick(before, later, after);
@@ -125,6 +140,15 @@ impl Coverage {
         self.note("waits inside, abort of another party's", aborts(inside && own == Some(false)));
         self.note("waits outside, abort of none", aborts(!inside && same));
         self.note("waits outside, abort of its own", aborts(!inside && own == Some(true)));
+    }
+
+    /// The ends of transactions in which nobody waits.
+    fn ends(&mut self, before: &Space, records: &[Record]) {
+        let ends = records.iter().filter(|record| record.is(Kind::Exception) || record.is(Kind::Aborted));
+        let waits =
+            |look_up: &LookUp, end: &Record| look_up.party == end.party && look_up.transaction == end.transaction;
+        let empty = ends.filter(|end| !before.waiting.iter().any(|look_up| waits(look_up, end)));
+        self.note("exception or abort, no look-up inside", empty.count());
     }
 
     /// The nothings behind a frame's own record, by what has ended the wait.

@@ -7,12 +7,14 @@ mod discrepancy;
 mod hand_outs;
 mod pair;
 mod steps;
+mod tally;
 mod trays;
 
 pub use coverage::Coverage;
 pub use discrepancy::Discrepancy;
 pub use pair::replay;
 pub use steps::on_any_words;
+pub use tally::Sums;
 
 use crate::generate::Generator;
 use crate::subject::Subject;

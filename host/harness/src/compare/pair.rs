@@ -1,22 +1,25 @@
 //! A space and the reference, side by side, frame by frame.
 
 use super::buffer::{both, Buffer};
+use super::tally::Sums;
 use crate::random::Random;
 use crate::subject::{Beginning, Subject};
 use reference::answer::{Record, STEP};
 use reference::serial::{committed, SerialRun};
 use reference::space::{Outcome, Space};
 
-/// Both, after the same frames, with the serial run of these.
+/// Both, after the same frames, with the serial run and the sums of these.
 pub struct Pair<S> {
     subject: S,
     pub space: Space,
     run: SerialRun,
+    pub sums: Sums,
 }
 
 impl<S: Subject> Pair<S> {
     pub fn begin(at: Beginning) -> Result<Pair<S>, String> {
-        let pair = Pair { subject: S::begin(at), space: at.of_reference(), run: SerialRun::new(at.clock) };
+        let (subject, space, run) = (S::begin(at), at.of_reference(), SerialRun::new(at.clock));
+        let pair = Pair { subject, space, run, sums: Sums::default() };
         match pair.difference() {
             Some(why) => Err(format!("before the first frame: {why}")),
             None => Ok(pair),
@@ -30,6 +33,7 @@ impl<S: Subject> Pair<S> {
         let returned = self.subject.step(frame, ours.area());
         let Outcome { records, number } = self.space.step(frame, theirs.area());
         let wanted = records as u64 + 65536 * u64::from(number);
+        let written = ours.records(0..records);
 
         let why = if returned != wanted {
             Some("the returned numbers differ".to_string())
@@ -38,7 +42,7 @@ impl<S: Subject> Pair<S> {
         } else if number != 0 && self.subject != before {
             Some("a refused frame changed the space".to_string())
         } else {
-            self.difference()
+            self.difference().or_else(|| self.unexplained(frame, &written))
         };
         if let Some(why) = why {
             let returns = format!("{} returned {returned:#x}, the reference {wanted:#x}", S::NAME);
@@ -46,7 +50,6 @@ impl<S: Subject> Pair<S> {
             let answers = both::<S>(frame, &ours.lines(0..count), &theirs.lines(0..records));
             return Err(format!("{why}\n{returns}\n{answers}"));
         }
-        let written = ours.records(0..records);
         self.run.feed(frame, written.iter().copied());
         Ok((written, number))
     }
@@ -54,6 +57,14 @@ impl<S: Subject> Pair<S> {
     /// Whether the serial run of the frames so far succeeds, and leaves the committed entries.
     pub fn finish(&self) -> Result<(), String> {
         self.run.check(&committed(&self.space)).map_err(|why| format!("the serial run: {why}"))
+    }
+
+    /// The sums, if they do not add up after this frame with those that wait by the space's own count; by the
+    /// reference's, if it shows none.
+    fn unexplained(&mut self, frame: &[u8], written: &[Record]) -> Option<String> {
+        self.sums.feed(frame, written);
+        let waiting = self.subject.waiting().unwrap_or(self.space.waiting.len());
+        self.sums.check(waiting).err()
     }
 
     /// The first thing in which the tables differ, if the space shows its own.

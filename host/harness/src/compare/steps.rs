@@ -34,6 +34,7 @@ pub fn by_frames<S: Subject>(generator: &mut Generator, coverage: &mut Coverage)
         }
     }
     coverage.histories += 1;
+    coverage.ended("waiting at the end of a history", pair.sums.tally, pair.space.waiting.len());
     pair.finish().map_err(|why| Discrepancy::of_frames::<S>(at, &frames, STEP, why))
 }
 

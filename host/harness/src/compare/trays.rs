@@ -4,12 +4,19 @@ use super::buffer::{both, Buffer};
 use super::coverage::Coverage;
 use super::discrepancy::Discrepancy;
 use super::pair::replay;
+use super::tally::Sums;
 use crate::generate::Generator;
 use crate::subject::{Beginning, Subject};
 use reference::answer::{Record, RECORD};
 use reference::space::Space;
-use reference::tray::{judge, run_watched, Done};
+use reference::tray::{judge, run_watched};
 use std::ops::Range;
+
+/// A frame as the reference has run it: the places of its records, and how many look-ups wait after it.
+struct Ran {
+    records: Range<usize>,
+    waiting: usize,
+}
 
 /// One tray, run by both; then its frames, one by one, so that the tables are compared behind each.
 pub fn by_tray<S: Subject>(generator: &mut Generator, coverage: &mut Coverage) -> Result<(), Discrepancy> {
@@ -20,27 +27,39 @@ pub fn by_tray<S: Subject>(generator: &mut Generator, coverage: &mut Coverage) -
     let mut ours = theirs.clone();
 
     let returned = S::run_tray(&tray, ours.area());
-    let mut ranges: Vec<Range<usize>> = Vec::new();
+    let mut ran: Vec<Ran> = Vec::new();
     let mut before = Space::new();
     let done = run_watched(&tray, theirs.area(), |place, written, after| {
         let written: Vec<Record> = written.chunks_exact(RECORD).map(Record::read).collect();
         coverage.step(&before, &tray[frames[place].clone()], &written, after);
         before = after.clone();
-        let first = ranges.last().map_or(0, |range| range.end);
-        ranges.push(first..first + written.len());
+        let first = ran.last().map_or(0, |ran| ran.records.end);
+        ran.push(Ran { records: first..first + written.len(), waiting: after.waiting.len() });
     });
     coverage.trays += 1;
     coverage.number(done.number);
 
     if returned != done.packed() || ours != theirs {
         let returns = format!("{} returned {returned:#x}, the reference {:#x}", S::NAME, done.packed());
-        let answers = first_difference::<S>(&ours, &theirs, &tray, &frames, &ranges);
+        let answers = first_difference::<S>(&ours, &theirs, &tray, &frames, &ran);
         let why = format!("a tray's run differs\n{returns}\n{answers}");
         return Err(Discrepancy::of_tray::<S>(&tray, length, why));
     }
-    let Done { frames: ran, .. } = done;
-    let frames: Vec<Vec<u8>> = frames[..ran].iter().map(|frame| tray[frame.clone()].to_vec()).collect();
+    let sums = sums(&ours, &tray, &frames, &ran).map_err(|why| Discrepancy::of_tray::<S>(&tray, length, why))?;
+    coverage.ended("waiting at the end of a tray", sums.tally, before.waiting.len());
+    let frames: Vec<Vec<u8>> = frames[..done.frames].iter().map(|frame| tray[frame.clone()].to_vec()).collect();
     replay::<S>(Beginning::EMPTY, &frames).map_err(|why| Discrepancy::of_tray::<S>(&tray, length, why))
+}
+
+/// The sums of a tray's run, from its frames and the space's answers. They must add up after every frame with those that
+/// wait in the reference: a tray's run leaves no words to count them in.
+fn sums(ours: &Buffer, tray: &[u8], frames: &[Range<usize>], ran: &[Ran]) -> Result<Sums, String> {
+    let mut sums = Sums::default();
+    for (place, Ran { records, waiting }) in ran.iter().enumerate() {
+        sums.feed(&tray[frames[place].clone()], &ours.records(records.clone()));
+        sums.check(*waiting).map_err(|why| format!("frame {} of the tray: {why}", place + 1))?;
+    }
+    Ok(sums)
 }
 
 /// The frame in whose records two answers areas first differ, with both answers.
@@ -49,15 +68,15 @@ fn first_difference<S: Subject>(
     theirs: &Buffer,
     tray: &[u8],
     frames: &[Range<usize>],
-    ranges: &[Range<usize>],
+    ran: &[Ran],
 ) -> String {
     let Some(at) = ours.bytes.iter().zip(&theirs.bytes).position(|(a, b)| a != b) else {
         return "the answers areas are equal".to_string();
     };
     let record = at.saturating_sub(ours.area.start) / RECORD;
-    match ranges.iter().position(|range| range.contains(&record)) {
+    match ran.iter().position(|ran| ran.records.contains(&record)) {
         Some(place) => {
-            let range = ranges[place].clone();
+            let range = ran[place].records.clone();
             let frame = &tray[frames[place].clone()];
             let answers = both::<S>(frame, &ours.lines(range.clone()), &theirs.lines(range));
             format!("frame {} of the tray: {answers}", place + 1)
