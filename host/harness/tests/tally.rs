@@ -1,9 +1,9 @@
-//! The sums of a history, kept frame by frame: as by the definition, and a lost or invented answer is told at its frame.
+//! The sums of a history, kept frame by frame: as by the definition; a lost or invented answer is told at its frame.
 
 use harness::compare::Sums;
 use harness::generate::Generator;
 use reference::answer::{Kind, Record, RECORD};
-use reference::space::Space;
+use reference::space::{LookUp, Space};
 use reference::tray::{judge, run_watched};
 use tray::tally::{Logged, Tally};
 
@@ -55,39 +55,41 @@ fn kept_by_frames_as_by_the_definition() {
     assert!(all.found > 1000 && all.nothing > 1000 && all.closed > 50, "{all:?}");
 }
 
-/// Each answer in turn is taken for a waiting, and given once more. Only the end of a transaction in which nobody waits
-/// does not count.
+/// Whether the sums add up if the step is answered with these records.
+fn adds_up(sums: &Sums, step: &Step, records: &[Record]) -> bool {
+    let mut sums = sums.clone();
+    sums.feed(&step.frame, records);
+    sums.check(step.after.waiting.len()).is_ok()
+}
+
+/// Loses the record with this place (it becomes a waiting), and gives it twice. Gives its kind, if the sums must tell.
+fn try_record(sums: &Sums, step: &Step, place: usize) -> Option<u8> {
+    let records = step.records();
+    let record = records[place];
+    let mut lost = records.clone();
+    lost[place].kind = Kind::Waiting as u8;
+    let twice: Vec<Record> = records.into_iter().chain([record]).collect();
+    let waits = |look_up: &LookUp| (look_up.party, look_up.transaction) == (record.party, record.transaction);
+    let answers = record.is(Kind::Found) || record.is(Kind::Nothing);
+    let ends_a_wait = !answers && step.before.waiting.iter().any(waits);
+    assert_eq!(adds_up(sums, step, &lost), !answers && !ends_a_wait, "{record:?}");
+    assert_eq!(adds_up(sums, step, &twice), !answers, "{record:?}");
+    (answers || ends_a_wait).then_some(record.kind)
+}
+
+/// Only the end of a transaction in which nobody waits does not count.
 #[test]
 fn lost_and_invented_answers_are_told() {
-    let mut told = [0; 16];
-    for seed in 0..60 {
+    let mut told: Vec<u8> = Vec::new();
+    for steps in (0..60).map(steps) {
         let mut sums = Sums::default();
-        for step in steps(seed) {
-            let (records, waiting) = (step.records(), step.after.waiting.len());
-            let check = |records: &[Record]| {
-                let mut sums = sums.clone();
-                sums.feed(&step.frame, records);
-                sums.check(waiting).is_ok()
-            };
-            for (place, record) in records.iter().enumerate() {
-                if !CLOSING.iter().any(|&kind| record.is(kind)) {
-                    continue;
-                }
-                let mut lost = records.clone();
-                lost[place].kind = Kind::Waiting as u8;
-                let invented: Vec<Record> = records.iter().chain([record]).copied().collect();
-                let answers = record.is(Kind::Found) || record.is(Kind::Nothing);
-                let waited = step
-                    .before
-                    .waiting
-                    .iter()
-                    .any(|look_up| look_up.party == record.party && look_up.transaction == record.transaction);
-                assert_eq!(check(&lost), !answers && !waited, "seed {seed}: {record:?}");
-                assert_eq!(check(&invented), !answers, "seed {seed}: {record:?}");
-                told[usize::from(record.kind)] += usize::from(answers || waited);
-            }
-            sums.feed(&step.frame, &records);
+        for step in &steps {
+            let closing = |place: &usize| CLOSING.iter().any(|&kind| step.records()[*place].is(kind));
+            let places = (0..step.records().len()).filter(closing);
+            told.extend(places.filter_map(|place| try_record(&sums, step, place)));
+            sums.feed(&step.frame, &step.records());
         }
     }
-    assert!(CLOSING.iter().all(|&kind| told[kind as usize] > 10), "{told:?}");
+    let times = CLOSING.map(|kind| told.iter().filter(|&&it| it == kind as u8).count());
+    assert!(times.iter().all(|&times| times > 10), "{times:?}");
 }

@@ -5,7 +5,7 @@ use crate::common::{files, random_text, tray};
 use crate::draw::{histories, history};
 use tray::history::{run, History, Outcome};
 use tray::record::{ABORTED, EXCEPTION, FOUND, NOTHING, WAITING};
-use tray::tally::{fates, Fate, Tally};
+use tray::tally::{fates, Tally};
 use tray::text::parse;
 use tray::waiting::{words, Account};
 
@@ -27,34 +27,32 @@ fn first(history: &History, frames: usize) -> History {
     history
 }
 
-/// After every frame the equation holds, no waiting look-up has an available entry, and those that frames and answers
-/// leave open are those that wait, in order of arrival.
+/// The equation holds, no waiting look-up has an available entry, and those that frames and answers leave open are
+/// those that wait, in order of arrival.
+fn is_explained(history: &History) {
+    let account = Account::of(history);
+    let (title, frames) = (&history.title, history.steps.len());
+    assert_eq!(account.faults(), [""; 0], "{title}, frame {frames}");
+    let open = account.fates.iter().filter(|fate| fate.closed.is_none());
+    let open: Vec<(u8, u32)> = open.map(|fate| (fate.party, fate.transaction)).collect();
+    let waiting = history.last().look_ups.iter().map(|look_up| (look_up.party, look_up.transaction));
+    assert_eq!(open, waiting.collect::<Vec<_>>(), "{title}, frame {frames}");
+}
+
 #[test]
 fn every_list_is_explained() {
-    let mut closed = [0; 16];
+    let mut closed = [0; 4];
     let random = (1..600).map(|seed| history(&random_text(seed, 60)));
     for history in histories().into_iter().chain(random) {
-        for frames in 0..=history.steps.len() {
-            let history = first(&history, frames);
-            let account = Account::of(&history);
-            assert_eq!(account.faults(), [""; 0], "{}, frame {frames}", history.title);
-            let open = account.fates.iter().filter(|fate| fate.closed.is_none());
-            let open: Vec<(u8, u32)> = open.map(|fate| (fate.party, fate.transaction)).collect();
-            let waiting = history.last().look_ups.iter().map(|look_up| (look_up.party, look_up.transaction));
-            assert_eq!(open, waiting.collect::<Vec<_>>(), "{}, frame {frames}", history.title);
-        }
-        let (account, log) = (Account::of(&history), history.log());
-        assert_eq!(account.tally, Tally::of(&log));
-        for kind in account.fates.iter().filter_map(Fate::closed_as) {
-            closed[usize::from(kind)] += 1;
-        }
+        (0..=history.steps.len()).for_each(|frames| is_explained(&first(&history, frames)));
+        let Account { fates, tally, .. } = Account::of(&history);
+        let closed_as = |kind| fates.iter().filter(|fate| fate.closed_as() == Some(kind)).count();
+        let by_kind = [FOUND, NOTHING, ABORTED, EXCEPTION].map(closed_as);
         // Each found and each nothing closes one look-up.
-        let closed_as = |kind| account.fates.iter().filter(|fate| fate.closed_as() == Some(kind)).count();
-        assert_eq!((account.tally.found, account.tally.nothing), (closed_as(FOUND), closed_as(NOTHING)));
+        assert_eq!([tally.found, tally.nothing], by_kind[..2], "{}", history.title);
+        closed.iter_mut().zip(by_kind).for_each(|(all, here)| *all += here);
     }
-    for kind in [FOUND, NOTHING, ABORTED, EXCEPTION] {
-        assert!(closed[usize::from(kind)] > 20, "{} closed by kind {kind}", closed[usize::from(kind)]);
-    }
+    assert!(closed.iter().all(|&times| times > 20), "{closed:?}");
 }
 
 /// By which record, of which frame, each look-up of an example is closed.
@@ -73,8 +71,8 @@ fn fates_of_an_example() {
     assert_eq!(Tally::of(&withdrawn.log()), Tally { asked: 4, found: 3, nothing: 0, closed: 1 });
 }
 
-/// The tallies that WaitingList.antt calls wrong do not add up here either: a withdrawn look-up counted as nothing, too;
-/// exceptions alone; every end of a transaction, whether a look-up waited inside or not.
+/// The tallies that WaitingList.antt calls wrong do not add up here either: a withdrawn look-up counted as nothing,
+/// too; exceptions alone; every end of a transaction, whether a look-up waited inside or not.
 #[test]
 fn wrong_tallies_do_not_add_up() {
     let history = history(&file(WITHDRAWN));

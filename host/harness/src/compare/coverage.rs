@@ -21,9 +21,6 @@ const SITUATIONS: [&str; 36] = [
     "found in the tick of the deadline",
     "look-up closed by an exception",
     "look-up withdrawn by an abort",
-    "exception or abort, no look-up inside",
-    "waiting at the end of a tray",
-    "waiting at the end of a history",
     "withdrawn, and others served in the step",
     "waits inside, commit of the same",
     "waits inside, abort of another of its own",
@@ -48,6 +45,9 @@ const SITUATIONS: [&str; 36] = [
     "in vain and by deadline in one tick",
     "IfExists, conflict left, by deadline",
     "entry with three read holds",
+    "exception or abort, no look-up inside",
+    "waiting at the end of a tray",
+    "waiting at the end of a history",
 ];
 
 #[derive(Default)]

@@ -1,6 +1,6 @@
 //! The sums of a history (document 02, T-11), kept frame by frame "from frames and answers alone": look-ups not refused
-//! = found + nothing + look-ups closed by an exception or abort + still waiting. `tray::tally` has them by the definition,
-//! for a whole history.
+//! = found + nothing + look-ups closed by an exception or abort + still waiting. `tray::tally` has them by the
+//! definition, for a whole history.
 
 use reference::answer::{Kind, Record};
 use reference::frame::{word, LOOK_UPS};

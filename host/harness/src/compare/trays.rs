@@ -51,8 +51,8 @@ pub fn by_tray<S: Subject>(generator: &mut Generator, coverage: &mut Coverage) -
     replay::<S>(Beginning::EMPTY, &frames).map_err(|why| Discrepancy::of_tray::<S>(&tray, length, why))
 }
 
-/// The sums of a tray's run, from its frames and the space's answers. They must add up after every frame with those that
-/// wait in the reference: a tray's run leaves no words to count them in.
+/// The sums of a tray's run, from its frames and the space's answers. They must add up after every frame with those
+/// that wait in the reference: a tray's run leaves no words to count them in.
 fn sums(ours: &Buffer, tray: &[u8], frames: &[Range<usize>], ran: &[Ran]) -> Result<Sums, String> {
     let mut sums = Sums::default();
     for (place, Ran { records, waiting }) in ran.iter().enumerate() {
