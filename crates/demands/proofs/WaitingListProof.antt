@@ -3,16 +3,15 @@
 use Prim.Native.Nat.{ℕ, _+_}
 use mathlib.Core.Bool.{Bool, true, false, not, cond, _&&_}
 use mathlib.Core.Logic.{⊎-elim}
-use mathlib.Core.Path.{_≡_, refl, sym, ap, ap₂, _∙_, subst, subst⁻¹}
-use mathlib.Core.List.{List, [], _∷_, _++_, map, map-append, List·Memᴰ}
+use mathlib.Core.Path.{_≡_, refl, sym, ap, _∙_}
+use mathlib.Core.List.{List, [], _∷_, _++_, map, map-append}
 use native.Mathlib.Omega.{arith}
 use borrow.Author.Tests.{eq-eqb, ne-eqb, eqb-true, eqb-false}
 use lib.Dec.{eqb}
 use lib.ListN.{length, length-append}
 use Rattle.rules.specs.declared.Record.{Record}
-use Rattle.rules.specs.declared.Txn.{Txn}
 use Rattle.rules.specs.declared.LookUp.{LookUp}
-use Rattle.rules.specs.Lists.{filterb}
+use Rattle.rules.specs.Lists.{filterb, All}
 use Rattle.rules.specs.Numbers.{kindException}
 use Rattle.rules.specs.State.{Model, empty}
 use Rattle.rules.specs.Frame.{Frame, decode}
@@ -24,6 +23,7 @@ use Rattle.rules.specs.Transactions.{create, commit, abort}
 use Rattle.rules.specs.Tick.{dropEnded}
 use Rattle.rules.specs.Refusals.{refusal}
 use Rattle.rules.specs.SerialRun.{Logged}
+use Rattle.rules.specs.Sound.{Consistent}
 use Rattle.rules.proofs.ListLaws.{count, count-cons, count-append, count-map, length-split, filter-agree, filter-pass}
 use Rattle.rules.proofs.BoolLaws.{or-left, or-right, bool-cases}
 use Rattle.rules.proofs.LayoutLaws.{abort-ends}
@@ -32,15 +32,15 @@ use Rattle.demands.specs.History.{recordsOf, EveryState}
 use Rattle.demands.specs.Book.{names}
 use Rattle.demands.specs.Answers.{closes}
 use Rattle.demands.specs.Consequences.{ConsequencesFollow}
-use Rattle.demands.specs.WaitingList.{isAsked, closedAs, fates, isFound, isNothing, byTxn, said, tallyOf, Balances}
-use Rattle.demands.specs.WaitingList.{WaitingListFollows}
+use Rattle.demands.specs.WaitingList.{isAsked, closedAs, fates, isFound, isNothing, byTxn, said, tallyOf}
+use Rattle.demands.specs.WaitingList.{Balances, WaitingListFollows}
 use Rattle.demands.proofs.Runs.{runs, made}
-use Rattle.demands.proofs.AllLaws.{All, filter-map}
+use Rattle.sound.proofs.AllLaws.{filter-map}
 use Rattle.demands.proofs.BookProof.{named, itself}
-use Rattle.demands.proofs.Events.{Heard, asking, saying, Event, refuses, asks, writes, is-found, is-nothing}
-use Rattle.demands.proofs.Events.{is-waiting, creates, commits, aborts, ticks, excepts, expires}
-use Rattle.demands.proofs.Consistent.{Consistent, owner-inside}
-use Rattle.demands.proofs.ConsistentProof.{Reader, hearsAll, readsLog, made-keep}
+use Rattle.sound.proofs.Events.{Heard, asking, saying, Event, refuses, asks, writes, is-found, is-nothing, is-waiting}
+use Rattle.sound.proofs.Events.{creates, commits, aborts, ticks, excepts, expires}
+use Rattle.sound.proofs.Consistent.{owner-inside}
+use Rattle.demands.proofs.ByEvents.{Reader, hearsAll, readsLog, made-keep}
 use Rattle.demands.proofs.ByRule.{rules-follow}
 use Rattle.demands.proofs.Follows.{of-log}
 use Rattle.demands.proofs.DeterminedProof.{determined-run, twins}
