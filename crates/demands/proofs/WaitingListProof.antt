@@ -123,7 +123,8 @@ fate : List Record → Named → ℕ
 fate rs o = closedAs (o .0) (o .1) rs
 
 hears-all : (q : ℕ → Bool) (f : Frame) (rs later : List Record) (s : Sums)
-    → hearsAll sums f (map saying rs) s .closed q + count (λ o. q (fate later o)) (hearsAll sums f (map saying rs) s .waiting)
+    → hearsAll sums f (map saying rs) s .closed q
+    + count (λ o. q (fate later o)) (hearsAll sums f (map saying rs) s .waiting)
     ≡ s .closed q + count (λ o. q (fate (rs ++ later) o)) (s .waiting)
 unfolding fate closedAs sums
 hears-all q f [] later s = refl
@@ -154,8 +155,12 @@ unfolding fate closedAs fates recordsOf readsLog
 reads-closed q z [] s = omega (arith, nobody (λ o. q (fate (recordsOf []) o)) (λ o. z) (s .waiting))
 reads-closed q z (l ∷ ls) s =
     ap (λ v. readsLog sums ls v .closed q) (heard-so (isAsked l) f (l .records) s)
-    ∙ omega (arith, reads-closed q z ls (hearsAll sums f (map saying (l .records)) (arrives (isAsked l) f s)),
-    hears-all q f (l .records) (recordsOf ls) (arrives (isAsked l) f s), arrived (isAsked l))
+    ∙ omega (
+      arith,
+      reads-closed q z ls (hearsAll sums f (map saying (l .records)) (arrives (isAsked l) f s)),
+      hears-all q f (l .records) (recordsOf ls) (arrives (isAsked l) f s),
+      arrived (isAsked l),
+    )
   where
     f : Frame
     f = decode (l .frame)
@@ -169,8 +174,12 @@ reads-closed q z (l ∷ ls) s =
         + count q (cond b (fate (l .records ++ recordsOf ls) (f .party, f .txn) ∷ fates ls) (fates ls))
     arrived true =
         let me : Named = (f .party, f .txn) in
-        omega (arith, count-append closedLater (s .waiting) (me ∷ []), count-cons closedLater me [],
-        count-cons q (fate (l .records ++ recordsOf ls) me) (fates ls))
+        omega (
+          arith,
+          count-append closedLater (s .waiting) (me ∷ []),
+          count-cons closedLater me [],
+          count-cons q (fate (l .records ++ recordsOf ls) me) (fates ls),
+        )
     arrived false = refl
 
 asked-same : (f : Frame) (rs : List Record) (s : Sums) → hearsAll sums f (map saying rs) s .asked ≡ s .asked
@@ -185,8 +194,13 @@ reads-asked (l ∷ ls) s =
     let f = decode (l .frame) in
     let t = hearsAll sums f (map saying (l .records)) (arrives (isAsked l) f s) in
     ap (λ v. readsLog sums ls v .asked) (heard-so (isAsked l) f (l .records) s)
-    ∙ omega (arith, reads-asked ls t, asked-same f (l .records) (arrives (isAsked l) f s), arrived (isAsked l),
-    count-cons isAsked l ls)
+    ∙ omega (
+      arith,
+      reads-asked ls t,
+      asked-same f (l .records) (arrives (isAsked l) f s),
+      arrived (isAsked l),
+      count-cons isAsked l ls,
+    )
   where
     arrived : (b : Bool) → arrives b (decode (l .frame)) s .asked ≡ s .asked + one b
     arrived true = refl
@@ -206,8 +220,13 @@ reads-told q (l ∷ ls) s =
     let f = decode (l .frame) in
     let t = hearsAll sums f (map saying (l .records)) (arrives (isAsked l) f s) in
     ap (λ v. readsLog sums ls v .told q) (heard-so (isAsked l) f (l .records) s)
-    ∙ omega (arith, reads-told q ls t, told-more q f (l .records) (arrives (isAsked l) f s), arrived (isAsked l),
-    count-append (λ (a : Record). q (a .kind)) (l .records) (recordsOf ls))
+    ∙ omega (
+      arith,
+      reads-told q ls t,
+      told-more q f (l .records) (arrives (isAsked l) f s),
+      arrived (isAsked l),
+      count-append (λ (a : Record). q (a .kind)) (l .records) (recordsOf ls),
+    )
   where
     arrived : (b : Bool) → arrives b (decode (l .frame)) s .told q ≡ s .told q
     arrived true = refl
@@ -252,7 +271,6 @@ closing : (a : Record) (p : LookUp → Bool) {m : Model} {s : Sums} {ws : List L
     → All (λ v. shuts a (nameOf v) ≡ p v) (m .waits) → filterb (λ v. not (p v)) (m .waits) ≡ ws → Stands m s
     → (hearsOne a s .waiting ≡ map nameOf ws) × (count (shuts a) (s .waiting) ≡ count p (m .waits))
     × (count p (m .waits) + length ws ≡ length (m .waits))
-
 closing a p {m} {s} {ws} same left h = (
   ap (filterb (λ o. not (shuts a o))) (h .waiting) ∙ filter-map (λ o. not (shuts a o)) nameOf (m .waits)
       ∙ ap (map nameOf) (filter-agree _ (λ v. not (p v)) (m .waits) (λ v i. ap not (same v i)) ∙ left),
@@ -280,7 +298,8 @@ shuts-named p t v = rw (eqb-flip p (v .party), eqb-flip t (v .txn .0)) (go (eqb 
 shuts-inside : (p t : ℕ) (v : LookUp) → (v .txn .0 ≡ t → v .party ≡ p)
     → (eqb p (v .party) && eqb t (v .txn .0) && true) ≡ eqb (v .txn .0) t
 shuts-inside p t v h =
-    shuts-named p t v ∙ ⊎-elim (λ e. rw (e, eq-eqb (v .party) p (h (eqb-true _ t e))) refl) (λ e. rw e (go (eqb (v .party) p)))
+    shuts-named p t v
+    ∙ ⊎-elim (λ e. rw (e, eq-eqb (v .party) p (h (eqb-true _ t e))) refl) (λ e. rw e (go (eqb (v .party) p)))
     (bool-cases (eqb (v .txn .0) t))
   where
     go : (x : Bool) → (x && false) ≡ false
@@ -308,7 +327,9 @@ unfolding sums written stored found nothing waiting created create committed com
 sum-event s (refuses m bs area q) k h = unmoved (refused bs (refusal m bs area)) refl refl refl refl h
 sum-event {f} s (asks m t a) k h =
     record {
-      waiting = ap (λ l. l ++ ((f .party, f .txn) ∷ [])) (h .waiting) ∙ sym (map-append nameOf (m .waits) (lookUpOf m f ∷ []));
+      waiting =
+          ap (λ l. l ++ ((f .party, f .txn) ∷ [])) (h .waiting)
+          ∙ sym (map-append nameOf (m .waits) (lookUpOf m f ∷ []));
       sum = let e = h .sum in omega (arith, length-append (m .waits) (lookUpOf m f ∷ []));
       founds = h .founds;
       nothings = h .nothings;
@@ -335,14 +356,16 @@ sum-event {f} s (is-nothing m w ws o z) k h =
 sum-event {f} s (is-waiting m w i q n d c) k h = unmoved (waiting w) refl refl refl refl h
 sum-event {f} s (creates m t a) k h = unmoved (created f (m .nextTxn)) refl refl refl refl h
 sum-event {f} s (commits m t a) k h = unmoved (committed f) refl refl refl refl h
-sum-event {f} s (aborts m t a) k h = 
+sum-event {f} s (aborts m t a) k h =
     ended h (aborted f)
-    (λ v i. shuts-inside (f .party) (f .txn) v (owner-inside k (a .ends (abort-ends (f .op) t)) v i)) refl refl refl refl
+    (λ v i. shuts-inside (f .party) (f .txn) v (owner-inside k (a .ends (abort-ends (f .op) t)) v i))
+    refl refl refl refl
 sum-event {f} s (ticks m t a) k h = unmoved ticked refl refl refl refl h
-sum-event {f} s (excepts m t j i r) k h = 
+sum-event {f} s (excepts m t j i r) k h =
     ended h (exception t)
     (λ v l. shuts-inside (t .party) (t .id .0) v (owner-inside k (t, i, refl, refl) v l)) refl refl refl refl
-sum-event s (expires m k) j h = record { waiting = h .waiting; sum = h .sum; founds = h .founds; nothings = h .nothings }
+sum-event s (expires m k) j h =
+    record { waiting = h .waiting; sum = h .sum; founds = h .founds; nothings = h .nothings }
 
 -- ---- of every list of frames
 
