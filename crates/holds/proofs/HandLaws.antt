@@ -78,10 +78,10 @@ unmarked n t x =
 
 module _ (ws : List ℕ) (w : LookUp) (p : ℕ) (q : p ≡ slotOf (liveTxn (w .txn .0) (view ws .txns))) where
   -- the oldest entry that is available, and whether one conflicts
-  pub first-available : oldest (view ws .txns) w (view ws .entries) ≡ findb (availableAt p w) (view ws .entries)
+  pub first-available : (es : List Entry) → oldest (view ws .txns) w es ≡ findb (availableAt p w) es
   unfolding available availableAt readByOther
-  first-available =
-      ap (λ drop. findb (λ e. availableIf (not (eqb (drop (e .readers)) 0)) w e) (view ws .entries))
+  first-available es =
+      ap (λ drop. findb (λ e. availableIf (not (eqb (drop (e .readers)) 0)) w e) es)
       (drops ws (w .txn .0) p q)
 
   pub some-conflict : someConflicts (view ws .txns) w (view ws .entries) ≡ anyb (conflictsAt p w) (view ws .entries)

@@ -1,13 +1,14 @@
 -- A pass over the entries, row by row.
-use Prim.Native.Nat.{ℕ, zero, suc, _+_, _<_}
+use Prim.Native.Nat.{ℕ, zero, suc, _+_, _≤_, _<_}
 use mathlib.Core.Bool.{Bool, true, false, cond, not}
 use mathlib.Core.Logic.{⊎-elim}
-use mathlib.Core.Path.{_≡_, refl, sym, ap, _∙_, subst}
-use mathlib.Core.List.{List}
+use mathlib.Core.Path.{_≡_, refl, sym, ap, ap₂, _∙_, subst}
+use mathlib.Core.List.{List, [], _∷_, _++_, map, map-append}
 use native.Mathlib.Omega.{arith}
 use native.Mathlib.Numerals.{add-one}
 use lib.Dec.{eqb}
-use lib.ListN.{length, set}
+use lib.ListN.{length, set, take, drop, take-append-drop}
+use lib.Seq.{take-all, take-append-le}
 use Rattle.rules.specs.declared.Entry.{Entry}
 use Rattle.rules.specs.declared.EntryId.{EntryId}
 use Rattle.rules.specs.declared.TxnId.{TxnId}
@@ -17,13 +18,16 @@ use Rattle.rules.specs.Holds.{dropReader}
 use Rattle.rules.specs.Transactions.{privateTo, takenBy}
 use Rattle.holds.specs.declared.sweep.Sweep.{Sweep}
 use Rattle.holds.specs.declared.sweep.Sweep.the-variants.{Expire, Commit, Abort, Remove, Mark}
-use Rattle.rules.specs.Words.{row, entryOf, entryWords, entryCount, entryCountAt, entries, view}
+use Rattle.rules.specs.Lists.{filterb}
+use Rattle.rules.proofs.ListLaws.{filter-append}
+use Rattle.rules.specs.Words.{upTo, row, entryOf, entryWords, entryCount, entryCountAt, entries, view}
 use Rattle.rules.specs.Numbers.{maxEntries}
 use Rattle.rules.specs.State.{holding}
 use Rattle.words.specs.Rows.{entryRow, byteValues}
 use Rattle.holds.specs.Live.{noSlot}
 use Rattle.holds.specs.Sweep.{dropAt, releasedAt, markedAt, keeps, changes, KeptAt, OthersBefore, Still}
-use Rattle.holds.specs.Sweep.{sweepModel}
+use Rattle.holds.specs.Sweep.{FreeBefore, swept, sweepModel, SameBefore}
+use Rattle.words.proofs.UpToLaws.{length-upTo, take-upTo}
 use Rattle.words.proofs.CompactLaws.{Compacting, compact-start, compact-same, compact-put, compact-done}
 use Rattle.words.proofs.Tables.{entryTable, view-entries, Storable, held-fits, entry-back}
 use Rattle.rules.specs.Words.{entriesAt, entryWidth, spaceWords}
@@ -76,6 +80,45 @@ pub still-mark : (n : EntryId) (takes : Bool) (t : TxnId) (p : ℕ) (ws : List �
     → Still (Mark n takes t p) ws r
 still-mark n takes t p ws r h k l =
     (refl, ap (λ b. cond b (markedAt takes t p (entryRow ws k)) (entryRow ws k)) (h k l))
+
+-- nor does the end of a transaction touch the rows of which it has nothing
+module _ (t : TxnId) (p : ℕ) (ws : List ℕ) (r : ℕ) (h : FreeBefore (t .0) p ws r) where
+  pub still-commit : Still (Commit t p) ws r
+  still-commit k l = (ap not (h k l .untaken), h k l .unheld)
+
+  pub still-abort : Still (Abort t p) ws r
+  still-abort k l = (ap not (h k l .unwritten), h k l .unheld)
+
+-- rows that stay as they are stand in front
+module _ (s : Sweep) where
+  swept-append : (xs ys : List Entry) → swept s (xs ++ ys) ≡ swept s xs ++ swept s ys
+  swept-append xs ys =
+      ap (map (changes s)) (filter-append (keeps s) xs ys)
+      ∙ map-append (changes s) (filterb (keeps s) xs) (filterb (keeps s) ys)
+
+  swept-still : (f : ℕ → Entry) (r : ℕ) → ((k : ℕ) → k < r → (keeps s (f k) ≡ true) × (changes s (f k) ≡ f k))
+      → swept s (upTo f r) ≡ upTo f r
+  swept-still f zero h = refl
+  swept-still f (suc r) h =
+      let a = h r (omega arith) in
+      swept-append (upTo f r) (f r ∷ [])
+      ∙ ap₂ (λ xs b. xs ++ map (changes s) (cond b (f r ∷ []) [])) (swept-still f r (λ k l. h k (omega arith))) (a .0)
+      ∙ ap (λ x. upTo f r ++ (x ∷ [])) (a .1)
+
+  pub same-before : (ws : List ℕ) (r : ℕ) → r ≤ entryCount ws → Still s ws r
+      → SameBefore r (view ws) (sweepModel s (view ws))
+  unfolding sweepModel view entries
+  same-before ws r l h =
+      let f = entryRow ws in
+      let n = entryCount ws in
+      let front = take-upTo f n r l in
+      let parts = sym (take-append-drop r (upTo f n)) ∙ ap (λ xs. xs ++ drop r (upTo f n)) front in
+      ap (λ xs. take r (swept s xs)) parts
+      ∙ ap (take r) (swept-append (upTo f r) (drop r (upTo f n)))
+      ∙ ap (λ xs. take r (xs ++ swept s (drop r (upTo f n)))) (swept-still f r h)
+      ∙ take-append-le r (upTo f r) (swept s (drop r (upTo f n))) (omega (arith, length-upTo f r))
+      ∙ take-all r (upTo f r) (omega (arith, length-upTo f r))
+      ∙ sym front
 
 -- the count is set, and the pass is done
 pub sweep-done : (s : Sweep) {ws₀ ws ws′ : List ℕ} {i n : ℕ} → Sweeping s ws₀ ws i n → length ws₀ ≡ spaceWords

@@ -5,6 +5,7 @@ use mathlib.Core.Logic.{_⊎_}
 use mathlib.Core.Path.{_≡_}
 use mathlib.Core.List.{List, map}
 use lib.Dec.{eqb}
+use lib.ListN.{take}
 use Rattle.rules.specs.declared.Entry.{Entry}
 use Rattle.rules.specs.declared.TxnId.{TxnId}
 use Rattle.rules.specs.Lists.{filterb}
@@ -67,6 +68,16 @@ KeptAt s e i n ws ws′ =
 abbrev pub OthersBefore : ℕ → List ℕ → ℕ → Type 0
 OthersBefore n ws r = (k : ℕ) → k < r → eqb (entryRow ws k .id .0) n ≡ false
 
+-- the transaction t, at slot p, has nothing of the entry
+pub record FreeOf (t p : ℕ) (e : Entry) : Type 0 where
+  pub untaken : takenBy t e ≡ false
+  pub unwritten : privateTo t e ≡ false
+  pub unheld : releasedAt t p e ≡ e
+
+-- nor of any before row r
+abbrev pub FreeBefore : ℕ → ℕ → List ℕ → ℕ → Type 0
+FreeBefore t p ws r = (k : ℕ) → k < r → FreeOf t p (entryRow ws k)
+
 -- every row before r is kept, as it is
 abbrev pub Still : Sweep → List ℕ → ℕ → Type 0
 Still s ws r =
@@ -77,3 +88,7 @@ swept s es = map (changes s) (filterb (keeps s) es)
 
 unfoldable pub sweepModel : Sweep → Model → Model
 sweepModel s m = withEntries (swept s (m .entries)) m
+
+-- the entries before row r are the same
+abbrev pub SameBefore : ℕ → Model → Model → Type 0
+SameBefore r m n = take r (n .entries) ≡ take r (m .entries)

@@ -8,6 +8,7 @@ ghost use Rattle.rules.specs.Words.{view};
 ghost use Rattle.rules.specs.Transactions.{commit, abort};
 ghost use Rattle.words.specs.Rows.{waitRow};
 ghost use Rattle.holds.specs.Leave.{leaves, stays};
+ghost use Rattle.holds.specs.Sweep.{SameBefore};
 use crate::find::is_over;
 use crate::live::remove_txn;
 use crate::live::slot_of;
@@ -63,21 +64,27 @@ pub fn leave_waits(space: &mut Words, l: Leave)
     set_wait_count(space, n);
 }
 
-// Private entries become committed, take-held ones are removed, read holds go.
-pub fn commit_txn(space: &mut Words, id: TxnId)
-    ensures { λ _. ⌜ view (now (space .exit)) ≡ commit (id .0) (view (now (space .entry))) ⌝ }
+// Private entries become committed, take-held ones are removed, read holds go. The row is returned from which on
+// entries change.
+pub fn commit_txn(space: &mut Words, id: TxnId) -> usize
+    ensures { λ r. ⌜ (view (now (space .exit)) ≡ commit (id .0) (view (now (space .entry))))
+        × SameBefore r (view (now (space .entry))) (view (now (space .exit))) ⌝ }
 {
     let p = slot_of(space, id);
-    pass_over(space, Sweep::Commit(id, p));
+    let first = pass_over(space, Sweep::Commit(id, p));
     remove_txn(space, id);
+    first
 }
 
-// Private entries are removed, both kinds of hold go; a look-up that waits inside is closed.
-pub fn abort_txn(space: &mut Words, id: TxnId)
-    ensures { λ _. ⌜ view (now (space .exit)) ≡ abort (id .0) (view (now (space .entry))) ⌝ }
+// Private entries are removed, both kinds of hold go; a look-up that waits inside is closed. The row is returned from
+// which on entries change.
+pub fn abort_txn(space: &mut Words, id: TxnId) -> usize
+    ensures { λ r. ⌜ (view (now (space .exit)) ≡ abort (id .0) (view (now (space .entry))))
+        × SameBefore r (view (now (space .entry))) (view (now (space .exit))) ⌝ }
 {
     let p = slot_of(space, id);
-    pass_over(space, Sweep::Abort(id, p));
+    let first = pass_over(space, Sweep::Abort(id, p));
     leave_waits(space, Leave::Inside(id));
     remove_txn(space, id);
+    first
 }

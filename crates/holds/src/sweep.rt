@@ -12,7 +12,7 @@ ghost use mathlib.Core.Bool.{true, not, cond, _&&_, _||_};
 ghost use lib.Dec.{eqb};
 ghost use Rattle.rules.specs.Transactions.{noTxn};
 ghost use Rattle.holds.specs.Sweep.{releasedAt, markedAt, keeps, changes, slotIn};
-ghost use Rattle.holds.specs.Sweep.{KeptAt, OthersBefore, Still, sweepModel};
+ghost use Rattle.holds.specs.Sweep.{KeptAt, OthersBefore, FreeOf, FreeBefore, Still, sweepModel, SameBefore};
 use crate::holds::add_reader;
 use crate::holds::drop_reader;
 use crate::holds::has_bit;
@@ -119,7 +119,7 @@ pub(crate) fn change_entry(s: Sweep, e: Entry) -> Entry
 // Whether the transaction t, at slot p, has nothing to release: the entry is not its own, and it holds none on it.
 pub(crate) fn is_free_of(e: Entry, t: TxnId, p: u8) -> bool
     requires { ⌜ p ≤ noSlot ⌝ }
-    ensures { λ r. ⌜ (r ≡ true → releasedAt (t .0) p e ≡ e) ⌝ }
+    ensures { λ r. ⌜ (r ≡ true → FreeOf (t .0) p e) ⌝ }
 {
     if e.private_to.0 == t.0 {
         return false;
@@ -179,25 +179,43 @@ pub(crate) fn row_of(space: &Words, id: EntryId, count: usize) -> usize
     count
 }
 
+// The first of the rows of whose entry the transaction t, at slot p, has anything, or else their count.
+pub(crate) fn first_held(space: &Words, t: TxnId, p: u8, count: usize) -> usize
+    requires { ⌜ (p ≤ noSlot) × (count ≤ maxEntries) ⌝ }
+    ensures { λ r. ⌜ (r ≤ count) × FreeBefore (t .0) p (now (space .entry)) r ⌝ }
+{
+    let mut i: usize = 0;
+    while i < count {
+        let e = entry_at(space, i);
+        if !is_free_of(e, t, p) {
+            return i;
+        }
+        i += 1;
+    }
+    count
+}
+
 // A row before which the pass leaves every row as it is.
 pub(crate) fn first_touched(space: &Words, s: Sweep, count: usize) -> usize
-    requires { ⌜ count ≤ maxEntries ⌝ }
+    requires { ⌜ (slotIn s ≤ noSlot) × (count ≤ maxEntries) ⌝ }
     ensures { λ r. ⌜ (r ≤ count) × Still s (now (space .entry)) r ⌝ }
 {
     match s {
         Sweep::Expire(_) => 0,
-        Sweep::Commit(_, _) => 0,
-        Sweep::Abort(_, _) => 0,
+        Sweep::Commit(t, p) => first_held(space, t, p, count),
+        Sweep::Abort(t, p) => first_held(space, t, p, count),
         Sweep::Remove(n) => row_of(space, n, count),
         Sweep::Mark(n, _, _, _) => row_of(space, n, count),
     }
 }
 
-// One pass over the entries: those that are kept stand in front, changed.
-pub(crate) fn pass_over(space: &mut Words, s: Sweep)
+// One pass over the entries: those that are kept stand in front, changed. The row is returned from which on it changes
+// any.
+pub(crate) fn pass_over(space: &mut Words, s: Sweep) -> usize
     requires { ⌜ slotIn s ≤ noSlot ⌝ }
-    ensures { λ _. ⌜ (view (now (space .exit)) ≡ sweepModel s (view (now (space .entry))))
-        × (length (now (space .exit)) ≡ spaceWords) ⌝ }
+    ensures { λ r. ⌜ (view (now (space .exit)) ≡ sweepModel s (view (now (space .entry))))
+        × (length (now (space .exit)) ≡ spaceWords)
+        × SameBefore r (view (now (space .entry))) (view (now (space .exit))) ⌝ }
 {
     let count = entry_count(space);
     let first = first_touched(space, s, count);
@@ -212,6 +230,7 @@ pub(crate) fn pass_over(space: &mut Words, s: Sweep)
         i += 1;
     }
     set_entry_count(space, n);
+    first
 }
 
 // Whether handing the entry out removes it.

@@ -1,11 +1,11 @@
 -- Lists that ascend by number: of what is left, renewed or added; each number stands once.
 use Prim.Native.Nat.{ℕ, _≤_, _<_}
 use mathlib.Core.Bool.{Bool, true, false, cond, true≢false}
-use mathlib.Core.Logic.{_⊎_, inl, inr}
+use mathlib.Core.Logic.{_⊎_, inl, inr, ⊎-elim}
 use mathlib.Core.Option.{some}
 use mathlib.Core.Path.{_≡_, refl, sym, ap, _∙_, subst⁻¹}
-use mathlib.Core.List.{List, [], _∷_, _++_, map, List·Memᴰ, List·Memᴰ·head, List·Memᴰ·tail, Memᴰ·map, List·Memᴰ·not-nil}
-use mathlib.Core.List.{List·Memᴰ·cases-cons}
+use mathlib.Core.List.{List, [], _∷_, _++_, map, List·Memᴰ, List·Memᴰ·head, List·Memᴰ·tail, Memᴰ·map}
+use mathlib.Core.List.{List·Memᴰ·not-nil, List·Memᴰ·cases-cons, Memᴰ·append-right}
 use native.Mathlib.Omega.{arith}
 use borrow.Author.Tests.{ne-eqb}
 use lib.Dec.{eqb}
@@ -45,6 +45,17 @@ module _ {A : Type 0} (number : A → ℕ) where
         (all-snoc ys (λ z i. a .0 (number z) (Memᴰ·map number i)) (h y (List·Memᴰ·head refl))),
     ascend-snoc x ys (λ z i. h z (List·Memᴰ·tail i)) (a .1),
   )
+
+  -- what stands in front is below what stands behind
+  pub ascend-across : {x y : A} (xs ys : List A) → Ascending (map number (xs ++ ys)) → List·Memᴰ x xs
+      → List·Memᴰ y ys → number x < number y
+  unfolding Ascending
+  ascend-across [] ys a i j = absurd (List·Memᴰ·not-nil i)
+  ascend-across {x} {y} (z ∷ xs) ys a i j =
+      ⊎-elim
+      (λ e. let l = a .0 (number y) (Memᴰ·map number (Memᴰ·append-right xs j)) in
+      let same = ap number e in omega arith)
+      (λ k. ascend-across xs ys (a .1) k j) (List·Memᴰ·cases-cons i)
 
   -- two with one number are one
   pub ascend-unique : {x y : A} {xs : List A} → Ascending (map number xs) → List·Memᴰ x xs → List·Memᴰ y xs

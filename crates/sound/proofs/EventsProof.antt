@@ -82,7 +82,7 @@ module _ (f : Frame) (m : Model) where
       (or-right (hasLeaseOrTimeout (f .op) && not (eqb (f .leaseOrTimeout) forever) && ltb lastClock
       (m .clock + f .leaseOrTimeout)) _ h))
 
-admitted : (m : Model) (bs : List ℕ) (area : ℕ) → Clear m bs area → Admitted (decode bs) m
+pub admitted : (m : Model) (bs : List ℕ) (area : ℕ) → Clear m bs area → Admitted (decode bs) m
 unfolding txnsFull noNumber
 admitted m bs area c =
     let f = decode bs in

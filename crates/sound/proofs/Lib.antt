@@ -19,3 +19,5 @@ pub mod ConsistentProof
 pub mod SoundProof
 -- conflicts that last
 pub mod ConflictLaws
+-- and what its own part sets free
+pub mod FreedLaws

@@ -56,7 +56,7 @@ unfolding liveTxn
 find-snoc t [] x d = rw (ne-eqb (x .id .0) t d)
 find-snoc t (y ∷ ts) x d = ap (λ r. cond (eqb (y .id .0) t) (some y) r) (find-snoc t ts x d)
 
-available-same : (ts us : List Txn) (w : LookUp) → liveTxn (w .txn .0) ts ≡ liveTxn (w .txn .0) us → (e : Entry)
+pub available-same : (ts us : List Txn) (w : LookUp) → liveTxn (w .txn .0) ts ≡ liveTxn (w .txn .0) us → (e : Entry)
     → available ts w e ≡ available us w e
 unfolding available readByOther
 available-same ts us w p e =

@@ -1,36 +1,44 @@
 -- What a frame ends with, part by part.
-use Prim.Native.Nat.{ℕ, _+_, _*_, _≤_}
+use Prim.Native.Nat.{ℕ, _+_, _*_, _≤_, _-_}
 use mathlib.Core.Bool.{Bool, true, false, true≢false, not, cond, _||_}
 use mathlib.Core.Logic.{⊎-elim}
-use mathlib.Core.Path.{_≡_, refl, sym, ap, ap₂, _∙_, subst}
-use mathlib.Core.List.{List, _++_, List·Memᴰ}
+use mathlib.Core.Path.{_≡_, refl, sym, ap, ap₂, _∙_, subst, subst⁻¹, subst₂}
+use mathlib.Core.List.{List, _++_, List·Memᴰ, [], _∷_, Memᴰ·append-left}
 use native.Mathlib.Omega.{arith}
-use lib.ListN.{length, length-map}
+use lib.ListN.{length, length-map, take, drop, take-append-drop}
+use borrow.Author.Tests.{eqb-true}
+use lib.Dec.{eqb}
 use Rattle.rules.specs.declared.LookUp.{LookUp}
 use Rattle.rules.specs.Lists.{filterb}
-use Rattle.rules.specs.Numbers.{recordSize, maxTxns, maxWaits}
-use Rattle.rules.specs.State.{Model, withWaits}
-use Rattle.rules.specs.Done.{Done, quiet}
-use Rattle.rules.specs.Frame.{Frame, isTick, serves}
-use Rattle.rules.specs.Records.{nothing}
-use Rattle.rules.specs.Step.{finish}
+use Rattle.rules.specs.Numbers.{recordSize, maxTxns, maxWaits, maxEntries, opTick}
+use Rattle.rules.specs.State.{Model, withWaits, Bounded}
+use Rattle.rules.specs.Done.{Done, quiet, Carried}
+use Rattle.rules.specs.Frame.{Frame, isTick, serves, isOperation}
+use Rattle.rules.specs.Records.{nothing, exception}
+use Rattle.rules.specs.Step.{finish, ownPart}
 use Rattle.rules.specs.Closing.{isOver, closeWaits, endsConflicts}
-use Rattle.rules.specs.Sound.{Ahead}
+use Rattle.rules.specs.Sound.{Ahead, NoneFor, Sound}
 use Rattle.rules.specs.Service.{service}
-use Rattle.rules.specs.Tick.{lapsed}
+use Rattle.rules.specs.Tick.{lapsed, tick, endedTxns, abortAll, dropEnded}
 use Rattle.rules.specs.Words.{view}
 use Rattle.rules.proofs.BoolLaws.{bool-cases, cond-cases}
-use Rattle.rules.proofs.Capacity.{lapsed-fits, service-fits}
+use Rattle.rules.proofs.Capacity.{lapsed-fits}
 use Rattle.rules.proofs.ListLaws.{filter-pass, count-mem}
-use Rattle.rules.proofs.SoundLaws.{service-ahead, none-existing}
+use Rattle.rules.proofs.SoundLaws.{service-ahead, none-existing, own-ahead}
 use Rattle.rules.proofs.ViewLaws.{view-bounded}
-use Rattle.sound.proofs.ConflictLaws.{leftOf}
 use Rattle.step.specs.declared.finish.Ending.{Ending}
 use Rattle.step.specs.declared.finish.Ending.the-variants.{Quiet, Nothings, Service, Both, Tick}
 use Rattle.step.specs.Does.{Does}
-use Rattle.step.specs.Ending.{inTick, served, closing, EndsAs, endedBy, servedBy, someIfExists, closedInVain}
-use Rattle.step.specs.Ending.{closedBy, finishedBy}
+use Rattle.step.specs.Ending.{inTick, served, closing, EndsAs, endedBy, someIfExists, closedInVain, closedBy}
+use Rattle.step.specs.Ending.{finishedBy, firstFree}
 use Rattle.step.proofs.AddsLaws.{does-then}
+use Rattle.sound.proofs.Events.{Admitted}
+use Rattle.sound.proofs.OwnPartLaws.{part-at}
+use Rattle.sound.proofs.ConflictLaws.{leftOf, nobody-over}
+use Rattle.sound.proofs.FreedLaws.{own-freed, none-expired}
+use Rattle.holds.specs.Sweep.{SameBefore}
+use Rattle.step.specs.From.{serviceFrom}
+use Rattle.step.proofs.FromLaws.{service-idle, service-whole, from-none, service-from, from-counts}
 
 -- none is over: all wait on
 pub none-closed : (m : Model) → length (closeWaits m .records) ≡ 0 → m ≡ closeWaits m .model
@@ -46,13 +54,19 @@ none-closed m e =
         ⊎-elim (λ t. absurd (omega (arith, e, count-mem due i t, length-map (filterb due (m .waits)) nothing)))
         (λ t. t) (bool-cases (due w))
 
+-- what a frame ends with, from what has ended and what service gave
+abbrev closedAfter : Ending → Done → Done → Done
+closedAfter e d v =
+    let c = closedBy e (v .model) in
+    record { model = c .model; records = d .records ++ v .records ++ c .records }
+
 -- a frame that ends with nothing more does no more
-pub quiet-ends : (e : Ending) (m : Model) → (served e || closing e) ≡ false → finishedBy e m ≡ quiet m
-quiet-ends Quiet m t = refl
-quiet-ends Nothings m t = absurd (true≢false t)
-quiet-ends Service m t = absurd (true≢false t)
-quiet-ends Both m t = absurd (true≢false t)
-quiet-ends Tick m t = absurd (true≢false t)
+pub quiet-ends : (e : Ending) (k : ℕ) (m : Model) → length (m .entries) ≤ maxEntries → (served e || closing e) ≡ false → finishedBy e k m ≡ quiet m
+quiet-ends Quiet k m b t = ap (closedAfter Quiet (quiet m)) (from-none maxEntries m b)
+quiet-ends Nothings k m b t = absurd (true≢false t)
+quiet-ends Service k m b t = absurd (true≢false t)
+quiet-ends Both k m b t = absurd (true≢false t)
+quiet-ends Tick k m b t = absurd (true≢false t)
 
 module _ (ws : List ℕ) (e : Ending) where
   -- at most 8 exceptions
@@ -61,18 +75,18 @@ module _ (ws : List ℕ) (e : Ending) where
       cond-cases (λ (d : Done). length (d .records) ≤ maxTxns) (inTick e)
       (λ t. lapsed-fits (view ws) (view-bounded ws) .records-fit) (λ t. omega arith)
 
-  -- a found for each look-up that waits no longer
-  pub few-served : length (servedBy e (view ws) .records) + length (servedBy e (view ws) .model .waits) ≤ maxWaits
-  few-served =
-      cond-cases (λ (d : Done). length (d .records) + length (d .model .waits) ≤ maxWaits) (served e)
-      (λ t. service-fits (view ws) (view-bounded ws) .1) (λ t. omega (arith, view-bounded ws .waits-fit))
+-- a found for each look-up that waits no longer
+pub few-served : (ws : List ℕ) (k : ℕ)
+    → length (serviceFrom k (view ws) .records) + length (serviceFrom k (view ws) .model .waits) ≤ maxWaits
+few-served ws k = omega (arith, from-counts k (view ws), view-bounded ws .waits-fit)
 
-pub finish-parts : {ws₁ ws₂ ws₃ a a₁ a₂ a₃ : List ℕ} {c c₁ c₂ c₃ : ℕ} (ws : List ℕ) (e : Ending)
-    → recordSize * c ≤ length a
-    → Does (endedBy e (view ws)) ws₁ a a₁ c c₁ → Does (servedBy e (view ws₁)) ws₂ a₁ a₂ c₁ c₂
-    → Does (closedBy e (view ws₂)) ws₃ a₂ a₃ c₂ c₃ → Does (finishedBy e (view ws)) ws₃ a a₃ c c₃
-finish-parts {ws₂ = ws₂} {ws₃ = ws₃} {a₁ = a₁} {a₂ = a₂} {a₃ = a₃} {c₁ = c₁} {c₂ = c₂} {c₃ = c₃} ws e room p q r =
-    let q′ = subst (λ m. Does (servedBy e m) ws₂ a₁ a₂ c₁ c₂) (p .model) q in
+pub finish-parts : {ws₁ ws₂ ws₃ a a₁ a₂ a₃ : List ℕ} {c c₁ c₂ c₃ first : ℕ} (ws : List ℕ) (e : Ending) (k : ℕ)
+    → recordSize * c ≤ length a → Does (endedBy e (view ws)) ws₁ a a₁ c c₁ → first ≡ firstFree e k (c₁ - c)
+    → Does (serviceFrom first (view ws₁)) ws₂ a₁ a₂ c₁ c₂
+    → Does (closedBy e (view ws₂)) ws₃ a₂ a₃ c₂ c₃ → Does (finishedBy e k (view ws)) ws₃ a a₃ c c₃
+finish-parts {ws₂ = ws₂} {ws₃ = ws₃} {a₁ = a₁} {a₂ = a₂} {a₃ = a₃} {c} {c₁} {c₂} {c₃} ws e k room p i q r =
+    let ended : c₁ - c ≡ length (endedBy e (view ws) .records) = omega (arith, p .adds .counts) in
+    let q′ = subst₂ (λ j m. Does (serviceFrom j m) ws₂ a₁ a₂ c₁ c₂) (i ∙ ap (firstFree e k) ended) (p .model) q in
     let r′ = subst (λ m. Does (closedBy e m) ws₃ a₂ a₃ c₂ c₃) (q′ .model) r in
     does-then room (does-then room p q′) r′
 
@@ -85,10 +99,15 @@ closed-same m a =
 abbrev behind : Done → Done → Done
 behind d x = record { model = x .model; records = d .records ++ x .records }
 
-pub finish-same : (f : Frame) (e : Ending) (m : Model) → EndsAs f e → (isTick (f .op) ≡ false → Ahead m)
-    → (endsConflicts f ≡ false → closeWaits (leftOf f m) ≡ quiet (leftOf f m)) → finishedBy e m ≡ finish f m
+-- with the whole of service
+abbrev servedBy : Ending → Model → Done
+servedBy e m = cond (served e) (service m) (quiet m)
+
+whole-same : (f : Frame) (e : Ending) (m : Model) → EndsAs f e → (isTick (f .op) ≡ false → Ahead m)
+    → (endsConflicts f ≡ false → closeWaits (leftOf f m) ≡ quiet (leftOf f m))
+    → closedAfter e (endedBy e m) (servedBy e (endedBy e m .model)) ≡ finish f m
 unfolding finish
-finish-same f e m k a h =
+whole-same f e m k a h =
     ap₂ (λ t s. parts t s (closing e)) (sym (k .tick)) (sym (k .service))
     ∙ ap (parts (isTick (f .op)) (serves f)) (sym (k .closes))
     ∙ same (isTick (f .op)) (serves f) (endsConflicts f) a h
@@ -112,3 +131,55 @@ finish-same f e m k a h =
     same false false true a h = ap (behind (quiet m)) (closed-same m (a refl))
     same false true false a h = ap (behind (service m)) (sym (h refl))
     same false false false a h = ap (behind (quiet m)) (sym (h refl))
+
+-- in what a step looks at again nothing that stayed is available
+mem-take : {A : Type 0} {x : A} (k : ℕ) (xs : List A) → List·Memᴰ x (take k xs) → List·Memᴰ x xs
+mem-take k xs i = subst (List·Memᴰ _) (take-append-drop k xs) (Memᴰ·append-left (drop k xs) i)
+
+none-of : {A : Type 0} (xs : List A) → length xs ≡ 0 → xs ≡ []
+none-of [] e = refl
+none-of (x ∷ xs) e = absurd (omega arith)
+
+module _ (f : Frame) (m : Model) (s : Sound m) (a : Admitted f m) (o : isOperation (f .op) ≡ true) (k : ℕ) where
+  abbrev own : Model
+  own = ownPart m f .model
+
+  freed : isTick (f .op) ≡ false → serves f ≡ true → SameBefore k m own → serviceFrom k own ≡ service own
+  freed t v same =
+      let r = own-freed m f s a o t v in
+      service-from k own (r .order)
+      (λ w i e j. r .unreached w i e (mem-take k (m .entries) (subst (List·Memᴰ e) same j)))
+
+  -- in a tick that ends no transaction nobody is served
+  idle : isTick (f .op) ≡ true → length (lapsed own .records) ≡ 0 → NoneFor (lapsed own .model)
+  unfolding lapsed abortAll tick
+  idle t e =
+      let ticks = ap (λ (c : Carried). c .model) (part-at m f (eqb-true (f .op) opTick t)) in
+      let none = none-of (endedTxns own) (sym (length-map (endedTxns own) exception) ∙ e) in
+      subst⁻¹ (λ ts. NoneFor (dropEnded (abortAll ts own))) none
+      (subst⁻¹ (λ n. NoneFor (dropEnded n)) ticks (none-expired m _ s))
+
+  ticked : isTick (f .op) ≡ true → Bounded own
+      → let n = length (lapsed own .records) in
+      serviceFrom (firstFree Tick k n) (lapsed own .model) ≡ service (lapsed own .model)
+  ticked t b =
+      let n = length (lapsed own .records) in
+      ⊎-elim (λ z. rw z (from-none maxEntries (lapsed own .model) (lapsed-fits own b .model-fits .entries-fit)
+      ∙ sym (service-idle (lapsed own .model) (idle t (eqb-true n 0 z)))))
+      (λ z. rw z (service-whole (lapsed own .model))) (bool-cases (eqb n 0))
+
+  -- service from the row on is the whole of it
+  from-same : (e : Ending) → EndsAs f e → SameBefore k m own → Bounded own
+      → let ended = endedBy e own in
+      serviceFrom (firstFree e k (length (ended .records))) (ended .model) ≡ servedBy e (ended .model)
+  from-same Quiet x same b = from-none maxEntries own (b .entries-fit)
+  from-same Nothings x same b = from-none maxEntries own (b .entries-fit)
+  from-same Service x same b = freed (x .tick) (x .service) same
+  from-same Both x same b = freed (x .tick) (x .service) same
+  from-same Tick x same b = ticked (x .tick) b
+
+  -- the parts are the rules' own
+  pub finish-same : (e : Ending) → EndsAs f e → SameBefore k m own → Bounded own → finishedBy e k own ≡ finish f own
+  finish-same e x same b =
+      ap (closedAfter e (endedBy e own)) (from-same e x same b)
+      ∙ whole-same f e own x (λ t. own-ahead m f o t (s .ahead)) (nobody-over m f s o)

@@ -6,6 +6,7 @@ pub mod RefusalParts
 pub mod PassedLaws
 pub mod LookUpAnswers
 pub mod ServingLaws
+pub mod FromLaws
 pub mod TurnLaws
 pub mod AbortingLaws
 pub mod FinishLaws

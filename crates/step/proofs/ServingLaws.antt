@@ -11,13 +11,25 @@ use lib.Seq.{take-suc-set, drop-set-lt}
 use Rattle.rules.specs.declared.Entry.{Entry}
 use Rattle.rules.specs.declared.Record.{Record}
 use Rattle.rules.specs.declared.LookUp.{LookUp}
+use Rattle.rules.specs.declared.Txn.{Txn}
 use Rattle.rules.specs.State.{Model, withEntries, withWaits}
 use Rattle.rules.specs.Holds.{oldest}
 use Rattle.rules.specs.Records.{found}
 use Rattle.rules.specs.LookUp.{handOut}
-use Rattle.rules.specs.Service.{Served, serve, service, foundFirst, waitsFirst}
-use Rattle.rules.proofs.StepCases.{serve-none, serve-some}
+use Rattle.rules.specs.Service.{Served, foundFirst, waitsFirst}
 use Rattle.holds.specs.AtSlot.{handedOut}
+use Rattle.step.specs.From.{serveFrom, serviceFrom}
+
+-- a look-up's turn
+module _ (k : ℕ) (ts : List Txn) (es : List Entry) (w : LookUp) (ws : List LookUp) where
+  pub from-waits : oldest ts w (drop k es) ≡ none → serveFrom k ts es (w ∷ ws) ≡ waitsFirst w (serveFrom k ts es ws)
+  unfolding serveFrom
+  from-waits e = rw (e, serveFrom)
+
+  pub from-finds : (x : Entry) → oldest ts w (drop k es) ≡ some x
+      → serveFrom k ts es (w ∷ ws) ≡ foundFirst w x (serveFrom k ts (handOut ts w x es) ws)
+  unfolding serveFrom
+  from-finds x e = rw (e, serveFrom)
 
 -- those that wait on and the founds of the look-ups gone through, before what the rest gives
 abbrev behind : List LookUp → List Record → Served → Served
@@ -37,26 +49,26 @@ waits-behind ws rs w s =
     (sym (append-assoc ws (w ∷ []) (s .waits)))
 
 -- of the look-ups of m₀ the first i are gone through, with the founds rs; the n that wait on stand in front
-pub record Serving (m₀ m : Model) (i n : ℕ) (rs : List Record) : Type 0 where
+pub record Serving (k : ℕ) (m₀ m : Model) (i n : ℕ) (rs : List Record) : Type 0 where
   pub rest-same : m ≡ withEntries (m .entries) (withWaits (m .waits) m₀)
   pub size : length (m .waits) ≡ length (m₀ .waits)
-  pub so-far : serve (m₀ .txns) (m₀ .entries) (m₀ .waits)
-      ≡ behind (take n (m .waits)) rs (serve (m .txns) (m .entries) (drop i (m .waits)))
+  pub so-far : serveFrom k (m₀ .txns) (m₀ .entries) (m₀ .waits)
+      ≡ behind (take n (m .waits)) rs (serveFrom k (m .txns) (m .entries) (drop i (m .waits)))
   pub low : n ≤ i
   pub few : length rs ≤ i
 
-pub serving-none : (m : Model) → Serving m m 0 0 []
-serving-none m = record { rest-same = refl; size = refl; so-far = refl; low = lit≤ tt; few = lit≤ tt }
+pub serving-none : (k : ℕ) (m : Model) → Serving k m m 0 0 []
+serving-none k m = record { rest-same = refl; size = refl; so-far = refl; low = lit≤ tt; few = lit≤ tt }
 
-module _ {m₀ m : Model} {i n : ℕ} {rs : List Record} (s : Serving m₀ m i n rs) {w : LookUp}
+module _ {k : ℕ} {m₀ m : Model} {i n : ℕ} {rs : List Record} (s : Serving k m₀ m i n rs) {w : LookUp}
     (next : drop i (m .waits) ≡ w ∷ drop (suc i) (m .waits)) where
-  turn : serve (m₀ .txns) (m₀ .entries) (m₀ .waits)
-      ≡ behind (take n (m .waits)) rs (serve (m .txns) (m .entries) (w ∷ drop (suc i) (m .waits)))
-  turn = s .so-far ∙ ap (λ ws. behind (take n (m .waits)) rs (serve (m .txns) (m .entries) ws)) next
+  turn : serveFrom k (m₀ .txns) (m₀ .entries) (m₀ .waits)
+      ≡ behind (take n (m .waits)) rs (serveFrom k (m .txns) (m .entries) (w ∷ drop (suc i) (m .waits)))
+  turn = s .so-far ∙ ap (λ ws. behind (take n (m .waits)) rs (serveFrom k (m .txns) (m .entries) ws)) next
 
   -- the next look-up is answered found
-  pub serving-found : {e : Entry} → oldest (m .txns) w (m .entries) ≡ some e
-      → Serving m₀ (handedOut w e m) (i + 1) n (rs ++ (found w e ∷ []))
+  pub serving-found : {e : Entry} → oldest (m .txns) w (drop k (m .entries)) ≡ some e
+      → Serving k m₀ (handedOut w e m) (i + 1) n (rs ++ (found w e ∷ []))
   unfolding handedOut
   serving-found {e} p =
       record {
@@ -66,15 +78,15 @@ module _ {m₀ m : Model} {i n : ℕ} {rs : List Record} (s : Serving m₀ m i n
             rw (add-one i)
             (turn
             ∙ ap (behind (take n (m .waits)) rs)
-            (serve-some (m .txns) (m .entries) w (drop (suc i) (m .waits)) e p)
+            (from-finds k (m .txns) (m .entries) w (drop (suc i) (m .waits)) e p)
             ∙ found-behind (take n (m .waits)) rs w e _);
         low = omega (arith, s .low);
         few = simp length-append (omega (arith, s .few));
       }
 
   -- it waits on
-  pub serving-waits : oldest (m .txns) w (m .entries) ≡ none → n < length (m .waits)
-      → Serving m₀ (withWaits (set (m .waits) n w) m) (i + 1) (n + 1) rs
+  pub serving-waits : oldest (m .txns) w (drop k (m .entries)) ≡ none → n < length (m .waits)
+      → Serving k m₀ (withWaits (set (m .waits) n w) m) (i + 1) (n + 1) rs
   serving-waits p h =
       record {
         rest-same = ap (withWaits (set (m .waits) n w)) (s .rest-same);
@@ -88,21 +100,21 @@ module _ {m₀ m : Model} {i n : ℕ} {rs : List Record} (s : Serving m₀ m i n
                   (omega (arith, s .low)),
             )
             (turn
-            ∙ ap (behind (take n (m .waits)) rs) (serve-none (m .txns) (m .entries) w (drop (suc i) (m .waits)) p)
+            ∙ ap (behind (take n (m .waits)) rs) (from-waits k (m .txns) (m .entries) w (drop (suc i) (m .waits)) p)
             ∙ waits-behind (take n (m .waits)) rs w _);
         low = omega (arith, s .low);
         few = omega (arith, s .few);
       }
 
 -- all are gone through
-pub serving-done : {m₀ m : Model} {i n : ℕ} {rs : List Record} → Serving m₀ m i n rs → length (m₀ .waits) ≤ i
-    → service m₀ ≡ record { model = withWaits (take n (m .waits)) m; records = rs }
-unfolding service serve
-serving-done {m₀} {m} {i} {n} {rs} s h =
-    let all : serve (m₀ .txns) (m₀ .entries) (m₀ .waits)
+pub serving-done : {k : ℕ} {m₀ m : Model} {i n : ℕ} {rs : List Record} → Serving k m₀ m i n rs → length (m₀ .waits) ≤ i
+    → serviceFrom k m₀ ≡ record { model = withWaits (take n (m .waits)) m; records = rs }
+unfolding serviceFrom serveFrom
+serving-done {k} {m₀} {m} {i} {n} {rs} s h =
+    let all : serveFrom k (m₀ .txns) (m₀ .entries) (m₀ .waits)
     ≡ record { entries = m .entries; waits = take n (m .waits); records = rs }
     = s .so-far
-    ∙ ap (λ l. behind (take n (m .waits)) rs (serve (m .txns) (m .entries) l))
+    ∙ ap (λ l. behind (take n (m .waits)) rs (serveFrom k (m .txns) (m .entries) l))
     (drop-of-length-le (m .waits) {i = i} (omega (arith, s .size)))
     ∙ ap₂ (λ a b. record { entries = m .entries; waits = a; records = b }) (append-nil (take n (m .waits)))
     (append-nil rs) in

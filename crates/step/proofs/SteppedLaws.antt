@@ -2,7 +2,7 @@
 use Prim.Native.Nat.{ℕ, _+_, _*_, _≤_, _<_}
 use mathlib.Core.Bool.{Bool, true, false, cond}
 use mathlib.Core.Option.{none, some}
-use mathlib.Core.Path.{_≡_, refl, sym, ap, ap₂, _∙_}
+use mathlib.Core.Path.{_≡_, refl, sym, ap, ap₂, _∙_, subst, subst⁻¹}
 use mathlib.Core.List.{List, [], _∷_, _++_}
 use native.Mathlib.Omega.{arith}
 use borrow.Author.Tests.{ne-eqb, eqb-false, lt-ltb, le-ltb}
@@ -12,7 +12,7 @@ use Rattle.rules.specs.declared.Record.{Record}
 use Rattle.rules.specs.declared.Request.{Request}
 use Rattle.rules.specs.declared.Decoded.the-variants.{Asks, Refused}
 use Rattle.rules.specs.Numbers.{stepArea, areaRefused}
-use Rattle.rules.specs.State.{Model}
+use Rattle.rules.specs.State.{Model, Bounded}
 use Rattle.rules.specs.Frame.{Frame, decode, isOperation}
 use Rattle.rules.specs.Done.{Done}
 use Rattle.rules.specs.Records.{refused, answerBytes, areaAfter}
@@ -24,9 +24,12 @@ use Rattle.rules.specs.Words.{view}
 use Rattle.rules.specs.Allowed.{Stepped}
 use Rattle.rules.proofs.ListLaws.{none≢some}
 use Rattle.rules.proofs.BoolLaws.{cond-cases}
-use Rattle.rules.proofs.RefusalLaws.{is-one, none-applies, refusal-parts, form-not-area, space-not-area}
-use Rattle.rules.proofs.SoundLaws.{room-left, own-ahead}
-use Rattle.sound.proofs.ConflictLaws.{nobody-over}
+use Rattle.rules.proofs.RefusalLaws.{clear, is-one, none-applies, refusal-parts, form-not-area, space-not-area}
+use Rattle.rules.proofs.SoundLaws.{room-left}
+use Rattle.rules.proofs.ViewLaws.{view-bounded}
+use Rattle.sound.proofs.Events.{Admitted}
+use Rattle.sound.proofs.EventsProof.{admitted}
+use Rattle.holds.specs.Sweep.{SameBefore}
 use Rattle.step.specs.Does.{Carries, Adds, Does}
 use Rattle.step.specs.Judge.{HasRoom}
 use Rattle.step.specs.declared.finish.Ending.{Ending}
@@ -92,14 +95,14 @@ has-room {bs} {q} m d e s l =
     (none-applies (admissionRows m f ++ roomRows m f) refl e 0) s
 
 -- and it ends as the rules say
-ends-same : {bs : List ℕ} {q : Request} (m : Model) → Decodes bs (Asks q) → (x : Ending) → EndsAs (frameOf q) x
-    → Sound m → finishedBy x (ownPart m (frameOf q) .model) ≡ finish (frameOf q) (ownPart m (frameOf q) .model)
-unfolding formRefusal
-ends-same {bs} {q} m d x k s =
-    let f = frameOf q in
-    let form = none-applies (formRows bs (decode bs)) refl (sym (d .number)) 0 in
-    let is = ap (λ (g : Frame). isOperation (g .op)) (asked-frame d) ∙ is-one bs form in
-    finish-same f x (ownPart m f .model) k (λ t. own-ahead m f is t (s .ahead)) (nobody-over m f s is)
+ends-same : {bs : List ℕ} {q : Request} (m : Model) (area : ℕ) → refusal m bs area ≡ 0 → Decodes bs (Asks q) → Sound m
+    → (k : ℕ) (x : Ending) → EndsAs (frameOf q) x → let own = ownPart m (frameOf q) .model in
+    SameBefore k m own → Bounded own → finishedBy x k own ≡ finish (frameOf q) own
+ends-same {bs} {q} m area e d s k x y same b =
+    let c = clear m bs area e in
+    let f = asked-frame d in
+    finish-same (frameOf q) m s (subst⁻¹ (λ g. Admitted g m) f (admitted m bs area c))
+    (ap (λ (g : Frame). isOperation (g .op)) f ∙ is-one bs (c .operation)) k x y same b
 
 -- ---- what is allowed
 -- a step's outcome, where the number n is given
@@ -166,20 +169,27 @@ module _ {ws bs area ws′ area′ : List ℕ} {returned : ℕ} where
       stepped-judged e z s a = stepped-refused (asked (view ws) bs (length area) h d ∙ sym e) z s a
 
       -- carried out: the frame's own record, and then its finish
-      pub stepped-done : {ws₁ a₁ : List ℕ} {own : Record} {n : ℕ} → spaceRefusal (view ws) (frameOf q) ≡ 0
+      pub stepped-done : {ws₁ a₁ : List ℕ} {own : Record} {n : ℕ} (k : ℕ) → spaceRefusal (view ws) (frameOf q) ≡ 0
           → (HasRoom (view ws) (frameOf q) → Carries (ownPart (view ws) (frameOf q)) ws₁ own)
+          × SameBefore k (view ws) (view ws₁)
           → Adds (own ∷ []) area a₁ 0 n → (x : Ending) → EndsAs (frameOf q) x
-          → Does (finishedBy x (view ws₁)) ws′ a₁ area′ n returned
+          → Does (finishedBy x k (view ws₁)) ws′ a₁ area′ n returned
           → Stepped ws bs area ws′ returned area′
       unfolding carriedOut accepted
-      stepped-done {ws₁} {a₁} {own} e c a x k f =
+      stepped-done {ws₁} {a₁} {own} k e c a x y f =
           let all = adds-then (omega arith) a (f .adds) in
-          let given = by ws bs area (asked (view ws) bs (length area) h d ∙ e) in
+          let zero = asked (view ws) bs (length area) h d ∙ e in
+          let given = by ws bs area zero in
+          let ends : (s : Sound (view ws)) → finishedBy x k (ownPart (view ws) (frameOf q) .model)
+          ≡ finish (frameOf q) (ownPart (view ws) (frameOf q) .model) =
+          λ s. let o = c .0 (has-room (view ws) d e s) .model in
+          ends-same (view ws) (length area) zero d s k x y (subst (SameBefore k (view ws)) o (c .1))
+          (subst Bounded o (view-bounded ws₁)) in
           let same = given ∙ ap (λ g. accepted (carriedOut (view ws) g)) (sym (asked-frame d)) in
           record {
             answered =
                 record {
-                  records = own ∷ finishedBy x (view ws₁) .records;
+                  records = own ∷ finishedBy x k (view ws₁) .records;
                   count = returned;
                   number = 0;
                   area = area′;
@@ -187,15 +197,15 @@ module _ {ws bs area ws′ area′ : List ℕ} {returned : ℕ} where
             allowed =
                 record {
                   space = λ s.
-                      let o = c (has-room (view ws) d e (s refl)) in
-                      f .model ∙ ap (λ m. finishedBy x m .model) (o .model)
-                      ∙ ap (λ (b : Done). b .model) (ends-same (view ws) d x k (s refl))
+                      let o = c .0 (has-room (view ws) d e (s refl)) in
+                      f .model ∙ ap (λ m. finishedBy x k m .model) (o .model)
+                      ∙ ap (λ (b : Done). b .model) (ends (s refl))
                       ∙ sym (ap (λ (x : Outcome). x .model) same);
                   records = λ s.
-                      let o = c (has-room (view ws) d e (s refl)) in
-                      ap₂ (λ r m. r ∷ finishedBy x m .records) (o .own) (o .model)
+                      let o = c .0 (has-room (view ws) d e (s refl)) in
+                      ap₂ (λ r m. r ∷ finishedBy x k m .records) (o .own) (o .model)
                       ∙ ap (λ (b : Done). ownPart (view ws) (frameOf q) .own ∷ b .records)
-                      (ends-same (view ws) d x k (s refl))
+                      (ends (s refl))
                       ∙ sym (ap (λ (x : Outcome). x .records) same);
                   count = omega (arith, all .counts);
                   number = sym (ap (λ (x : Outcome). x .number) same);

@@ -14,32 +14,33 @@ use Rattle.rules.specs.Done.{Done}
 use Rattle.rules.specs.Holds.{liveTxn, oldest}
 use Rattle.rules.specs.Numbers.{maxWaits, recordSize}
 use Rattle.rules.specs.Records.{found}
-use Rattle.rules.specs.Service.{service}
 use Rattle.rules.specs.State.{withWaits}
 use Rattle.rules.specs.Words.{entryCount, waitCount, waitCountAt, waits, view, spaceWords}
 use Rattle.words.specs.Rows.{entryRow, waitRow, moveWait}
-use Rattle.words.proofs.SearchLaws.{Searching, search-more, search-found, search-none}
+use Rattle.words.proofs.SearchLaws.{SearchingFrom, from-more, from-found, from-none}
 use Rattle.words.proofs.Table.{drop-all, moved, closed}
 use Rattle.words.proofs.Tables.{waitTable, view-waits, length-waits, entries-read}
 use Rattle.holds.specs.AtSlot.{availableAt, handedOut}
 use Rattle.holds.specs.Live.{slotOf}
 use Rattle.holds.proofs.HandLaws.{first-available}
 use Rattle.step.specs.Does.{Adds, Does}
+use Rattle.step.specs.From.{serviceFrom}
 use Rattle.step.proofs.AddsLaws.{adds-none, adds-length, adds-then}
 use Rattle.step.proofs.ServingLaws.{Serving, serving-none, serving-found, serving-waits, serving-done}
 
 -- the first i look-ups of ws₀ are gone through, the n that wait on stand in front, and the founds stand in the area
-pub record Turns (ws₀ ws a₀ a : List ℕ) (count done i n : ℕ) : Type 0 where
+pub record Turns (from : ℕ) (ws₀ ws a₀ a : List ℕ) (count done i n : ℕ) : Type 0 where
   pub long : length ws ≡ spaceWords
   pub records : List Record
-  pub serving : Serving (view ws₀) (view ws) i n records
+  pub serving : Serving from (view ws₀) (view ws) i n records
   pub adds : Adds records a₀ a count done
 
-pub turns-none : (ws a : List ℕ) (count : ℕ) → length ws ≡ spaceWords → Turns ws ws a a count count 0 0
-turns-none ws a count l = record { long = l; records = []; serving = serving-none (view ws); adds = adds-none a count }
+pub turns-none : (from : ℕ) (ws a : List ℕ) (count : ℕ) → length ws ≡ spaceWords → Turns from ws ws a a count count 0 0
+turns-none from ws a count l =
+    record { long = l; records = []; serving = serving-none from (view ws); adds = adds-none a count }
 
 -- what is known in the search for an entry: nothing has changed since its begin, and none of the first j is available
-pub record Looking (ws₀ ws a₀ a : List ℕ) (done₀ done i₀ i : ℕ) (w : LookUp) (p count j : ℕ) : Type 0 where
+pub record Looking (from : ℕ) (ws₀ ws a₀ a : List ℕ) (done₀ done i₀ i : ℕ) (w : LookUp) (p count j : ℕ) : Type 0 where
   pub same-words : ws ≡ ws₀
   pub same-area : a ≡ a₀
   pub same-done : done ≡ done₀
@@ -47,16 +48,18 @@ pub record Looking (ws₀ ws a₀ a : List ℕ) (done₀ done i₀ i : ℕ) (w :
   pub is-wait : w ≡ waitRow ws i
   pub slot : p ≡ slotOf (liveTxn (w .txn .0) (view ws .txns))
   pub all : count ≡ entryCount ws
-  pub none-yet : Searching (availableAt p w) (entryRow ws) j
+  pub begun : from ≤ j
+  pub none-yet : SearchingFrom from (availableAt p w) (entryRow ws) j
 
-module _ {ws₀ ws a₀ a : List ℕ} {done₀ done i₀ i : ℕ} {w : LookUp} {p count j : ℕ}
-    (k : Looking ws₀ ws a₀ a done₀ done i₀ i w p count j) where
+module _ {from : ℕ} {ws₀ ws a₀ a : List ℕ} {done₀ done i₀ i : ℕ} {w : LookUp} {p count j : ℕ}
+    (k : Looking from ws₀ ws a₀ a done₀ done i₀ i w p count j) where
   -- so the turns are as they were
-  pub turns-still : {ws₁ a₁ : List ℕ} {c n : ℕ} → Turns ws₁ ws₀ a₁ a₀ c done₀ i₀ n → Turns ws₁ ws a₁ a c done i n
+  pub turns-still : {ws₁ a₁ : List ℕ} {c n : ℕ} → Turns from ws₁ ws₀ a₁ a₀ c done₀ i₀ n
+      → Turns from ws₁ ws a₁ a c done i n
   turns-still t = rw (k .same-words, k .same-area, k .same-done, k .same-turn) t
 
   module _ {e : Entry} {b : Bool} (r : e ≡ entryRow ws j) (v : b ≡ availableAt p w e) where
-    pub looking-more : b ≡ false → Looking ws₀ ws a₀ a done₀ done i₀ i w p count (j + 1)
+    pub looking-more : b ≡ false → Looking from ws₀ ws a₀ a done₀ done i₀ i w p count (j + 1)
     looking-more t =
         record {
           same-words = k .same-words;
@@ -66,18 +69,21 @@ module _ {ws₀ ws a₀ a : List ℕ} {done₀ done i₀ i : ℕ} {w : LookUp} {
           is-wait = k .is-wait;
           slot = k .slot;
           all = k .all;
-          none-yet = search-more (k .none-yet) r (sym v ∙ t);
+          begun = omega (arith, k .begun);
+          none-yet = from-more (k .none-yet) r (sym v ∙ t);
         }
 
-    pub looking-found : b ≡ true → j < count → oldest (view ws .txns) w (view ws .entries) ≡ some e
+    pub looking-found : b ≡ true → j < count → oldest (view ws .txns) w (drop from (view ws .entries)) ≡ some e
     looking-found t l =
-        first-available ws w p (k .slot)
-        ∙ search-found (entries-read ws) (k .none-yet) (omega (arith, k .all)) r (sym v ∙ t)
+        first-available ws w p (k .slot) (drop from (view ws .entries))
+        ∙ from-found (entries-read ws) (k .none-yet) (k .begun) (omega (arith, k .all)) r (sym v ∙ t)
 
-  pub looking-none : j ≡ count → oldest (view ws .txns) w (view ws .entries) ≡ none
-  looking-none l = first-available ws w p (k .slot) ∙ search-none (entries-read ws) (k .none-yet) (l ∙ k .all)
+  pub looking-none : count ≤ j → oldest (view ws .txns) w (drop from (view ws .entries)) ≡ none
+  looking-none l =
+      first-available ws w p (k .slot) (drop from (view ws .entries))
+      ∙ from-none (entries-read ws) (k .none-yet) (omega (arith, k .all))
 
-module _ {ws₀ ws a₀ a : List ℕ} {count done i n : ℕ} (t : Turns ws₀ ws a₀ a count done i n) where
+module _ {from : ℕ} {ws₀ ws a₀ a : List ℕ} {count done i n : ℕ} (t : Turns from ws₀ ws a₀ a count done i n) where
   same-count : waitCount ws ≡ waitCount ws₀
   same-count = sym (length-waits ws) ∙ t .serving .size ∙ length-waits ws₀
 
@@ -103,29 +109,29 @@ module _ {ws₀ ws a₀ a : List ℕ} {count done i n : ℕ} (t : Turns ws₀ ws
         ∙ ap (λ x. withWaits (set (view ws .waits) n x) (view ws)) (sym q)
 
     pub turn-found : {ws′ a′ : List ℕ} {e : Entry} {r : Record} {done′ : ℕ}
-        → oldest (view ws .txns) w (view ws .entries) ≡ some e
+        → oldest (view ws .txns) w (drop from (view ws .entries)) ≡ some e
         → (view ws′ ≡ handedOut w e (view ws)) × (length ws′ ≡ spaceWords) → r ≡ found w e
         → recordSize * count ≤ length a₀
         → Adds (r ∷ []) a a′ done done′
-        → Turns ws₀ ws′ a₀ a′ count done′ (i + 1) n
+        → Turns from ws₀ ws′ a₀ a′ count done′ (i + 1) n
     turn-found {a′ = a′} {e = e} {done′ = done′} p v o room d =
         record {
           long = v .1;
           records = t .records ++ (found w e ∷ []);
           serving =
-              subst (λ m. Serving (view ws₀) m (i + 1) n (t .records ++ (found w e ∷ []))) (sym (v .0))
+              subst (λ m. Serving from (view ws₀) m (i + 1) n (t .records ++ (found w e ∷ []))) (sym (v .0))
               (serving-found (t .serving) this-wait p);
           adds = adds-then room (t .adds) (subst (λ x. Adds (x ∷ []) a a′ done done′) o d);
         }
 
-    pub turn-waits : {ws′ : List ℕ} → oldest (view ws .txns) w (view ws .entries) ≡ none
-        → ws′ ≡ moveWait ws i n → Turns ws₀ ws′ a₀ a count done (i + 1) (n + 1)
+    pub turn-waits : {ws′ : List ℕ} → oldest (view ws .txns) w (drop from (view ws .entries)) ≡ none
+        → ws′ ≡ moveWait ws i n → Turns from ws₀ ws′ a₀ a count done (i + 1) (n + 1)
     turn-waits p e =
         record {
           long = ap length e ∙ simp length-sets (t .long);
           records = t .records;
           serving =
-              subst (λ m. Serving (view ws₀) m (i + 1) (n + 1) (t .records)) (sym (ap view e ∙ moved-wait))
+              subst (λ m. Serving from (view ws₀) m (i + 1) (n + 1) (t .records)) (sym (ap view e ∙ moved-wait))
               (serving-waits (t .serving) this-wait p (omega (arith, t .serving .low, length-waits ws, same-count)));
           adds = t .adds;
         }
@@ -138,7 +144,7 @@ module _ {ws₀ ws a₀ a : List ℕ} {count done i n : ℕ} (t : Turns ws₀ ws
       (closed waitTable ws n (omega (arith, t .serving .low, same-count)) (omega (arith, t .long)))
 
   pub turns-done : {ws′ : List ℕ} → i ≡ waitCount ws₀ → ws′ ≡ set ws waitCountAt n
-      → Does (service (view ws₀)) ws′ a₀ a count done
+      → Does (serviceFrom from (view ws₀)) ws′ a₀ a count done
   turns-done {ws′} h e =
       let d = serving-done (t .serving) (omega (arith, length-waits ws₀)) in
       subst (λ (x : Done). Does x ws′ a₀ a count done) (sym d)

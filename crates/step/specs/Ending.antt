@@ -1,15 +1,19 @@
 -- How a frame ends, as the code hands it on.
+use Prim.Native.Nat.{ℕ}
 use mathlib.Core.Bool.{Bool, true, false, cond}
 use mathlib.Core.Path.{_≡_}
 use mathlib.Core.List.{_++_}
+use lib.Dec.{eqb}
+use lib.ListN.{length}
 use Rattle.rules.specs.declared.LookUp.{LookUp}
 use Rattle.rules.specs.Lists.{anyb}
+use Rattle.rules.specs.Numbers.{maxEntries}
 use Rattle.rules.specs.State.{Model}
 use Rattle.rules.specs.Done.{Done, quiet}
 use Rattle.rules.specs.Frame.{Frame, isTick, serves}
-use Rattle.rules.specs.Service.{service}
 use Rattle.rules.specs.Tick.{lapsed}
 use Rattle.rules.specs.Closing.{closeWaits, endsConflicts}
+use Rattle.step.specs.From.{serviceFrom}
 use Rattle.step.specs.declared.finish.Ending.{Ending}
 use Rattle.step.specs.declared.finish.Ending.the-variants.{Quiet, Nothings, Service, Both, Tick}
 
@@ -47,8 +51,14 @@ pub record EndsAs (f : Frame) (e : Ending) : Type 0 where
 abbrev pub endedBy : Ending → Model → Done
 endedBy e m = cond (inTick e) (lapsed m) (quiet m)
 
-abbrev pub servedBy : Ending → Model → Done
-servedBy e m = cond (served e) (service m) (quiet m)
+-- the row from which on service looks, where the own part left the entries before row k as they were, and n transactions
+-- have ended
+abbrev pub firstFree : Ending → ℕ → ℕ → ℕ
+firstFree Quiet k n = maxEntries
+firstFree Nothings k n = maxEntries
+firstFree Service k n = k
+firstFree Both k n = k
+firstFree Tick k n = cond (eqb n 0) maxEntries 0
 
 abbrev pub someIfExists : Model → Bool
 someIfExists m = anyb (λ (w : LookUp). w .«if_exists») (m .waits)
@@ -60,9 +70,9 @@ abbrev pub closedBy : Ending → Model → Done
 closedBy e m = cond (inTick e) (closeWaits m) (cond (closing e) (closedInVain m) (quiet m))
 
 -- all of them
-abbrev pub finishedBy : Ending → Model → Done
-finishedBy e m =
+abbrev pub finishedBy : Ending → ℕ → Model → Done
+finishedBy e k m =
     let ended = endedBy e m in
-    let served = servedBy e (ended .model) in
+    let served = serviceFrom (firstFree e k (length (ended .records))) (ended .model) in
     let closed = closedBy e (served .model) in
     record { model = closed .model; records = ended .records ++ served .records ++ closed .records }

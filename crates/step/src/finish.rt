@@ -6,14 +6,17 @@ ghost use Rattle.rules.specs.Numbers.{maxTxns, maxWaits, recordSize};
 ghost use Rattle.rules.specs.Requests.{frameOf};
 ghost use Rattle.rules.specs.Words.{view};
 ghost use Rattle.step.specs.Does.{Does};
-ghost use Rattle.step.specs.Ending.{inTick, served, closing, EndsAs, endedBy, servedBy, closedBy, finishedBy};
+ghost use Rattle.step.specs.Ending.{inTick, served, closing, EndsAs, endedBy, firstFree, closedBy, finishedBy};
+ghost use Rattle.step.specs.From.{serviceFrom};
 use crate::closing::close_in_vain;
 use crate::closing::close_waits;
 use crate::service::serve_waits;
 use crate::tick::lapse;
 use rules::FindRequest;
 use rules::Request;
+use rules::numbers::MAX_ENTRIES;
 use words::rows::Words;
+use words::rows::entry_count;
 
 // How a frame ends.
 pub(crate) enum Ending {
@@ -114,17 +117,30 @@ pub(crate) fn end_now(space: &mut Words, answers: &mut [u8], count: usize, endin
     }
 }
 
-// Service, where it follows.
-pub(crate) fn serve(space: &mut Words, answers: &mut [u8], count: usize, ending: Ending) -> usize
+// The row from which on service looks for entries: none where it does not follow, or where a tick ends no transaction,
+// since then nothing is set free.
+pub(crate) fn first_free(ending: Ending, from: usize, ended: usize) -> usize
+    ensures { λ r. ⌜ r ≡ firstFree ending from ended ⌝ }
+{
+    match ending {
+        Ending::Quiet => MAX_ENTRIES,
+        Ending::Nothings => MAX_ENTRIES,
+        Ending::Service => from,
+        Ending::Both => from,
+        Ending::Tick => { if ended == 0 { MAX_ENTRIES } else { 0 } }
+    }
+}
+
+// Service, from a row on.
+pub(crate) fn serve(space: &mut Words, answers: &mut [u8], count: usize, from: usize) -> usize
     requires { ⌜ recordSize * (count + maxWaits) ≤ length (now answers) ⌝ }
-    ensures { λ n. ⌜ Does (servedBy ending (view (now (space .entry)))) (now (space .exit))
+    ensures { λ n. ⌜ Does (serviceFrom from (view (now (space .entry)))) (now (space .exit))
         (now (answers .entry)) (now (answers .exit)) count n ⌝ }
 {
-    if is_served(ending) {
-        serve_waits(space, answers, count)
-    } else {
-        count
+    if entry_count(space) <= from {
+        return count;
     }
+    serve_waits(space, answers, count, from)
 }
 
 // The nothings, where a look-up can be over.
@@ -143,11 +159,12 @@ pub(crate) fn close(space: &mut Words, answers: &mut [u8], count: usize, ending:
     }
 }
 
-// What every carried-out frame ends with, behind the `count` records that stand in the answers area. The number
-// afterwards is returned. Most frames are over here at once.
-pub(crate) fn finish(space: &mut Words, answers: &mut [u8], count: usize, ending: Ending) -> usize
+// What every carried-out frame ends with, behind the `count` records that stand in the answers area; its own part has
+// left the entries before row `from` as they were. The number of records afterwards is returned. Most frames are over
+// here at once.
+pub(crate) fn finish(space: &mut Words, answers: &mut [u8], count: usize, ending: Ending, from: usize) -> usize
     requires { ⌜ recordSize * (count + maxTxns + maxWaits) ≤ length (now answers) ⌝ }
-    ensures { λ n. ⌜ Does (finishedBy ending (view (now (space .entry)))) (now (space .exit))
+    ensures { λ n. ⌜ Does (finishedBy ending from (view (now (space .entry)))) (now (space .exit))
         (now (answers .entry)) (now (answers .exit)) count n ⌝ }
 {
     let more = is_served(ending) | is_closing(ending);
@@ -155,6 +172,7 @@ pub(crate) fn finish(space: &mut Words, answers: &mut [u8], count: usize, ending
         return count;
     }
     let ended = end_now(space, answers, count, ending);
-    let served = serve(space, answers, ended, ending);
+    let first = first_free(ending, from, ended - count);
+    let served = serve(space, answers, ended, first);
     close(space, answers, served, ending)
 }

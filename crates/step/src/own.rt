@@ -8,6 +8,7 @@ ghost use Rattle.rules.specs.Step.{ownPart, commitFrame, abortFrame};
 ghost use Rattle.rules.specs.Tick.{tick};
 ghost use Rattle.rules.specs.Transactions.{create as createFrame};
 ghost use Rattle.rules.specs.Words.{view};
+ghost use Rattle.holds.specs.Sweep.{SameBefore};
 ghost use Rattle.step.specs.Does.{Carries};
 ghost use Rattle.step.specs.Judge.{HasRoom};
 use crate::look_up::find;
@@ -27,6 +28,12 @@ use words::rows::Words;
 use words::rows::clock;
 use words::rows::set_clock;
 
+// What a request does of its own: the record that it answers, and a row before which the entries are as they were.
+pub(crate) struct Own {
+    pub(crate) answer: Record,
+    pub(crate) from: usize,
+}
+
 pub(crate) fn create(space: &mut Words, party: u8, lease: u32) -> Record
     requires { ⌜ spaceRefusal (view (now space)) (frameOf (Request.Create party lease)) ≡ 0 ⌝ }
     ensures { λ r. ⌜ Carries (createFrame (view (now (space .entry))) (frameOf (Request.Create party lease)))
@@ -36,20 +43,22 @@ pub(crate) fn create(space: &mut Words, party: u8, lease: u32) -> Record
     plain_record(KIND_CREATED, party, id)
 }
 
-pub(crate) fn commit(space: &mut Words, party: u8, id: TxnId) -> Record
+pub(crate) fn commit(space: &mut Words, party: u8, id: TxnId) -> Own
     ensures { λ r. ⌜ Carries (commitFrame (view (now (space .entry))) (frameOf (Request.Commit party id)))
-        (now (space .exit)) r ⌝ }
+        (now (space .exit)) (r .answer) × SameBefore (r .from) (view (now (space .entry))) (view (now (space .exit))) ⌝ }
 {
-    commit_txn(space, id);
-    plain_record(KIND_COMMITTED, party, id)
+    let from = commit_txn(space, id);
+    let answer = plain_record(KIND_COMMITTED, party, id);
+    Own { answer, from }
 }
 
-pub(crate) fn abort(space: &mut Words, party: u8, id: TxnId) -> Record
+pub(crate) fn abort(space: &mut Words, party: u8, id: TxnId) -> Own
     ensures { λ r. ⌜ Carries (abortFrame (view (now (space .entry))) (frameOf (Request.Abort party id)))
-        (now (space .exit)) r ⌝ }
+        (now (space .exit)) (r .answer) × SameBefore (r .from) (view (now (space .entry))) (view (now (space .exit))) ⌝ }
 {
-    abort_txn(space, id);
-    plain_record(KIND_ABORTED, party, id)
+    let from = abort_txn(space, id);
+    let answer = plain_record(KIND_ABORTED, party, id);
+    Own { answer, from }
 }
 
 // The clock advances; what ends with that, ends where the frame is finished.
@@ -62,18 +71,29 @@ pub(crate) fn tick(space: &mut Words) -> Record
     plain_record(KIND_TICKED, 0, TxnId(0))
 }
 
-// What a request does of its own that the refusals 6 to 13 let pass.
-pub(crate) fn carry_out(space: &mut Words, q: Request) -> Record
+// What a request does of its own that the refusals 6 to 13 let pass. Where no service follows, and for a tick, nothing
+// is said of the entries.
+pub(crate) fn carry_out(space: &mut Words, q: Request) -> Own
     requires { ⌜ spaceRefusal (view (now space)) (frameOf q) ≡ 0 ⌝ }
     ensures { λ r. ⌜ (HasRoom (view (now (space .entry))) (frameOf q)
-        → Carries (ownPart (view (now (space .entry))) (frameOf q)) (now (space .exit)) r) ⌝ }
+        → Carries (ownPart (view (now (space .entry))) (frameOf q)) (now (space .exit)) (r .answer))
+        × SameBefore (r .from) (view (now (space .entry))) (view (now (space .exit))) ⌝ }
 {
     match q {
         Request::Write(w) => write(space, w),
-        Request::Find(l) => find(space, l),
-        Request::Create(party, lease) => create(space, party, lease),
+        Request::Find(l) => Own {
+            answer: find(space, l),
+            from: 0,
+        },
+        Request::Create(party, lease) => Own {
+            answer: create(space, party, lease),
+            from: 0,
+        },
         Request::Commit(party, id) => commit(space, party, id),
         Request::Abort(party, id) => abort(space, party, id),
-        Request::Tick => tick(space),
+        Request::Tick => Own {
+            answer: tick(space),
+            from: 0,
+        },
     }
 }

@@ -2,9 +2,9 @@
 ghost use Prim.Native.Nat.{_+_, _*_, _≤_};
 ghost use lib.ListN.{length};
 ghost use Rattle.rules.specs.Numbers.{maxWaits, recordSize};
-ghost use Rattle.rules.specs.Service.{service};
 ghost use Rattle.rules.specs.Words.{view};
 ghost use Rattle.step.specs.Does.{Does};
+ghost use Rattle.step.specs.From.{serviceFrom};
 use crate::answers::add_record;
 use codec::records::found_record;
 use holds::holds::is_available;
@@ -19,11 +19,11 @@ use words::rows::wait_at;
 use words::rows::wait_count;
 
 // The waiting look-ups are gone through once in order of arrival, and each with an available entry is answered found,
-// with the oldest available at its turn. `count` records stand in the answers area before; the number afterwards is
-// returned.
-pub(crate) fn serve_waits(space: &mut Words, answers: &mut [u8], count: usize) -> usize
+// with the oldest available at its turn, of the entries from row `from` on. `count` records stand in the answers area
+// before; the number afterwards is returned.
+pub(crate) fn serve_waits(space: &mut Words, answers: &mut [u8], count: usize, from: usize) -> usize
     requires { ⌜ recordSize * (count + maxWaits) ≤ length (now answers) ⌝ }
-    ensures { λ n. ⌜ Does (service (view (now (space .entry)))) (now (space .exit))
+    ensures { λ n. ⌜ Does (serviceFrom from (view (now (space .entry)))) (now (space .exit))
         (now (answers .entry)) (now (answers .exit)) count n ⌝ }
 {
     let waits = wait_count(space);
@@ -35,7 +35,7 @@ pub(crate) fn serve_waits(space: &mut Words, answers: &mut [u8], count: usize) -
         let txn = w.txn;
         let p = slot_of(space, txn);
         let entries = entry_count(space);
-        let mut j: usize = 0;
+        let mut j: usize = from;
         while j < entries {
             let e = entry_at(space, j);
             if is_available(e, w, p) {

@@ -44,7 +44,8 @@ pub(crate) fn take_up(space: &mut Words, frame: &[u8], answers: &mut [u8], q: Re
         return refuse(answers, frame, n);
     }
     let own = carry_out(space, q);
-    let count = add_record(answers, 0, own);
+    let answer = own.answer;
+    let count = add_record(answers, 0, answer);
     let ending = ending_of(q);
-    finish(space, answers, count, ending) as u64
+    finish(space, answers, count, ending, own.from) as u64
 }

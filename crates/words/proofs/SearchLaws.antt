@@ -1,14 +1,16 @@
 -- Laws of the first element that passes a test, and the search for it row by row.
-use Prim.Native.Nat.{ℕ, zero, suc, _+_, _<_}
+use Prim.Native.Nat.{ℕ, zero, suc, _+_, _-_, _≤_, _<_}
 use mathlib.Core.Bool.{Bool, true, false, cond}
 use mathlib.Core.Option.{Option, none, some}
 use mathlib.Core.Path.{_≡_, refl, sym, ap, _∙_}
 use mathlib.Core.List.{List, [], _∷_, _++_}
 use native.Mathlib.Omega.{arith}
 use native.Mathlib.Decide.{decLt}
+use lib.ListN.{drop, drop-of-length-le}
 use Rattle.rules.specs.Lists.{filterb, findb, anyb}
 use Rattle.rules.proofs.ListLaws.{none≢some, some-any, none-any}
 use Rattle.rules.specs.Words.{upTo}
+use Rattle.words.proofs.UpToLaws.{length-upTo, drop-upTo}
 
 module _ {A : Type 0} (p : A → Bool) where
   pub find-append-none : (xs ys : List A) → findb p xs ≡ none → findb p (xs ++ ys) ≡ findb p ys
@@ -91,3 +93,57 @@ module _ {A : Type 0} {q : A → Bool} {f : ℕ → A} where
 
     pub search-no : i ≡ n → anyb q xs ≡ false
     search-no e = none-any q xs (search-none e)
+
+-- ---- a loop that begins at row k: none of those from k up to i passes
+pub record SearchingFrom {A : Type 0} (k : ℕ) (q : A → Bool) (f : ℕ → A) (i : ℕ) : Type 0 where
+  pub passed : (x : ℕ) → k ≤ x → x < i → q (f x) ≡ false
+
+module _ {A : Type 0} {k : ℕ} {q : A → Bool} {f : ℕ → A} where
+  pub from-start : SearchingFrom k q f k
+  from-start = record { passed = λ x h l. absurd (omega arith) }
+
+  pub from-more : {i : ℕ} {x : A} → SearchingFrom k q f i → x ≡ f i → q x ≡ false → SearchingFrom k q f (i + 1)
+  from-more {i} s e t = record { passed = λ y h l. go y h l (decLt y i) }
+    where
+      go : (y : ℕ) → k ≤ y → y < i + 1 → Dec (y < i) → q (f y) ≡ false
+      go y h l (yes b) = s .passed y h b
+      go y h l (no b) = let p : y ≡ i = omega arith in ap (λ j. q (f j)) p ∙ ap q (sym e) ∙ t
+
+-- the first row that it looks at, and those behind
+module _ {A : Type 0} (q : A → Bool) (f : ℕ → A) (n : ℕ) where
+  passed-by : (k : ℕ) → k < n → q (f k) ≡ false → findb q (drop k (upTo f n)) ≡ findb q (drop (suc k) (upTo f n))
+  passed-by k h e =
+      ap (findb q) (drop-upTo f n k h)
+      ∙ ap {B = Option A} (λ b. cond b (some (f k)) (findb q (drop (suc k) (upTo f n)))) e
+
+  stops-at : (d k i : ℕ) → k + d ≡ i → i < n → SearchingFrom k q f i → q (f i) ≡ true
+      → findb q (drop k (upTo f n)) ≡ some (f i)
+  stops-at zero k i e h s t =
+      let p : k ≡ i = omega arith in
+      ap (λ j. findb q (drop j (upTo f n))) p ∙ ap (findb q) (drop-upTo f n i h)
+      ∙ ap {B = Option A} (λ b. cond b (some (f i)) (findb q (drop (suc i) (upTo f n)))) t
+  stops-at (suc d) k i e h s t =
+      passed-by k (omega arith) (s .passed k (omega arith) (omega arith))
+      ∙ stops-at d (suc k) i (omega arith) h (record { passed = λ x l r. s .passed x (omega arith) r }) t
+
+  none-behind : (d k : ℕ) → k + d ≡ n → SearchingFrom k q f n → findb q (drop k (upTo f n)) ≡ none
+  none-behind zero k e s =
+      ap (findb q) (drop-of-length-le (upTo f n) {i = k} (omega (arith, length-upTo f n)))
+  none-behind (suc d) k e s =
+      passed-by k (omega arith) (s .passed k (omega arith) (omega arith))
+      ∙ none-behind d (suc k) (omega arith) (record { passed = λ x l r. s .passed x (omega arith) r })
+
+module _ {A : Type 0} {k : ℕ} {q : A → Bool} {f : ℕ → A} {n : ℕ} {xs : List A} (r : Rows xs f n) {i : ℕ}
+    (s : SearchingFrom k q f i) where
+  pub from-found : {x : A} → k ≤ i → i < n → x ≡ f i → q x ≡ true → findb q (drop k xs) ≡ some x
+  from-found h l e t =
+      ap (λ l. findb q (drop k l)) (r .is) ∙ stops-at q f n (i - k) k i (omega arith) l s (ap q (sym e) ∙ t)
+      ∙ ap some (sym e)
+
+  pub from-none : n ≤ i → findb q (drop k xs) ≡ none
+  from-none h = ap (λ l. findb q (drop k l)) (r .is) ∙ go (decLt n k)
+    where
+      go : Dec (n < k) → findb q (drop k (upTo f n)) ≡ none
+      go (yes l) = ap (findb q) (drop-of-length-le (upTo f n) {i = k} (omega (arith, length-upTo f n)))
+      go (no l) =
+          none-behind q f n (n - k) k (omega arith) (record { passed = λ x a b. s .passed x a (omega arith) })

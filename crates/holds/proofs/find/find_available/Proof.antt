@@ -6,6 +6,7 @@ use native.Mathlib.Omega.{arith}
 use Rattle.holds.specs.AtSlot.{availableAt}
 use Rattle.words.proofs.SearchLaws.{Searching, search-start, search-more, search-found, search-none}
 use Rattle.words.specs.Rows.{entryRow}
+use Rattle.rules.specs.Words.{view}
 use Rattle.words.proofs.Tables.{entries-read}
 use Rattle.holds.proofs.HandLaws.{first-available}
 use Rattle.holds.proofs.find.find_available.Statement.{statement}
@@ -22,7 +23,7 @@ returns c =
     let s = c .before .before .before .before .before .before in
     let l = c .before .before .before .before .loop in
     let test = sym (c .before .is-available .ensures) ∙ c .if1 .taken in
-    sym (first-available (s .args .space .now) (s .args .w) (s .args .p) (s .pre .1)
+    sym (first-available (s .args .space .now) (s .args .w) (s .args .p) (s .pre .1) (view (s .args .space .now) .entries)
     ∙ search-found (entries-read (s .args .space .now)) (l .inv .1) (omega arith)
     (c .before .before .entry-at .ensures) test)
 
@@ -35,7 +36,7 @@ loop-again c =
 returns-2 : tie.Need-returns-2 Inv-loop μ-loop
 returns-2 c =
     let s = c .before .before .before in
-    sym (first-available (s .args .space .now) (s .args .w) (s .args .p) (s .pre .1)
+    sym (first-available (s .args .space .now) (s .args .w) (s .args .p) (s .pre .1) (view (s .args .space .now) .entries)
     ∙ search-none (entries-read (s .args .space .now)) (c .before .loop .inv .1) (omega arith))
 
 pub find-available-spec : {M : Type 1} → statement M

@@ -16,7 +16,12 @@ returns-2 c = λ q. absurd (true≢false (sym q))
 returns-3 : tie.Need-returns-3
 returns-3 c =
     let own = ne-eqb _ _ (c .before .before .before .before .if1 .left) in
-    λ q. released-same _ _ _ own (ne-eqb _ _ (c .before .if2 .left)) (sym (c .has-bit .ensures) ∙ not-true _ q)
+    let taken = ne-eqb _ _ (c .before .if2 .left) in
+    λ q. record {
+      untaken = taken;
+      unwritten = own;
+      unheld = released-same _ _ _ own taken (sym (c .has-bit .ensures) ∙ not-true _ q);
+    }
 
 pub is-free-of-spec : {M : Type 1} → statement M
 is-free-of-spec = tie.close (tie.spec returns returns-2 (λ c κs. search needs) returns-3)

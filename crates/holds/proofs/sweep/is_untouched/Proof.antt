@@ -19,10 +19,10 @@ returns : tie.Need-returns
 returns c = λ q. rw (c .enum-told .given .1)
 
 returns-2 : tie.Need-returns-2
-returns-2 c = rw (c .before .before .s .given .1) (c .is-free-of .ensures)
+returns-2 c = rw (c .before .before .s .given .1) (λ q. c .is-free-of .ensures q .unheld)
 
 returns-3 : tie.Need-returns-3
-returns-3 c = rw (c .before .before .s2 .given .1) (c .is-free-of2 .ensures)
+returns-3 c = rw (c .before .before .s2 .given .1) (λ q. c .is-free-of2 .ensures q .unheld)
 
 returns-4 : tie.Need-returns-4
 returns-4 c = λ q. rw (c .enum-told2 .given .1)

@@ -1,10 +1,12 @@
 -- `holds::sweep::pass_over` meets its contract. Invariant: the first i entries are gone through. Assumes nothing.
 use Prim.Native.Nat.{_≤_, _-_, _+_}
 use mathlib.Core.Logic.{⊎-elim}
-use mathlib.Core.Path.{sym, _∙_, subst₂}
+use mathlib.Core.Path.{sym, _∙_, subst⁻¹, subst₂}
 use native.Mathlib.Omega.{arith}
 use Rattle.words.proofs.CompactLaws.{compact-passed}
-use Rattle.holds.proofs.SweepLaws.{Sweeping, sweep-still, sweep-kept, sweep-done}
+use Rattle.holds.proofs.SweepLaws.{Sweeping, sweep-still, sweep-kept, sweep-done, same-before}
+use Rattle.rules.specs.Words.{view}
+use Rattle.holds.specs.Sweep.{SameBefore}
 use Rattle.holds.proofs.sweep.pass_over.Statement.{statement}
 use Rattle.holds.proofs.sweep.pass_over.Tie as tie
 
@@ -42,12 +44,19 @@ loop-again c =
 
 returns : tie.Need-returns Inv-loop μ-loop
 returns c =
-    let long = c .before .before .before .before .before .before .entry-count .ensures .1 in
-    sweep-done _ (c .before .before .before .loop .inv .1) long (omega arith) (c .set-entry-count .ensures)
+    let begin = c .before .before .before .before in
+    let a = begin .before .before .before .before .args in
+    let count = begin .before .before .entry-count .ensures in
+    let first = begin .first-touched .ensures in
+    let done =
+    sweep-done (a .s) (c .before .before .before .loop .inv .1) (count .1) (omega arith) (c .set-entry-count .ensures) in
+    let r = begin .first-touched .result in
+    let same = same-before (a .s) (a .space .now) r (omega (arith, first .0, count .0)) (first .1) in
+    (done .0, done .1, subst⁻¹ (SameBefore r (view (a .space .now))) (done .0) same)
 
 pub pass-over-spec : {M : Type 1} → statement M
 pass-over-spec =
     tie.close
-    (tie.spec Inv-loop μ-loop (λ c κs. tt) (λ c κs. omega arith) loop-holds (λ c κs. omega arith) (λ c κs. tt)
+    (tie.spec Inv-loop μ-loop (λ c κs. tt) (λ c κs. (c .before .before .before .pre, omega arith)) loop-holds (λ c κs. omega arith) (λ c κs. tt)
     keep-entry-requires (λ c. omega arith) (λ c. omega arith) (λ c. omega arith) loop-again
     (λ c κs. omega (arith, c .before .before .loop .inv .1 .behind)) returns)

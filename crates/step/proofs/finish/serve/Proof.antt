@@ -1,19 +1,25 @@
 -- `step::finish::serve` meets its contract. Assumes nothing.
-use mathlib.Core.Path.{sym, _∙_}
+use mathlib.Core.Path.{sym, subst}
+use native.Mathlib.Omega.{arith}
 use borrow.Author.Needs.{needs}
+use Rattle.rules.specs.Done.{Done}
+use Rattle.rules.specs.Words.{view}
+use Rattle.words.proofs.Tables.{length-entries}
+use Rattle.step.specs.Does.{Does}
 use Rattle.step.proofs.AddsLaws.{does-nothing}
+use Rattle.step.proofs.FromLaws.{from-none}
 use Rattle.step.proofs.finish.serve.Statement.{statement}
 use Rattle.step.proofs.finish.serve.Tie as tie
 
 returns : tie.Need-returns
 returns c =
-    let served = c .before .before in
-    let test = served .before .before .before in
-    rw (sym (test .before .is-served .ensures) ∙ test .if1 .taken) (served .serve-waits .ensures)
-
-returns-2 : tie.Need-returns-2
-returns-2 c = rw (sym (c .before .is-served .ensures) ∙ c .if1 .left) (does-nothing _ _ _)
+    let a = c .before .before .before .before .args in
+    let ws = a .space .now in
+    let none = from-none (a .from) (view ws) (omega (arith, c .before .entry-count .ensures .0, length-entries ws)) in
+    subst (λ (d : Done). Does d ws (a .answers .now) (a .answers .now) (a .count) (a .count)) (sym none)
+    (does-nothing _ _ _)
 
 pub serve-spec : {M : Type 1} → statement M
 serve-spec =
-    tie.close (tie.spec (λ c κs. search needs) (λ c κs. search needs) (λ c. search needs) returns returns-2)
+    tie.close
+    (tie.spec (λ c κs. tt) returns (λ c κs. search needs) (λ c. search needs) (λ c. c .before .before .serve-waits .ensures))

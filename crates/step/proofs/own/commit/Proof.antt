@@ -7,7 +7,9 @@ use Rattle.step.proofs.own.commit.Tie as tie
 
 returns : tie.Need-returns
 unfolding commitFrame committed
-returns c = record { model = c .before .commit-txn .ensures; own = c .plain-record .ensures }
+returns c =
+    let done = c .before .commit-txn .ensures in
+    (record { model = done .0; own = c .plain-record .ensures }, done .1)
 
 pub commit-spec : {M : Type 1} → statement M
 commit-spec = tie.close (tie.spec (λ c κs. search needs) (λ c κs. search needs) returns)

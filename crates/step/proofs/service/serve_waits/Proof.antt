@@ -1,5 +1,5 @@
 -- `step::service::serve_waits` meets its contract. The outer loop's invariant: the first i look-ups are gone through
--- (`Turns`). The inner loop's: nothing is changed yet, and none of the first j entries is available (`Looking`).
+-- (`Turns`). The inner loop's: nothing is changed yet, and none of the entries up to row j is available (`Looking`).
 -- Assumes nothing.
 use Prim.Native.Nat.{_≤_, _<_, _-_, _+_, _*_}
 use mathlib.Core.Path.{refl}
@@ -7,43 +7,42 @@ use native.Mathlib.Omega.{arith}
 use lib.ListN.{length}
 use Rattle.rules.specs.Numbers.{recordSize}
 use Rattle.rules.specs.Words.{waitCount}
-use Rattle.words.proofs.SearchLaws.{search-start}
+use Rattle.words.proofs.SearchLaws.{from-start}
 use Rattle.step.proofs.TurnLaws.{Turns, turns-none, turns-still, turn-length, turn-room, turn-found}
 use Rattle.step.proofs.TurnLaws.{turn-waits, turns-done, Looking, looking-more, looking-found, looking-none}
 use Rattle.step.proofs.service.serve_waits.Statement.{statement}
 use Rattle.step.proofs.service.serve_waits.Tie as tie
 
 abbrev Inv-loop : tie.InvT-loop
-Inv-loop space₀ answers₀ count waits done₀ i₀ n w p entries j₀ space answers done i j =
-    (j ≤ entries) × Looking space₀ space answers₀ answers done₀ done i₀ i w p entries j
+Inv-loop space₀ answers₀ count from waits done₀ i₀ n w p entries j₀ space answers done i j =
+    Looking from space₀ space answers₀ answers done₀ done i₀ i w p entries j
 
 abbrev μ-loop : tie.MeasureT-loop
-μ-loop space₀ answers₀ count waits done₀ i₀ n w p entries j₀ space answers done i j = entries - j
+μ-loop space₀ answers₀ count from waits done₀ i₀ n w p entries j₀ space answers done i j = entries - j
 
 abbrev Inv-waiting : tie.InvT-waiting
-Inv-waiting space₀ answers₀ count waits done₀ i₀ n₀ space answers done i n =
-    (i ≤ waits) × Turns space₀ space answers₀ answers count done i n
+Inv-waiting space₀ answers₀ count from waits done₀ i₀ n₀ space answers done i n =
+    (i ≤ waits) × Turns from space₀ space answers₀ answers count done i n
 
 abbrev μ-waiting : tie.MeasureT-waiting
-μ-waiting space₀ answers₀ count waits done₀ i₀ n₀ space answers done i n = waits - i
+μ-waiting space₀ answers₀ count from waits done₀ i₀ n₀ space answers done i n = waits - i
 
 waiting-holds : tie.Need-waiting-holds Inv-loop μ-loop Inv-waiting μ-waiting
-waiting-holds c = (omega arith, turns-none _ _ _ (c .wait-count .ensures .1))
+waiting-holds c = (omega arith, turns-none _ _ _ _ (c .wait-count .ensures .1))
 
 loop-holds : tie.Need-loop-holds Inv-loop μ-loop Inv-waiting μ-waiting
-loop-holds c = (
-  omega arith,
-  record {
-    same-words = refl;
-    same-area = refl;
-    same-done = refl;
-    same-turn = refl;
-    is-wait = c .before .before .before .before .before .wait-at .ensures;
-    slot = c .before .before .slot-of .ensures .0;
-    all = c .entry-count .ensures .0;
-    none-yet = search-start;
-  },
-)
+loop-holds c =
+    record {
+      same-words = refl;
+      same-area = refl;
+      same-done = refl;
+      same-turn = refl;
+      is-wait = c .before .before .before .before .before .wait-at .ensures;
+      slot = c .before .before .slot-of .ensures .0;
+      all = c .entry-count .ensures .0;
+      begun = omega arith;
+      none-yet = from-start;
+    }
 
 -- the outer loop around the search for an entry
 abbrev outer : tie.At-loop Inv-loop μ-loop Inv-waiting μ-waiting → tie.At-waiting Inv-loop μ-loop Inv-waiting μ-waiting
@@ -52,16 +51,16 @@ outer c = c .before .before .before .before .before .before .before .before .bef
 -- in the search: the turns so far, that this is one, and that there is room for its record
 turns : (c : tie.At-loop Inv-loop μ-loop Inv-waiting μ-waiting)
     → let a = outer c .before .before .before .before .args in
-    Turns (a .space .now) (c .loop .space) (a .answers .now) (c .loop .answers) (a .count) (c .loop .done) (c .loop .i)
+    Turns (a .from) (a .space .now) (c .loop .space) (a .answers .now) (c .loop .answers) (a .count) (c .loop .done) (c .loop .i)
     (outer c .waiting .n)
-turns c = turns-still (c .loop .inv .1) (outer c .waiting .inv .1)
+turns c = turns-still (c .loop .inv) (outer c .waiting .inv .1)
 
 in-turn : (c : tie.At-loop Inv-loop μ-loop Inv-waiting μ-waiting) → c .loop .i < outer c .before .wait-count .result
 in-turn c =
     omega (
       arith,
       c .before .before .before .before .before .before .before .before .waiting-test .taken,
-      c .loop .inv .1 .same-turn,
+      c .loop .inv .same-turn,
     )
 
 this-turn : (c : tie.At-loop Inv-loop μ-loop Inv-waiting μ-waiting)
@@ -78,7 +77,7 @@ is-available-requires c κs = c .before .before .before .before .before .before 
 hand-out-requires : tie.Need-hand-out-requires Inv-loop μ-loop Inv-waiting μ-waiting
 hand-out-requires c κs =
     let loop = c .before .before .before .before .before .before in
-    (loop .before .before .before .slot-of .ensures .1, loop .loop .inv .1 .slot)
+    (loop .before .before .before .slot-of .ensures .1, loop .loop .inv .slot)
 
 waiting-again : tie.Need-waiting-again Inv-loop μ-loop Inv-waiting μ-waiting
 waiting-again c =
@@ -86,7 +85,7 @@ waiting-again c =
     let test = found .before .before .before in
     let seen = test .before in
     let loop = seen .before .before .before .before in
-    let k = loop .loop .inv .1 in
+    let k = loop .loop .inv in
     let e =
     looking-found k (seen .before .entry-at .ensures) (seen .is-available .ensures) (test .if1 .taken)
     (seen .before .before .before .loop-test .taken) in (
@@ -98,11 +97,9 @@ waiting-again c =
 
 loop-again : tie.Need-loop-again Inv-loop μ-loop Inv-waiting μ-waiting
 loop-again c =
-    let seen = c .before in (
-      omega arith,
-      looking-more (seen .before .before .before .before .loop .inv .1) (seen .before .entry-at .ensures)
-          (seen .is-available .ensures) (c .if1 .left),
-    )
+    let seen = c .before in
+    looking-more (seen .before .before .before .before .loop .inv) (seen .before .entry-at .ensures)
+    (seen .is-available .ensures) (c .if1 .left)
 
 move-wait-requires : tie.Need-move-wait-requires Inv-loop μ-loop Inv-waiting μ-waiting
 move-wait-requires c κs =
@@ -112,8 +109,8 @@ move-wait-requires c κs =
 waiting-again-2 : tie.Need-waiting-again-2 Inv-loop μ-loop Inv-waiting μ-waiting
 waiting-again-2 c =
     let loop = c .before .before .before in
-    let k = loop .loop .inv .1 in
-    let none = looking-none k (omega (arith, c .before .before .loop-test .left, loop .loop .inv .0)) in
+    let k = loop .loop .inv in
+    let none = looking-none k (omega (arith, c .before .before .loop-test .left)) in
     (omega (arith, in-turn loop), turn-waits (turns loop) (this-turn loop) (k .is-wait) none (c .move-wait .ensures))
 
 same-length : tie.Need-same-length Inv-loop μ-loop Inv-waiting μ-waiting
@@ -141,11 +138,11 @@ serve-waits-spec =
       arith,
       in-turn
           (c .before .before .before .before .before .before .before .before .before .before .before .before),
-      c .before .before .before .before .before .before .before .before .before .before .before .before .loop .inv .1 .same-turn,
+      c .before .before .before .before .before .before .before .before .before .before .before .before .loop .inv .same-turn,
     ))
     waiting-again (λ c. omega arith) (λ c. omega arith) loop-again move-wait-requires
     (λ c. omega (arith, this-turn (c .before .before .before), turns (c .before .before .before) .serving .low))
     (λ c. omega (arith, this-turn (c .before .before .before)))
-    (λ c. omega (arith, in-turn (c .before .before .before), c .before .before .before .loop .inv .1 .same-turn))
+    (λ c. omega (arith, in-turn (c .before .before .before), c .before .before .before .loop .inv .same-turn))
     waiting-again-2 (λ c κs. omega (arith, c .before .before .waiting .inv .1 .serving .low)) same-length
     returns)

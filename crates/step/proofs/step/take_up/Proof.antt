@@ -16,10 +16,10 @@ returns-2 : tie.Need-returns-2
 returns-2 c =
     let ending = c .before .before .before .before .before in
     let own = ending .before .before .before in
-    let carried = own .before .before in
+    let carried = own .before .before .before in
     let test = carried .before .before in
     let start = test .before .before .before .before .before in
-    stepped-done (start .pre .1) (start .pre .0) (sym (test .before .judge .ensures) ∙ test .if1 .left)
+    stepped-done (start .pre .1) (start .pre .0) (carried .carry-out .result .from) (sym (test .before .judge .ensures) ∙ test .if1 .left)
     (carried .carry-out .ensures) (own .add-record .ensures)
     _ (ending .ending-of .ensures) (c .before .before .finish .ensures)
 

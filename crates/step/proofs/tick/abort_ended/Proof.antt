@@ -33,7 +33,7 @@ turn c =
     let t = c .before .before .before in
     let first = t .before .before in
     aborting-more (first .before .before .loop .inv) (sym (first .first-ended .ensures) ∙ ap liveOf (t .t .given .1))
-    (c .abort-txn .ensures)
+    (c .abort-txn .ensures .0)
 
 pub abort-ended-spec : {M : Type 1} → statement M
 abort-ended-spec =
