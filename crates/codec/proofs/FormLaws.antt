@@ -2,20 +2,22 @@
 use Prim.Native.Nat.{ℕ, _+_, _-_, _≤_, _<_}
 use mathlib.Core.Bool.{Bool, true, false, cond, not, _||_, or-false, or-true, or-assoc, and-false}
 use mathlib.Core.Path.{_≡_, refl, sym, ap, ap₂, _∙_}
-use mathlib.Core.Logic.{_⊎_, inl, inr}
+use mathlib.Core.Logic.{_⊎_, inl, inr, ⊎-elim}
 use mathlib.Core.List.{List, [], _∷_, _++_, append-nil}
 use native.Mathlib.Omega.{arith}
 use lib.Dec.{eqb, ltb}
 use lib.ListN.{length}
-use borrow.Author.Tests.{le-leb, lt-leb, lt-ltb, ne-eqb, eqb-true}
-use Rattle.rules.specs.Numbers.{opWrite, opRead, opTakeIfExists, opCreate, opTick}
+use borrow.Author.Tests.{le-leb, lt-leb, lt-ltb, eq-eqb, ne-eqb, eqb-true, eqb-false}
+use Rattle.rules.specs.Numbers.{opWrite, opRead, opTakeIfExists, opCreate, opCommit, opAbort, opTick}
 use Rattle.rules.specs.Numbers.{lengthRefused, formRefused, partyRefused}
 use Rattle.rules.specs.Frame.{Frame, frameLength, decode, byteAt, numberAt, fieldsAt, isOperation, isLookUp, isCreate}
-use Rattle.rules.specs.Frame.{layouts, layoutOf}
+use Rattle.rules.specs.Frame.{Layout, layouts, layoutOf}
 use Rattle.rules.specs.Records.{noFields, plain, recordAt}
 use Rattle.rules.specs.Refusals.{noOperation, wrongLength, badTemplate, malformed, wrongParty}
 use Rattle.rules.specs.Requests.{formRefusal}
+use Rattle.codec.specs.Head.{noParty, headRefusal}
 use Rattle.rules.proofs.ReadBack.{number-behind, fields-behind, record-behind}
+use Rattle.rules.proofs.BoolLaws.{bool-cases}
 use Rattle.rules.proofs.LayoutLaws.{lookUp-layout}
 use Rattle.rules.proofs.OperationLaws.{template-is, outside-is}
 
@@ -53,7 +55,7 @@ low-mask false mask e = or-true (ltb 15 mask)
 
 module _ (f : Frame) where
   pub find-form : opRead ≤ f .op → f .op ≤ opTakeIfExists
-      → malformed f ≡ (not (eqb (f .byte3) 0) || ltb 15 (f .mask) || badTemplate f)
+      → malformed f ≡ (not (eqb (f .byte3) 0) || ltb 15 (f .mask) || badTemplate (f .mask) (f .fields))
   unfolding malformed layoutOf
   find-form l h = rw (lookUp-layout (f .op) (rw (le-leb _ _ l, le-leb _ _ h))) (simp or-false)
 
@@ -88,3 +90,50 @@ form-is (x ∷ bs) op p a b c =
       b,
       c,
     )
+
+-- look-ups are as long as a read, and an abort as a commit
+pub find-length : (op : ℕ) → opRead ≤ op → op ≤ opTakeIfExists → frameLength op ≡ frameLength opRead
+unfolding frameLength
+find-length op l h = ap (λ (y : Layout). y .size) (lookUp-layout op (rw (le-leb _ _ l, le-leb _ _ h)))
+
+pub ending-length : (op : ℕ) → opCommit ≤ op → op ≤ opAbort → frameLength op ≡ frameLength opCommit
+unfolding frameLength layoutOf
+ending-length op l h =
+    ⊎-elim (λ e. ap frameLength (eqb-true op opCommit e))
+    (λ e. let abort : op ≡ opAbort = omega (arith, eqb-false op opCommit e) in ap frameLength abort)
+    (bool-cases (eqb op opCommit))
+
+-- so where it has another length, or the length of its operation
+module _ (bs : List ℕ) (op : ℕ) (is : (op ≡ byteAt bs 0) × (opWrite ≤ op) × (op ≤ opTick)) where
+  pub other-length : (length bs ≡ frameLength op → ⊥) → formRefusal bs ≡ lengthRefused
+  other-length h = form-is bs op is (ne-eqb (length bs) (frameLength op) h) refl refl
+
+  right-length : (bad : Bool) → length bs ≡ frameLength op
+      → malformed (decode bs) ≡ (not (eqb (byteAt bs 3) 0) || bad) → formRefusal bs ≡ headRefusal bs op bad
+  unfolding wrongParty decode
+  right-length bad h form = form-is bs op is {party = noParty op (byteAt bs 1)} (eq-eqb (length bs) (frameLength op) h) form (rw (is .0))
+
+  pub find-head : opRead ≤ op → op ≤ opTakeIfExists → length bs ≡ frameLength op
+      → formRefusal bs ≡ headRefusal bs op (ltb 15 (byteAt bs 2) || badTemplate (byteAt bs 2) (fieldsAt bs 12))
+  unfolding decode
+  find-head l m h =
+      right-length _ h (find-form (decode bs) (omega (arith, is)) (omega (arith, is))
+      ∙ or-assoc (not (eqb (byteAt bs 3) 0)) (ltb 15 (byteAt bs 2)) (badTemplate (byteAt bs 2) (fieldsAt bs 12)))
+
+  pub create-head : op ≡ opCreate → length bs ≡ frameLength op
+      → formRefusal bs ≡ headRefusal bs op (not (eqb (byteAt bs 2) 0) || not (eqb (numberAt bs 4) 0))
+  unfolding decode
+  create-head e h =
+      right-length _ h (create-form (decode bs) (sym (is .0) ∙ e)
+      ∙ or-assoc (not (eqb (byteAt bs 3) 0)) (not (eqb (byteAt bs 2) 0)) (not (eqb (numberAt bs 4) 0)))
+
+  pub plain-head : isLookUp op ≡ false → isCreate op ≡ false → length bs ≡ frameLength op
+      → formRefusal bs ≡ headRefusal bs op (not (eqb (byteAt bs 2) 0))
+  unfolding decode
+  plain-head l e h =
+      right-length _ h (plain-form (decode bs) (is-operation (byteAt bs 0) (omega (arith, is)) (omega (arith, is)))
+      (ap isLookUp (sym (is .0)) ∙ l) (ap isCreate (sym (is .0)) ∙ e))
+
+  pub ending-head : opCommit ≤ op → op ≤ opAbort → length bs ≡ frameLength op
+      → formRefusal bs ≡ headRefusal bs op (not (eqb (byteAt bs 2) 0))
+  ending-head l m = plain-head (no-look-up op (inr (omega arith))) (ne-eqb op opCreate (λ e. omega arith))

@@ -50,7 +50,7 @@ of-form f e =
     let filled = not (eqb (f .byte3) 0) in
     let high = ltb 15 (f .mask) in
     let masked = not (hasTemplate (f .op)) && not (eqb (f .mask) 0) in
-    let bad = hasTemplate (f .op) && badTemplate f in
+    let bad = hasTemplate (f .op) && badTemplate (f .mask) (f .fields) in
     let named = namesNoTxn (f .op) && not (eqb (f .txn) 0) in
     let front = or-left (filled || high || masked) bad (or-left (filled || high || masked || bad) named e) in
     record {

@@ -32,6 +32,18 @@ fn short_number(bytes: &[u8], at: usize) -> u32
     a + 256 * b + 65536 * c + 16777216 * d
 }
 
+// The number of four bytes that are there.
+pub(crate) fn whole_number(bytes: &[u8], at: usize) -> u32
+    requires { ⌜ at + 4 ≤ length (now bytes) ⌝ }
+    ensures { λ r. ⌜ r ≡ numberAt (now (bytes .entry)) at ⌝ }
+{
+    let a = wide(bytes[at]);
+    let b = wide(bytes[at + 1]);
+    let c = wide(bytes[at + 2]);
+    let d = wide(bytes[at + 3]);
+    a + 256 * b + 65536 * c + 16777216 * d
+}
+
 // The number of the four bytes from a place on.
 pub fn number_at(bytes: &[u8], at: usize) -> u32
     ensures { λ r. ⌜ r ≡ numberAt (now (bytes .entry)) at ⌝ }
@@ -42,11 +54,7 @@ pub fn number_at(bytes: &[u8], at: usize) -> u32
     if bytes.len() - at < 4 {
         return short_number(bytes, at);
     }
-    let a = wide(bytes[at]);
-    let b = wide(bytes[at + 1]);
-    let c = wide(bytes[at + 2]);
-    let d = wide(bytes[at + 3]);
-    a + 256 * b + 65536 * c + 16777216 * d
+    whole_number(bytes, at)
 }
 
 // The four fields, from a place on.
@@ -59,6 +67,19 @@ pub(crate) fn fields_at(bytes: &[u8], at: usize) -> Fields
         side: number_at(bytes, at + 4),
         image: number_at(bytes, at + 8),
         place: number_at(bytes, at + 12),
+    }
+}
+
+// The four fields of sixteen bytes that are there.
+pub(crate) fn whole_fields(bytes: &[u8], at: usize) -> Fields
+    requires { ⌜ at + 16 ≤ length (now bytes) ⌝ }
+    ensures { λ r. ⌜ r ≡ fieldsAt (now (bytes .entry)) at ⌝ }
+{
+    Fields {
+        kind: whole_number(bytes, at),
+        side: whole_number(bytes, at + 4),
+        image: whole_number(bytes, at + 8),
+        place: whole_number(bytes, at + 12),
     }
 }
 

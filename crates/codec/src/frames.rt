@@ -1,13 +1,15 @@
 // A frame's bytes, decoded into a request or one of the refusals 2 to 5.
 ghost use mathlib.Core.Path.{_≡_};
 ghost use Prim.Native.Nat.{_≤_};
-ghost use Rattle.rules.specs.Numbers.{opWrite, opRead, opTakeIfExists, opCreate, opTick};
-ghost use Rattle.rules.specs.Frame.{byteAt, frameLength, decode as decodeFrame};
-ghost use Rattle.rules.specs.Refusals.{badTemplate, malformed, wrongParty};
-ghost use Rattle.rules.specs.Requests.{formRefusal, Decodes};
+ghost use lib.ListN.{length};
+ghost use Rattle.rules.specs.Numbers.{opWrite, opRead, opTakeIfExists, opCreate, opCommit, opAbort, opTick};
+ghost use Rattle.rules.specs.Frame.{byteAt, frameLength};
+ghost use Rattle.rules.specs.Refusals.{badTemplate};
+ghost use Rattle.rules.specs.Requests.{Decodes};
+ghost use Rattle.codec.specs.Head.{noParty, headRefusal};
 use crate::bytes::byte_at;
-use crate::bytes::fields_at;
-use crate::bytes::number_at;
+use crate::bytes::whole_fields;
+use crate::bytes::whole_number;
 use crate::places::FIELDS_AT;
 use crate::places::FIELDS_END;
 use crate::places::LEASE_AT;
@@ -16,6 +18,7 @@ use crate::places::PARTY_AT;
 use crate::places::TXN_AT;
 use crate::places::ZERO_AT;
 use rules::Decoded;
+use rules::Fields;
 use rules::FindRequest;
 use rules::Request;
 use rules::TxnId;
@@ -43,11 +46,9 @@ pub(crate) fn party_of(frame: &[u8]) -> u8
 }
 
 // Whether a template's field is not 0 where its bit is 0.
-fn is_bad_template(frame: &[u8]) -> bool
-    ensures { λ r. ⌜ r ≡ badTemplate (decodeFrame (now (frame .entry))) ⌝ }
+fn is_bad_template(mask: u8, fields: Fields) -> bool
+    ensures { λ r. ⌜ r ≡ badTemplate mask fields ⌝ }
 {
-    let mask = byte_at(frame, MASK_AT);
-    let fields = fields_at(frame, FIELDS_AT);
     let kind = (mask / 1 % 2 != 1) & (fields.kind != 0);
     let side = (mask / 2 % 2 != 1) & (fields.side != 0);
     let image = (mask / 4 % 2 != 1) & (fields.image != 0);
@@ -55,31 +56,29 @@ fn is_bad_template(frame: &[u8]) -> bool
     kind | side | image | place
 }
 
-// Refusal 4: byte 3, the mask, the template, or a transaction that create names.
-fn is_malformed(frame: &[u8], op: u8) -> bool
-    requires { ⌜ (op ≡ byteAt (now frame) 0) × (opWrite ≤ op) × (op ≤ opTick) ⌝ }
-    ensures { λ r. ⌜ r ≡ malformed (decodeFrame (now (frame .entry))) ⌝ }
-{
-    let filled = byte_at(frame, ZERO_AT) != 0;
-    let mask = byte_at(frame, MASK_AT);
-    match op {
-        OP_READ..=OP_TAKE_IF_EXISTS => filled | (15 < mask) | is_bad_template(frame),
-        OP_CREATE => filled | (mask != 0) | (number_at(frame, TXN_AT) != 0),
-        _ => filled | (mask != 0),
-    }
-}
-
 // Refusal 5: a party other than 1 to 16, or than 0 for tick.
-fn is_wrong_party(frame: &[u8], op: u8) -> bool
-    requires { ⌜ op ≡ byteAt (now frame) 0 ⌝ }
-    ensures { λ r. ⌜ r ≡ wrongParty (decodeFrame (now (frame .entry))) ⌝ }
+fn is_wrong_party(party: u8, op: u8) -> bool
+    ensures { λ r. ⌜ r ≡ noParty op party ⌝ }
 {
-    let party = byte_at(frame, PARTY_AT);
     if op == OP_TICK {
         party != 0
     } else {
         (party == 0) | (MAX_PARTY < party)
     }
+}
+
+// The refusals 4 and 5 of a frame as long as its operation's are, `bad` being what 4 finds wrong besides byte 3.
+fn head_refusal(frame: &[u8], op: u8, bad: bool) -> u8
+    requires { ⌜ 4 ≤ length (now frame) ⌝ }
+    ensures { λ r. ⌜ r ≡ headRefusal (now (frame .entry)) op bad ⌝ }
+{
+    if (frame[ZERO_AT] != 0) | bad {
+        return FORM_REFUSED;
+    }
+    if is_wrong_party(frame[PARTY_AT], op) {
+        return PARTY_REFUSED;
+    }
+    0
 }
 
 // The length of an operation's frames, worked out from the operation: a frame ends where the first part would begin
@@ -102,80 +101,100 @@ pub(crate) fn length_of(op: u8) -> usize
     TXN_AT
 }
 
-// The first of the refusals 3 to 5 that applies to a frame with an operation; 0: none.
-fn form_refusal(frame: &[u8], op: u8) -> u8
-    requires { ⌜ (op ≡ byteAt (now frame) 0) × (opWrite ≤ op) × (op ≤ opTick) ⌝ }
-    ensures { λ r. ⌜ r ≡ formRefusal (now (frame .entry)) ⌝ }
-{
-    let length = length_of(op);
-    if frame.len() != length {
-        return LENGTH_REFUSED;
-    }
-    if is_malformed(frame, op) {
-        return FORM_REFUSED;
-    }
-    if is_wrong_party(frame, op) {
-        return PARTY_REFUSED;
-    }
-    0
-}
-
 fn decode_write(frame: &[u8]) -> Decoded
     requires { ⌜ byteAt (now frame) 0 ≡ opWrite ⌝ }
     ensures { λ r. ⌜ Decodes (now (frame .entry)) r ⌝ }
 {
-    let n = form_refusal(frame, OP_WRITE);
+    if frame.len() != length_of(OP_WRITE) {
+        return Decoded::Refused(LENGTH_REFUSED);
+    }
+    let n = head_refusal(frame, OP_WRITE, frame[MASK_AT] != 0);
     if n != 0 {
         return Decoded::Refused(n);
     }
-    let txn = TxnId(number_at(frame, TXN_AT));
-    let fields = fields_at(frame, FIELDS_AT);
+    let txn = TxnId(whole_number(frame, TXN_AT));
+    let fields = whole_fields(frame, FIELDS_AT);
     Decoded::Asks(Request::Write(WriteRequest {
-        party: party_of(frame),
+        party: frame[PARTY_AT],
         txn,
-        lease: number_at(frame, LEASE_AT),
+        lease: whole_number(frame, LEASE_AT),
         fields,
     }))
 }
 
+// All look-ups are as long as a read.
 fn decode_find(frame: &[u8], op: u8) -> Decoded
     requires { ⌜ (op ≡ byteAt (now frame) 0) × (opRead ≤ op) × (op ≤ opTakeIfExists) ⌝ }
     ensures { λ r. ⌜ Decodes (now (frame .entry)) r ⌝ }
 {
-    let n = form_refusal(frame, op);
+    if frame.len() != length_of(OP_READ) {
+        return Decoded::Refused(LENGTH_REFUSED);
+    }
+    let mask = frame[MASK_AT];
+    let fields = whole_fields(frame, FIELDS_AT);
+    let n = head_refusal(frame, op, (15 < mask) | is_bad_template(mask, fields));
     if n != 0 {
         return Decoded::Refused(n);
     }
-    let txn = TxnId(number_at(frame, TXN_AT));
-    let fields = fields_at(frame, FIELDS_AT);
+    let txn = TxnId(whole_number(frame, TXN_AT));
     Decoded::Asks(Request::Find(FindRequest {
-        party: party_of(frame),
+        party: frame[PARTY_AT],
         takes: (op == OP_TAKE) | (op == OP_TAKE_IF_EXISTS),
         if_exists: (op == OP_READ_IF_EXISTS) | (op == OP_TAKE_IF_EXISTS),
-        mask: byte_at(frame, MASK_AT),
+        mask,
         txn,
-        timeout: number_at(frame, LEASE_AT),
+        timeout: whole_number(frame, LEASE_AT),
         fields,
     }))
 }
 
-// Create, commit, abort or tick: a frame without mask and fields.
-fn decode_plain(frame: &[u8], op: u8) -> Decoded
-    requires { ⌜ (op ≡ byteAt (now frame) 0) × (opCreate ≤ op) × (op ≤ opTick) ⌝ }
+fn decode_create(frame: &[u8]) -> Decoded
+    requires { ⌜ byteAt (now frame) 0 ≡ opCreate ⌝ }
     ensures { λ r. ⌜ Decodes (now (frame .entry)) r ⌝ }
 {
-    let n = form_refusal(frame, op);
+    if frame.len() != length_of(OP_CREATE) {
+        return Decoded::Refused(LENGTH_REFUSED);
+    }
+    let n = head_refusal(frame, OP_CREATE, (frame[MASK_AT] != 0) | (whole_number(frame, TXN_AT) != 0));
     if n != 0 {
         return Decoded::Refused(n);
     }
-    let party = party_of(frame);
-    let txn = TxnId(number_at(frame, TXN_AT));
-    match op {
-        OP_CREATE => Decoded::Asks(Request::Create(party, number_at(frame, LEASE_AT))),
-        OP_COMMIT => Decoded::Asks(Request::Commit(party, txn)),
-        OP_ABORT => Decoded::Asks(Request::Abort(party, txn)),
-        _ => Decoded::Asks(Request::Tick),
+    Decoded::Asks(Request::Create(frame[PARTY_AT], whole_number(frame, LEASE_AT)))
+}
+
+// An abort is as long as a commit.
+fn decode_ending(frame: &[u8], op: u8) -> Decoded
+    requires { ⌜ (op ≡ byteAt (now frame) 0) × (opCommit ≤ op) × (op ≤ opAbort) ⌝ }
+    ensures { λ r. ⌜ Decodes (now (frame .entry)) r ⌝ }
+{
+    if frame.len() != length_of(OP_COMMIT) {
+        return Decoded::Refused(LENGTH_REFUSED);
     }
+    let n = head_refusal(frame, op, frame[MASK_AT] != 0);
+    if n != 0 {
+        return Decoded::Refused(n);
+    }
+    let party = frame[PARTY_AT];
+    let txn = TxnId(whole_number(frame, TXN_AT));
+    if op == OP_COMMIT {
+        Decoded::Asks(Request::Commit(party, txn))
+    } else {
+        Decoded::Asks(Request::Abort(party, txn))
+    }
+}
+
+fn decode_tick(frame: &[u8]) -> Decoded
+    requires { ⌜ byteAt (now frame) 0 ≡ opTick ⌝ }
+    ensures { λ r. ⌜ Decodes (now (frame .entry)) r ⌝ }
+{
+    if frame.len() != length_of(OP_TICK) {
+        return Decoded::Refused(LENGTH_REFUSED);
+    }
+    let n = head_refusal(frame, OP_TICK, frame[MASK_AT] != 0);
+    if n != 0 {
+        return Decoded::Refused(n);
+    }
+    Decoded::Asks(Request::Tick)
 }
 
 // What a frame asks for, or the first of the refusals 2 to 5 that applies.
@@ -189,7 +208,9 @@ pub fn decode(frame: &[u8]) -> Decoded
     match op {
         OP_WRITE => decode_write(frame),
         OP_READ..=OP_TAKE_IF_EXISTS => decode_find(frame, op),
-        OP_CREATE..=OP_TICK => decode_plain(frame, op),
+        OP_CREATE => decode_create(frame),
+        OP_COMMIT..=OP_ABORT => decode_ending(frame, op),
+        OP_TICK => decode_tick(frame),
         _ => Decoded::Refused(OPERATION_REFUSED),
     }
 }

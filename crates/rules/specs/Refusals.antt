@@ -6,6 +6,7 @@ use mathlib.Core.List.{List, [], _∷_, _++_}
 use mathlib.Core.Option.{Option, none, some}
 use lib.Dec.{eqb, leb, ltb}
 use lib.ListN.{length}
+use Rattle.rules.specs.declared.Fields.{Fields}
 use Rattle.rules.specs.declared.Txn.{Txn}
 use Rattle.rules.specs.declared.LookUp.{LookUp}
 use Rattle.rules.specs.Lists.{anyb, firstRow}
@@ -31,12 +32,12 @@ wrongLength bs f = not (eqb (length bs) (frameLength (f .op)))
 abbrev pub unasked : Bool → ℕ → Bool
 unasked asked x = not asked && not (eqb x 0)
 
-abbrev pub badTemplate : Frame → Bool
-badTemplate f =
-    unasked (bit 0 (f .mask)) (f .fields .kind)
-    || unasked (bit 1 (f .mask)) (f .fields .side)
-    || unasked (bit 2 (f .mask)) (f .fields .image)
-    || unasked (bit 3 (f .mask)) (f .fields .place)
+abbrev pub badTemplate : ℕ → Fields → Bool
+badTemplate mask fields =
+    unasked (bit 0 mask) (fields .kind)
+    || unasked (bit 1 mask) (fields .side)
+    || unasked (bit 2 mask) (fields .image)
+    || unasked (bit 3 mask) (fields .place)
 
 -- 4: byte 3 not 0; mask above 15; mask not 0 outside look-ups; a bad template; create naming a transaction
 unfoldable pub malformed : Frame → Bool
@@ -44,7 +45,7 @@ malformed f =
     not (eqb (f .byte3) 0)
     || ltb 15 (f .mask)
     || not (hasTemplate (f .op)) && not (eqb (f .mask) 0)
-    || hasTemplate (f .op) && badTemplate f
+    || hasTemplate (f .op) && badTemplate (f .mask) (f .fields)
     || namesNoTxn (f .op) && not (eqb (f .txn) 0)
 
 -- 5: party not 1-16, or not 0 for tick

@@ -1,24 +1,12 @@
 -- `codec::bytes::number_at` meets its contract. Assumes nothing.
 use mathlib.Core.Path.{sym}
-use borrow.Author.Needs.{needs}
-use native.Mathlib.Omega.{arith}
-use Rattle.rules.specs.Frame.{numberAt}
 use Rattle.codec.proofs.FormLaws.{number-past}
+use borrow.Author.Needs.{needs}
 use Rattle.codec.proofs.bytes.number_at.Statement.{statement}
 use Rattle.codec.proofs.bytes.number_at.Tie as tie
 
 returns : tie.Need-returns
 returns c = sym (number-past _ _ (c .if1 .taken))
 
-returns-3 : tie.Need-returns-3
-unfolding numberAt
-returns-3 c = omega arith
-
 pub number-at-spec : {M : Type 1} → statement M
-number-at-spec =
-    tie.close
-    (tie.spec returns (λ c. search needs) (λ c κs. search needs) (λ c. search needs) (λ c. search needs)
-    (λ c κs. search needs) (λ c. search needs) (λ c. search needs) (λ c κs. search needs) (λ c. search needs)
-    (λ c. search needs) (λ c κs. search needs) (λ c. search needs) (λ c. search needs) (λ c κs. search needs)
-    (λ c. search needs) (λ c. search needs) (λ c. search needs) (λ c. search needs) (λ c. search needs)
-    (λ c. search needs) returns-3)
+number-at-spec = tie.close (tie.spec returns (λ c. search needs) (λ c κs. search needs) (λ c. search needs) (λ c κs. search needs) (λ c. search needs))

@@ -10,14 +10,27 @@ use Rattle.codec.proofs.frames.decode.Tie as tie
 returns : tie.Need-returns
 returns c = no-operation _ (inl (List·getD-eq-default (c .before .before .args .frame .now) 0 (omega arith)))
 
-returns-5 : tie.Need-returns-5
-returns-5 c = no-operation _ (inl (omega arith))
+returns-7 : tie.Need-returns-7
+returns-7 c = no-operation _ (inl (omega arith))
 
-returns-6 : tie.Need-returns-6
-returns-6 c = no-operation _ (inr (omega arith))
+returns-8 : tie.Need-returns-8
+returns-8 c = no-operation _ (inr (omega arith))
 
 pub decode-spec : {M : Type 1} → statement M
 decode-spec =
     tie.close
-    (tie.spec returns (λ c. search needs) (λ c κs. search needs) (λ c κs. search needs) (λ c κs. search needs)
-    (λ c. search needs) (λ c. search needs) (λ c. search needs) returns-5 returns-6)
+    (tie.spec
+    returns
+    (λ c. search needs)
+    (λ c κs. search needs)
+    (λ c κs. search needs)
+    (λ c κs. search needs)
+    (λ c κs. search needs)
+    (λ c κs. search needs)
+    (λ c. search needs)
+    (λ c. search needs)
+    (λ c. search needs)
+    (λ c. search needs)
+    (λ c. search needs)
+    returns-7
+    returns-8)

@@ -1,23 +1,54 @@
 -- `codec::frames::decode_find` meets its contract. Assumes nothing.
-use mathlib.Core.Path.{sym, _∙_}
+use mathlib.Core.Path.{refl, sym, _∙_}
+use native.Mathlib.Omega.{arith}
 use borrow.Author.Needs.{needs}
+use Rattle.rules.specs.Numbers.{opRead, opTakeIfExists}
+use Rattle.rules.specs.Frame.{frameLength, layoutOf}
+use Rattle.codec.proofs.FormLaws.{find-length, other-length, find-head}
 use Rattle.codec.proofs.RequestLaws.{refused, find-asks}
 use Rattle.codec.proofs.frames.decode_find.Statement.{statement}
 use Rattle.codec.proofs.frames.decode_find.Tie as tie
 
+returns : tie.Need-returns
+returns c =
+    let p = c .before .before .before .pre in
+    refused _ _ (sym (other-length _ _ (p .0, omega (arith, p), omega (arith, p))
+    (λ q. c .if1 .taken (q ∙ find-length _ (p .1) (p .2) ∙ sym (c .before .length-of .ensures))))) (λ z. omega arith)
+
 returns-2 : tie.Need-returns-2
 returns-2 c =
-    let party = c .before .before in
-    let txn = party .before .before in
-    let e = txn .before in
-    let p = e .before .before .before .pre in
-    rw (party .party-of .ensures, c .before .byte-at .ensures, txn .number-at .ensures)
-    (rw (c .number-at2 .ensures, party .before .fields-at .ensures)
-    (find-asks _ (sym (e .before .form-refusal .ensures) ∙ e .if1 .left) _ (p .0) (p .1) (p .2)))
+    let n = c .before .before .before .before .before in
+    let p = n .before .before .before .pre in
+    refused _ _ (c .before .head-refusal .ensures
+    ∙ rw (c .before .before .is-bad-template .ensures, c .before .before .before .whole-fields .ensures)
+    (sym (find-head _ _ (p .0, omega (arith, p), omega (arith, p)) (p .1) (p .2)
+    (n .if1 .left ∙ n .before .length-of .ensures ∙ sym (find-length _ (p .1) (p .2)))))) (c .if2 .taken)
+
+returns-3 : tie.Need-returns-3
+returns-3 c =
+    let head = c .before .before .before .before in
+    let n = head .before .before .before .before in
+    let p = n .before .before .before .pre in
+    let fields = head .before .before .whole-fields .ensures in
+    rw (c .before .before .whole-number .ensures, c .whole-number2 .ensures, fields)
+    (find-asks _ (find-head _ _ (p .0, omega (arith, p), omega (arith, p)) (p .1) (p .2)
+    (n .if1 .left ∙ n .before .length-of .ensures ∙ sym (find-length _ (p .1) (p .2)))
+    ∙ sym (rw (head .before .is-bad-template .ensures, fields) at (head .head-refusal .ensures))
+    ∙ c .before .before .before .if2 .left) _ (p .0) (p .1) (p .2))
 
 pub decode-find-spec : {M : Type 1} → statement M
+unfolding frameLength layoutOf
 decode-find-spec =
     tie.close
-    (tie.spec (λ c κs. search needs) (λ c. refused _ _ (c .before .form-refusal .ensures) (c .if1 .taken))
-    (λ c κs. search needs) (λ c κs. search needs) (λ c κs. search needs) (λ c κs. search needs)
-    (λ c κs. search needs) returns-2)
+    (tie.spec
+    (λ c κs. search needs)
+    returns
+    (λ c. search needs)
+    (λ c κs. search needs)
+    (λ c κs. search needs)
+    (λ c κs. search needs)
+    returns-2
+    (λ c κs. search needs)
+    (λ c. search needs)
+    (λ c κs. search needs)
+    returns-3)

@@ -1,19 +1,48 @@
 -- `codec::frames::decode_write` meets its contract. Assumes nothing.
-use mathlib.Core.Path.{sym, _∙_}
+use mathlib.Core.Path.{refl, sym, _∙_}
+use native.Mathlib.Omega.{arith}
 use borrow.Author.Needs.{needs}
+use Rattle.rules.specs.Numbers.{opWrite}
+use Rattle.rules.specs.Frame.{frameLength, layoutOf}
+use Rattle.codec.proofs.FormLaws.{other-length, plain-head}
 use Rattle.codec.proofs.RequestLaws.{refused, write-asks}
 use Rattle.codec.proofs.frames.decode_write.Statement.{statement}
 use Rattle.codec.proofs.frames.decode_write.Tie as tie
 
+returns : tie.Need-returns
+returns c =
+    let e = c .before .before .before .pre in
+    refused _ _ (sym (other-length _ opWrite (sym e, omega arith, omega arith)
+    (λ q. c .if1 .taken (q ∙ sym (c .before .length-of .ensures))))) (λ z. omega arith)
+
 returns-2 : tie.Need-returns-2
 returns-2 c =
-    let f = c .before .before in
-    let e = f .before .before in
-    rw (c .before .party-of .ensures, f .before .number-at .ensures, c .number-at2 .ensures, f .fields-at .ensures)
-    (write-asks _ (sym (e .before .form-refusal .ensures) ∙ e .if1 .left) (e .before .before .before .pre))
+    let n = c .before .before .before in
+    let e = n .before .before .before .pre in
+    refused _ _ (c .before .head-refusal .ensures ∙ sym (plain-head _ opWrite (sym e, omega arith, omega arith) refl refl
+    (n .if1 .left ∙ n .before .length-of .ensures))) (c .if2 .taken)
+
+returns-3 : tie.Need-returns-3
+returns-3 c =
+    let txn = c .before .before .before in
+    let n = txn .before .before .before .before in
+    let e = n .before .before .before .pre in
+    rw (txn .whole-number .ensures, c .whole-number2 .ensures, c .before .before .whole-fields .ensures)
+    (write-asks _ (plain-head _ opWrite (sym e, omega arith, omega arith) refl refl
+    (n .if1 .left ∙ n .before .length-of .ensures) ∙ sym (txn .before .before .head-refusal .ensures) ∙ txn .before .if2 .left) e)
 
 pub decode-write-spec : {M : Type 1} → statement M
+unfolding frameLength layoutOf
 decode-write-spec =
     tie.close
-    (tie.spec (λ c κs. search needs) (λ c. refused _ _ (c .before .form-refusal .ensures) (c .if1 .taken))
-    (λ c κs. search needs) (λ c κs. search needs) (λ c κs. search needs) (λ c κs. search needs) returns-2)
+    (tie.spec
+    (λ c κs. search needs)
+    returns
+    (λ c. search needs)
+    (λ c κs. search needs)
+    returns-2
+    (λ c κs. search needs)
+    (λ c κs. search needs)
+    (λ c. search needs)
+    (λ c κs. search needs)
+    returns-3)

@@ -1,0 +1,42 @@
+-- `codec::frames::decode_tick` meets its contract. Assumes nothing.
+use mathlib.Core.Path.{refl, sym, _∙_}
+use native.Mathlib.Omega.{arith}
+use borrow.Author.Needs.{needs}
+use Rattle.rules.specs.Numbers.{opTick}
+use Rattle.rules.specs.Frame.{frameLength, layoutOf}
+use Rattle.codec.proofs.FormLaws.{other-length, plain-head}
+use Rattle.codec.proofs.RequestLaws.{refused, tick-asks}
+use Rattle.codec.proofs.frames.decode_tick.Statement.{statement}
+use Rattle.codec.proofs.frames.decode_tick.Tie as tie
+
+returns : tie.Need-returns
+returns c =
+    let e = c .before .before .before .pre in
+    refused _ _ (sym (other-length _ opTick (sym e, omega arith, omega arith)
+    (λ q. c .if1 .taken (q ∙ sym (c .before .length-of .ensures))))) (λ z. omega arith)
+
+returns-2 : tie.Need-returns-2
+returns-2 c =
+    let n = c .before .before .before in
+    let e = n .before .before .before .pre in
+    refused _ _ (c .before .head-refusal .ensures ∙ sym (plain-head _ opTick (sym e, omega arith, omega arith) refl refl
+    (n .if1 .left ∙ n .before .length-of .ensures))) (c .if2 .taken)
+
+returns-3 : tie.Need-returns-3
+returns-3 c =
+    let n = c .before .before .before in
+    let e = n .before .before .before .pre in
+    tick-asks _ (plain-head _ opTick (sym e, omega arith, omega arith) refl refl
+    (n .if1 .left ∙ n .before .length-of .ensures) ∙ sym (c .before .head-refusal .ensures) ∙ c .if2 .left) e
+
+pub decode-tick-spec : {M : Type 1} → statement M
+unfolding frameLength layoutOf
+decode-tick-spec =
+    tie.close
+    (tie.spec
+    (λ c κs. search needs)
+    returns
+    (λ c. search needs)
+    (λ c κs. search needs)
+    returns-2
+    returns-3)
