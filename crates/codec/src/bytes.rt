@@ -33,7 +33,7 @@ fn short_number(bytes: &[u8], at: usize) -> u32
 }
 
 // The number of four bytes that are there.
-pub(crate) fn whole_number(bytes: &[u8], at: usize) -> u32
+pub fn whole_number(bytes: &[u8], at: usize) -> u32
     requires { ⌜ at + 4 ≤ length (now bytes) ⌝ }
     ensures { λ r. ⌜ r ≡ numberAt (now (bytes .entry)) at ⌝ }
 {

@@ -6,6 +6,7 @@ mod places;
 pub mod records;
 
 pub use bytes::number_at;
+pub use bytes::whole_number;
 pub use encode::put_frame;
 pub use frames::decode;
 pub use records::put_record;

@@ -1,5 +1,5 @@
 -- The loop that judges a tray's pairs.
-use Prim.Native.Nat.{ℕ, suc, _+_, _≤_, _<_}
+use Prim.Native.Nat.{ℕ, suc, _+_, _*_, _≤_, _<_}
 use mathlib.Core.Bool.{Bool, true, false, _||_}
 use mathlib.Core.Path.{_≡_, sym, ap, ap₂, _∙_}
 use mathlib.Core.List.{List}
@@ -25,6 +25,13 @@ unfolding badTray
 few-frames tray e =
     ltb-false maxFrames (frameCount tray)
     (or-right (ltb (length tray) 4 || ltb maxTray (length tray)) _ (or-left _ (ltb (length tray) (pairsEnd tray)) e))
+
+-- and their pairs are there
+pub pair-there : (tray : List ℕ) (i : ℕ) → badTray tray ≡ false → i < frameCount tray → 4 + 8 * (i + 1) ≤ length tray
+unfolding badTray
+pair-there tray i e h =
+    omega (arith, ltb-false (length tray) (pairsEnd tray)
+    (or-right (ltb (length tray) 4 || ltb maxTray (length tray) || ltb maxFrames (frameCount tray)) _ e))
 
 -- i pairs have been judged, and what is free begins at `free`
 pub record Judging (tray : List ℕ) (free i : ℕ) : Type 0 where

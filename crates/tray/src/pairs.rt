@@ -1,10 +1,12 @@
 // A tray's pairs: how many there are, where each one's frame stands, and the refusals 15 and 16.
 ghost use mathlib.Core.Path.{_≡_};
 ghost use mathlib.Core.Bool.{false};
+ghost use Prim.Native.Nat.{_+_, _*_, _≤_};
 ghost use lib.ListN.{length};
 ghost use Rattle.rules.specs.Tray.{frameCount, pairsEnd, pairs, badTray, badPairs, trayRefusal};
 ghost use Rattle.tray.specs.Pairs.{Stands};
 use codec::number_at;
+use codec::whole_number;
 use rules::numbers::MAX_FRAMES;
 use rules::numbers::MAX_TRAY;
 use rules::numbers::PAIRS_REFUSED;
@@ -28,13 +30,14 @@ pub fn pair_count(tray: &[u8]) -> u32
     number_at(tray, 0)
 }
 
-// The pair at i, counted from 0.
+// The pair at i, counted from 0, whose bytes are there.
 pub fn pair_at(tray: &[u8], i: u32) -> Pair
+    requires { ⌜ 4 + 8 * (i + 1) ≤ length (now tray) ⌝ }
     ensures { λ r. ⌜ Stands (now (tray .entry)) i r ⌝ }
 {
     let at = COUNT_SIZE + PAIR_SIZE * i as usize;
-    let offset = number_at(tray, at) as usize;
-    let size = number_at(tray, at + 4) as usize;
+    let offset = whole_number(tray, at) as usize;
+    let size = whole_number(tray, at + 4) as usize;
     Pair {
         offset,
         end: offset + size,

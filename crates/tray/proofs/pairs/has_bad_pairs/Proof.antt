@@ -6,7 +6,7 @@ use native.Mathlib.Omega.{arith}
 use lib.ListN.{length}
 use Rattle.rules.specs.Numbers.{maxFrames}
 use Rattle.rules.specs.Tray.{frameCount}
-use Rattle.tray.proofs.PairsJudged.{few-frames, Judging, judging-none, begins-early, runs-past, judging-more}
+use Rattle.tray.proofs.PairsJudged.{few-frames, pair-there, Judging, judging-none, begins-early, runs-past, judging-more}
 use Rattle.tray.proofs.PairsJudged.{judging-all}
 use Rattle.tray.proofs.pairs.has_bad_pairs.Statement.{statement}
 use Rattle.tray.proofs.pairs.has_bad_pairs.Tie as tie
@@ -49,9 +49,14 @@ loop-again c =
 returns-3 : tie.Need-returns-3 Inv-loop μ-loop
 returns-3 c = let l = c .before .loop in sym (judging-all (l .inv .0) (omega (arith, l .inv .2)))
 
+pair-at-requires : tie.Need-pair-at-requires Inv-loop μ-loop
+pair-at-requires c κs =
+    let l = c .before .loop in
+    pair-there _ _ (c .before .before .before .before .pre) (omega (arith, l .inv .2))
+
 pub has-bad-pairs-spec : {M : Type 1} → statement M
 has-bad-pairs-spec =
     tie.close
     (tie.spec
     Inv-loop μ-loop (λ c κs. tt) (λ c. omega arith) (λ c. omega (arith, few c)) (λ c. omega (arith, few c))
-    loop-holds (λ c κs. tt) returns returns-2 (λ c. omega arith) (λ c. omega arith) loop-again returns-3)
+    loop-holds pair-at-requires returns returns-2 (λ c. omega arith) (λ c. omega arith) loop-again returns-3)

@@ -7,7 +7,7 @@ use lib.ListN.{length}
 use Rattle.rules.specs.Numbers.{maxFrames, recordSize}
 use Rattle.rules.specs.Tray.{frameCount}
 use Rattle.rules.proofs.PartLaws.{part-from, part-put}
-use Rattle.tray.proofs.PairsJudged.{few-frames}
+use Rattle.tray.proofs.PairsJudged.{few-frames, pair-there}
 use Rattle.tray.proofs.RunningLaws.{Running, running-none, running-length, running-more}
 use Rattle.tray.proofs.TrayLaws.{part-is-frame, passes, frame-in, tray-done, tray-stops}
 use Rattle.tray.proofs.run.run_frames.Statement.{statement}
@@ -41,6 +41,12 @@ returns c =
     let i = loop .loop .inv in
     tray-stops _ (loop .before .before .before .before .before .before .pre) (i .0) (omega (arith, i))
     (omega (arith, i, c .before .if1 .taken)) (c .packed .ensures)
+
+pair-at-requires : tie.Need-pair-at-requires Inv-loop μ-loop
+pair-at-requires c κs =
+    let loop = c .before .before in
+    let start = loop .before .before .before .before .before .before in
+    pair-there _ _ (passes (start .args .tray .now) (start .pre) .0) (omega (arith, loop .loop .inv .1))
 
 part-step-frame-end : tie.Need-part-step-frame-end Inv-loop μ-loop
 part-step-frame-end c =
@@ -82,6 +88,6 @@ run-frames-spec =
     tie.close
     (tie.spec
     Inv-loop μ-loop (λ c κs. tt) (λ c κs. tt) loop-holds (λ c. omega arith) (λ c. omega arith) packed-requires
-    (λ c. search needs) returns (λ c κs. tt) (λ c. omega arith) (λ c. omega arith) part-step-frame-end
+    (λ c. search needs) returns pair-at-requires (λ c. omega arith) (λ c. omega arith) part-step-frame-end
     (λ c. omega arith) (λ c. omega arith) (λ c. omega arith) (λ c κs. tt) (λ c. omega arith) (λ c. omega arith)
     (λ c. omega arith) loop-again packed-requires-2 (λ c. search needs) returns-2)
