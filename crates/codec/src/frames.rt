@@ -155,7 +155,11 @@ fn decode_create(frame: &[u8]) -> Decoded
     if frame.len() != length_of(OP_CREATE) {
         return Decoded::Refused(LENGTH_REFUSED);
     }
-    let n = head_refusal(frame, OP_CREATE, (frame[MASK_AT] != 0) | (whole_number(frame, TXN_AT) != 0));
+    let n = head_refusal(
+        frame,
+        OP_CREATE,
+        (frame[MASK_AT] != 0) | (whole_number(frame, TXN_AT) != 0),
+    );
     if n != 0 {
         return Decoded::Refused(n);
     }

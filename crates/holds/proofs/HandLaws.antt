@@ -1,23 +1,22 @@
 -- What the code does by the slot of a live transaction is what the rules do by its number.
-use Prim.Native.Nat.{ℕ, zero, suc, _<_}
+use Prim.Native.Nat.{ℕ, zero, suc, _-_, _^_, _<_}
 use mathlib.Core.Bool.{Bool, true, false, cond, not, _&&_}
 use mathlib.Core.Option.{Option, none, some}
 use mathlib.Core.Path.{_≡_, refl, sym, ap, ap₂, _∙_, fun-ext, subst}
 use mathlib.Core.List.{List, [], _∷_, _++_, map, map-id}
 use native.Mathlib.Omega.{arith}
-use borrow.Author.Tests.{ne-eqb}
+use borrow.Author.Tests.{ne-eqb, eqb-true, not-false}
 use lib.Dec.{eqb}
 use Rattle.rules.specs.declared.Entry.{Entry}
 use Rattle.rules.specs.declared.EntryId.{EntryId}
 use Rattle.rules.specs.declared.Txn.{Txn}
 use Rattle.rules.specs.declared.TxnId.{TxnId}
 use Rattle.rules.specs.declared.LookUp.{LookUp}
-use Rattle.rules.specs.Lists.{filterb, findb, anyb}
+use Rattle.rules.specs.Lists.{filterb, findb}
 use Rattle.rules.specs.Numbers.{maxTxns}
 use Rattle.rules.specs.State.{Model, withEntries, withTxns, withWaits}
-use Rattle.rules.specs.Template.{matches}
-use Rattle.rules.specs.Holds.{liveTxn, addReaderOf, dropReaderOf, readByOther, availableIf, available, oldest}
-use Rattle.rules.specs.Holds.{othersIf, conflicts, someConflicts}
+use Rattle.rules.specs.Template.{bit}
+use Rattle.rules.specs.Holds.{liveTxn, dropReader, addReaderOf, dropReaderOf}
 use Rattle.rules.specs.LookUp.{handOut, removes, heldBy, withHold, marked, isEntry}
 use Rattle.rules.specs.Transactions.{releasedBy, released, commit, abort, withoutTxn, takenBy, privateTo}
 use Rattle.rules.specs.Tick.{dropEnded}
@@ -31,7 +30,7 @@ use Rattle.holds.specs.declared.endings.Leave.the-variants.{Inside}
 use Rattle.holds.specs.Leave.{stays}
 use Rattle.holds.specs.Live.{noSlot, slotOf}
 use Rattle.holds.specs.Sweep.{addAt, dropAt, releasedAt, markedAt, changes, sweepModel}
-use Rattle.holds.specs.AtSlot.{availableAt, conflictsAt, handedOut}
+use Rattle.holds.specs.Hand.{leftOver, handedOut}
 
 -- ---- a live transaction's slot is one of eight
 abbrev LowSlot : Option Txn → Type 0
@@ -69,6 +68,26 @@ module _ (ws : List ℕ) (t p : ℕ) (q : p ≡ slotOf (liveTxn t (view ws .txns
   adds : addReaderOf (liveTxn t (view ws .txns)) ≡ addAt p
   adds = fun-ext (add-of (liveTxn t (view ws .txns)) (live-low t ws)) ∙ ap addAt (sym q)
 
+  -- whether a read hold of another is left
+  pub left-over : (readers : ℕ) → leftOver (view ws .txns) t readers ≡ not (eqb (dropAt p readers) 0)
+  left-over readers = ap (λ drop. not (eqb (drop readers) 0)) drops
+
+-- of none, none is left
+none-left : (ts : List Txn) (t : ℕ) → leftOver ts t 0 ≡ false
+unfolding dropReader
+none-left ts t = go (liveTxn t ts)
+  where
+    go : (o : Option Txn) → not (eqb (dropReaderOf o 0) 0) ≡ false
+    go none = refl
+    go (some x) =
+        let z : 0 - 2 ^ (x .slot) ≡ 0 = omega arith in
+        cond-cases (λ n. not (eqb n 0) ≡ false) (bit (x .slot) 0) (λ e. rw z) (λ e. refl)
+
+pub not-barred : (ts : List Txn) (t : ℕ) (takes : Bool) (readers : ℕ) → (takes && not (eqb readers 0)) ≡ false
+    → (takes && leftOver ts t readers) ≡ false
+not-barred ts t true readers e = rw (eqb-true readers 0 (not-false _ e)) (none-left ts t)
+not-barred ts t false readers e = refl
+
 -- a read of no live transaction leaves no mark
 unmarked : (n : EntryId) (t : TxnId) (x : Entry) → changes (Mark n false t noSlot) x ≡ x
 unfolding markedAt
@@ -77,20 +96,6 @@ unmarked n t x =
     (λ h. cond-cases (λ y. y ≡ x) (privateTo (t .0) x) (λ k. refl) (λ k. refl)) (λ h. refl)
 
 module _ (ws : List ℕ) (w : LookUp) (p : ℕ) (q : p ≡ slotOf (liveTxn (w .txn .0) (view ws .txns))) where
-  -- the oldest entry that is available, and whether one conflicts
-  pub first-available : (es : List Entry) → oldest (view ws .txns) w es ≡ findb (availableAt p w) es
-  unfolding available availableAt readByOther
-  first-available es =
-      ap (λ drop. findb (λ e. availableIf (not (eqb (drop (e .readers)) 0)) w e) es)
-      (drops ws (w .txn .0) p q)
-
-  pub some-conflict : someConflicts (view ws .txns) w (view ws .entries) ≡ anyb (conflictsAt p w) (view ws .entries)
-  unfolding conflicts conflictsAt available availableAt readByOther
-  some-conflict =
-      ap (λ drop. anyb (λ e. let read = not (eqb (drop (e .readers)) 0) in matches (w .mask) (w .fields) (e .fields)
-      && not (availableIf read w e) && othersIf read w e) (view ws .entries))
-      (drops ws (w .txn .0) p q)
-
   -- an entry handed out
   pub handed-marked : (e : Entry) → removes w e ≡ false
       → sweepModel (Mark (e .id) (w .takes) (w .txn) p) (view ws) ≡ handedOut w e (view ws)

@@ -1,9 +1,34 @@
--- An entry found, as the code hands it on.
+-- What a search looks at, and an entry found, as the code hands it on.
+use Prim.Native.Nat.{ℕ, _≤_, _<_}
+use mathlib.Core.Bool.{Bool, true, false}
 use mathlib.Core.Option.{Option, none, some}
+use mathlib.Core.Path.{_≡_}
+use mathlib.Core.List.{List}
+use lib.Dec.{eqb}
 use Rattle.rules.specs.declared.Entry.{Entry}
+use Rattle.rules.specs.declared.Fields.{Fields}
+use Rattle.rules.specs.Template.{bit, matches}
+use Rattle.words.specs.Rows.{fieldAt, entryRow}
+use Rattle.holds.specs.declared.find.Asked.{Asked}
 use Rattle.holds.specs.declared.find.Match.{Match}
 use Rattle.holds.specs.declared.find.Match.the-variants.{At, None}
 
 abbrev pub matchOf : Match → Option Entry
 matchOf (At e) = some e
 matchOf None = none
+
+-- a column that is one asks for the template's field there
+abbrev pub Asks : Asked → ℕ → Fields → Type 0
+Asks a mask want = a .column < 4 → (bit (a .column) mask ≡ true) × (fieldAt (a .column) want ≡ a .want)
+
+abbrev pub hasField : ℕ → ℕ → Entry → Bool
+hasField column x e = eqb (fieldAt column (e .fields)) x
+
+-- none of the rows from k up to i passes the test
+pub record Passes (q : Entry → Bool) (ws : List ℕ) (k i : ℕ) : Type 0 where
+  pub begun : k ≤ i
+  pub none : (x : ℕ) → k ≤ x → x < i → q (entryRow ws x) ≡ false
+
+-- so of any template that asks so
+abbrev pub PassesAsked : Asked → List ℕ → ℕ → ℕ → Type 0
+PassesAsked a ws k i = (mask : ℕ) (want : Fields) → Asks a mask want → Passes (λ e. matches mask want (e .fields)) ws k i

@@ -1,7 +1,7 @@
 -- Who holds what: searches, passes over the entries, transactions made and ended.
 pub mod Live
 pub mod Sweep
-pub mod AtSlot
+pub mod Hand
 pub mod Find
 pub mod Txns
 pub mod Leave

@@ -2,17 +2,20 @@
 ghost use mathlib.Core.Path.{_≡_};
 ghost use Prim.Native.Nat.{_^_, _≤_};
 ghost use Rattle.rules.specs.Template.{bit, agrees, matches};
-ghost use Rattle.rules.specs.Holds.{isOther, othersIf};
+ghost use Rattle.rules.specs.Holds.{isOther, othersIf, readByOther, available, conflicts};
+ghost use Rattle.rules.specs.Words.{view};
 ghost use Rattle.holds.specs.Live.{noSlot};
-ghost use Rattle.holds.specs.AtSlot.{readAt, availableAt, conflictsAt};
-ghost use mathlib.Core.Bool.{not, _&&_, _||_};
+ghost use Rattle.holds.specs.Hand.{leftOver};
+ghost use mathlib.Core.Bool.{_&&_, _||_};
 ghost use lib.Dec.{eqb};
 ghost use Rattle.holds.specs.Sweep.{addAt, dropAt};
 use crate::live::NO_SLOT;
+use crate::live::slot_of;
 use rules::Entry;
 use rules::Fields;
 use rules::LookUp;
 use rules::TxnId;
+use words::rows::Words;
 
 // Two to the p, for a bit of a byte or the first above it.
 pub(crate) fn power(p: u8) -> u32
@@ -112,18 +115,21 @@ pub(crate) fn is_visible(private_to: TxnId, taken_by: TxnId, t: TxnId) -> bool
     (taken_by.0 == 0) & ((private_to.0 == 0) | (private_to.0 == t.0))
 }
 
-// Whether a read hold of another than the transaction at slot p bars the look-up.
-pub(crate) fn is_barred(takes: bool, readers: u8, p: u8) -> bool
-    requires { ⌜ p ≤ noSlot ⌝ }
-    ensures { λ r. ⌜ r ≡ (takes && not (eqb (dropAt p readers) 0)) ⌝ }
+// Whether a read hold of another than the transaction t bars t's look-up. Most entries have no read hold: then the slot
+// is not looked for.
+pub(crate) fn is_barred(space: &Words, takes: bool, readers: u8, t: TxnId) -> bool
+    ensures { λ r. ⌜ r ≡ (takes && leftOver (view (now (space .entry)) .txns) (t .0) readers) ⌝ }
 {
-    if takes { !free_but(readers, p) } else { false }
+    if takes & (readers != 0) {
+        let p = slot_of(space, t);
+        return !free_but(readers, p);
+    }
+    false
 }
 
-// Whether the entry is available to the look-up, whose transaction has the slot p.
-pub fn is_available(e: Entry, w: LookUp, p: u8) -> bool
-    requires { ⌜ p ≤ noSlot ⌝ }
-    ensures { λ r. ⌜ r ≡ availableAt p w e ⌝ }
+// Whether the entry is available to the look-up.
+pub fn is_available(space: &Words, e: Entry, w: LookUp) -> bool
+    ensures { λ r. ⌜ r ≡ available (view (now (space .entry)) .txns) w e ⌝ }
 {
     let mask = w.mask;
     let want = w.fields;
@@ -133,9 +139,7 @@ pub fn is_available(e: Entry, w: LookUp, p: u8) -> bool
         let taken_by = e.taken_by;
         let txn = w.txn;
         if is_visible(private_to, taken_by, txn) {
-            let takes = w.takes;
-            let readers = e.readers;
-            return !is_barred(takes, readers, p);
+            return !is_barred(space, w.takes, e.readers, txn);
         }
     }
     false
@@ -150,27 +154,25 @@ pub(crate) fn is_other(t: TxnId, n: TxnId) -> bool
 
 // Whether another transaction than the look-up's has the entry: it is private to it, take-held by it, or (for a take)
 // read-held.
-pub(crate) fn is_others(e: Entry, w: LookUp, p: u8) -> bool
-    requires { ⌜ p ≤ noSlot ⌝ }
-    ensures { λ r. ⌜ r ≡ othersIf (readAt p e) w e ⌝ }
+pub(crate) fn is_others(space: &Words, e: Entry, w: LookUp) -> bool
+    ensures { λ r. ⌜ r ≡ othersIf (readByOther (view (now (space .entry)) .txns) (w .txn .0) e) w e ⌝ }
 {
     let txn = w.txn;
     let private_to = e.private_to;
     let taken_by = e.taken_by;
-    is_other(txn, private_to) | is_other(txn, taken_by) | is_barred(w.takes, e.readers, p)
+    is_other(txn, private_to) | is_other(txn, taken_by) | is_barred(space, w.takes, e.readers, txn)
 }
 
 // Whether the entry conflicts with the look-up. Where another transaction has it, it is not available: that needs no
 // test.
-pub(crate) fn is_conflicting(e: Entry, w: LookUp, p: u8) -> bool
-    requires { ⌜ p ≤ noSlot ⌝ }
-    ensures { λ r. ⌜ r ≡ conflictsAt p w e ⌝ }
+pub(crate) fn is_conflicting(space: &Words, e: Entry, w: LookUp) -> bool
+    ensures { λ r. ⌜ r ≡ conflicts (view (now (space .entry)) .txns) w e ⌝ }
 {
     let mask = w.mask;
     let want = w.fields;
     let have = e.fields;
     if fields_match(mask, want, have) {
-        is_others(e, w, p)
+        is_others(space, e, w)
     } else {
         false
     }

@@ -5,9 +5,8 @@ ghost use lib.ListN.{length};
 ghost use Rattle.rules.specs.Numbers.{maxEntries};
 ghost use Rattle.rules.specs.Tick.{dropEnded};
 ghost use Rattle.rules.specs.Words.{view, spaceWords};
-ghost use Rattle.holds.specs.Live.{noSlot, slotOf};
-ghost use Rattle.holds.specs.AtSlot.{handedOut};
-ghost use Rattle.rules.specs.Holds.{liveTxn};
+ghost use Rattle.holds.specs.Live.{noSlot};
+ghost use Rattle.holds.specs.Hand.{handedOut};
 ghost use mathlib.Core.Bool.{true, not, cond, _&&_, _||_};
 ghost use lib.Dec.{eqb};
 ghost use Rattle.rules.specs.Transactions.{noTxn};
@@ -17,6 +16,7 @@ use crate::holds::add_reader;
 use crate::holds::drop_reader;
 use crate::holds::has_bit;
 use crate::live::NO_SLOT;
+use crate::live::slot_of;
 use rules::Entry;
 use rules::EntryId;
 use rules::LookUp;
@@ -240,16 +240,15 @@ pub(crate) fn is_removed(takes: bool, private_to: TxnId, t: TxnId) -> bool
     takes & (private_to.0 == t.0)
 }
 
-// Whether handing out leaves a mark where it does not remove: a read outside transactions leaves none.
+// Whether handing out leaves a mark where it does not remove.
 pub(crate) fn is_marked(takes: bool, p: u8) -> bool
     ensures { λ r. ⌜ r ≡ (takes || not (eqb p noSlot)) ⌝ }
 {
     takes | (p != NO_SLOT)
 }
 
-// The entry is handed out to the look-up, whose transaction has the slot p.
-pub fn hand_out(space: &mut Words, e: Entry, w: LookUp, p: u8)
-    requires { ⌜ (p ≤ noSlot) × (p ≡ slotOf (liveTxn (w .txn .0) (view (now space) .txns))) ⌝ }
+// The entry is handed out to the look-up. A read outside transactions leaves no mark.
+pub fn hand_out(space: &mut Words, e: Entry, w: LookUp)
     ensures { λ _. ⌜ (view (now (space .exit)) ≡ handedOut w e (view (now (space .entry))))
         × (length (now (space .exit)) ≡ spaceWords) ⌝ }
 {
@@ -261,6 +260,7 @@ pub fn hand_out(space: &mut Words, e: Entry, w: LookUp, p: u8)
         pass_over(space, Sweep::Remove(id));
         return;
     }
+    let p = slot_of(space, txn);
     if is_marked(takes, p) {
         pass_over(space, Sweep::Mark(id, takes, txn, p));
         return;

@@ -17,7 +17,7 @@ use Rattle.rules.specs.Holds.{oldest}
 use Rattle.rules.specs.Records.{found}
 use Rattle.rules.specs.LookUp.{handOut}
 use Rattle.rules.specs.Service.{Served, foundFirst, waitsFirst}
-use Rattle.holds.specs.AtSlot.{handedOut}
+use Rattle.holds.specs.Hand.{handedOut}
 use Rattle.step.specs.From.{serveFrom, serviceFrom}
 
 -- a look-up's turn

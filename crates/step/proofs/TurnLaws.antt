@@ -2,7 +2,7 @@
 use Prim.Native.Nat.{ℕ, suc, _+_, _*_, _≤_, _<_}
 use mathlib.Core.Bool.{Bool, true, false}
 use mathlib.Core.Option.{none, some}
-use mathlib.Core.Path.{_≡_, sym, ap, _∙_, subst}
+use mathlib.Core.Path.{_≡_, refl, sym, ap, _∙_, subst}
 use mathlib.Core.List.{List, [], _∷_, _++_}
 use native.Mathlib.Omega.{arith}
 use lib.ListN.{length, take, drop, set}
@@ -11,7 +11,7 @@ use Rattle.rules.specs.declared.Entry.{Entry}
 use Rattle.rules.specs.declared.Record.{Record}
 use Rattle.rules.specs.declared.LookUp.{LookUp}
 use Rattle.rules.specs.Done.{Done}
-use Rattle.rules.specs.Holds.{liveTxn, oldest}
+use Rattle.rules.specs.Holds.{available, oldest}
 use Rattle.rules.specs.Numbers.{maxWaits, recordSize}
 use Rattle.rules.specs.Records.{found}
 use Rattle.rules.specs.State.{withWaits}
@@ -20,9 +20,10 @@ use Rattle.words.specs.Rows.{entryRow, waitRow, moveWait}
 use Rattle.words.proofs.SearchLaws.{SearchingFrom, from-more, from-found, from-none}
 use Rattle.words.proofs.Table.{drop-all, moved, closed}
 use Rattle.words.proofs.Tables.{waitTable, view-waits, length-waits, entries-read}
-use Rattle.holds.specs.AtSlot.{availableAt, handedOut}
-use Rattle.holds.specs.Live.{slotOf}
-use Rattle.holds.proofs.HandLaws.{first-available}
+use Rattle.holds.specs.declared.find.Asked.{Asked}
+use Rattle.holds.specs.Find.{Asks, PassesAsked}
+use Rattle.holds.specs.Hand.{handedOut}
+use Rattle.holds.proofs.FindLaws.{from-on, only-available}
 use Rattle.step.specs.Does.{Adds, Does}
 use Rattle.step.specs.From.{serviceFrom}
 use Rattle.step.proofs.AddsLaws.{adds-none, adds-length, adds-then}
@@ -39,49 +40,65 @@ pub turns-none : (from : ℕ) (ws a : List ℕ) (count : ℕ) → length ws ≡ 
 turns-none from ws a count l =
     record { long = l; records = []; serving = serving-none from (view ws); adds = adds-none a count }
 
--- what is known in the search for an entry: nothing has changed since its begin, and none of the first j is available
-pub record Looking (from : ℕ) (ws₀ ws a₀ a : List ℕ) (done₀ done i₀ i : ℕ) (w : LookUp) (p count j : ℕ) : Type 0 where
+-- what is known in the search for an entry: nothing has changed since its begin, and none of those up to row j is
+-- available to the look-up of row i
+pub record Looking (from : ℕ) (ws₀ ws a₀ a : List ℕ) (done₀ done i₀ i : ℕ) (asked : Asked) (count j : ℕ) : Type 0 where
   pub same-words : ws ≡ ws₀
   pub same-area : a ≡ a₀
   pub same-done : done ≡ done₀
   pub same-turn : i ≡ i₀
-  pub is-wait : w ≡ waitRow ws i
-  pub slot : p ≡ slotOf (liveTxn (w .txn .0) (view ws .txns))
+  pub asks : Asks asked (waitRow ws i .mask) (waitRow ws i .fields)
   pub all : count ≡ entryCount ws
   pub begun : from ≤ j
-  pub none-yet : SearchingFrom from (availableAt p w) (entryRow ws) j
+  pub none-yet : SearchingFrom from (available (view ws .txns) (waitRow ws i)) (entryRow ws) j
 
-module _ {from : ℕ} {ws₀ ws a₀ a : List ℕ} {done₀ done i₀ i : ℕ} {w : LookUp} {p count j : ℕ}
-    (k : Looking from ws₀ ws a₀ a done₀ done i₀ i w p count j) where
+-- the search goes on to row j
+abbrev Goes : Asked → List ℕ → ℕ → ℕ → Type 0
+Goes asked ws k j = (k ≤ j) × PassesAsked asked ws k j
+
+pub looking-on : {from : ℕ} {ws a : List ℕ} {done i : ℕ} {asked : Asked} {count k j : ℕ}
+    → Asks asked (waitRow ws i .mask) (waitRow ws i .fields) → count ≡ entryCount ws → from ≤ k
+    → SearchingFrom from (available (view ws .txns) (waitRow ws i)) (entryRow ws) k → Goes asked ws k j
+    → Looking from ws ws a a done done i i asked count j
+looking-on {ws = ws} {i = i} {asked = asked} q c b s g =
+    record {
+      same-words = refl;
+      same-area = refl;
+      same-done = refl;
+      same-turn = refl;
+      asks = q;
+      all = c;
+      begun = omega (arith, g .0);
+      none-yet =
+          from-on asked (waitRow ws i .mask) (waitRow ws i .fields) q (available (view ws .txns) (waitRow ws i))
+          (only-available (view ws .txns) (waitRow ws i)) s (g .1);
+    }
+
+module _ {from : ℕ} {ws₀ ws a₀ a : List ℕ} {done₀ done i₀ i : ℕ} {asked : Asked} {count j : ℕ}
+    (k : Looking from ws₀ ws a₀ a done₀ done i₀ i asked count j) where
   -- so the turns are as they were
   pub turns-still : {ws₁ a₁ : List ℕ} {c n : ℕ} → Turns from ws₁ ws₀ a₁ a₀ c done₀ i₀ n
       → Turns from ws₁ ws a₁ a c done i n
   turns-still t = rw (k .same-words, k .same-area, k .same-done, k .same-turn) t
 
-  module _ {e : Entry} {b : Bool} (r : e ≡ entryRow ws j) (v : b ≡ availableAt p w e) where
-    pub looking-more : b ≡ false → Looking from ws₀ ws a₀ a done₀ done i₀ i w p count (j + 1)
-    looking-more t =
-        record {
-          same-words = k .same-words;
-          same-area = k .same-area;
-          same-done = k .same-done;
-          same-turn = k .same-turn;
-          is-wait = k .is-wait;
-          slot = k .slot;
-          all = k .all;
-          begun = omega (arith, k .begun);
-          none-yet = from-more (k .none-yet) r (sym v ∙ t);
-        }
+  module _ {w : LookUp} {e : Entry} {b : Bool} (q : w ≡ waitRow ws i) (r : e ≡ entryRow ws j)
+      (v : b ≡ available (view ws .txns) w e) where
+    test : b ≡ available (view ws .txns) (waitRow ws i) e
+    test = v ∙ ap (λ x. available (view ws .txns) x e) q
+
+    pub looking-more : {h : ℕ} → b ≡ false → Goes asked ws (j + 1) h
+        → Looking from ws₀ ws a₀ a done₀ done i₀ i asked count h
+    looking-more t g =
+        rw (← k .same-words, ← k .same-area, ← k .same-done, ← k .same-turn)
+        (looking-on (k .asks) (k .all) (omega (arith, k .begun)) (from-more (k .none-yet) r (sym test ∙ t)) g)
 
     pub looking-found : b ≡ true → j < count → oldest (view ws .txns) w (drop from (view ws .entries)) ≡ some e
     looking-found t l =
-        first-available ws w p (k .slot) (drop from (view ws .entries))
-        ∙ from-found (entries-read ws) (k .none-yet) (k .begun) (omega (arith, k .all)) r (sym v ∙ t)
+        ap (λ x. oldest (view ws .txns) x (drop from (view ws .entries))) q
+        ∙ from-found (entries-read ws) (k .none-yet) (k .begun) (omega (arith, k .all)) r (sym test ∙ t)
 
-  pub looking-none : count ≤ j → oldest (view ws .txns) w (drop from (view ws .entries)) ≡ none
-  looking-none l =
-      first-available ws w p (k .slot) (drop from (view ws .entries))
-      ∙ from-none (entries-read ws) (k .none-yet) (omega (arith, k .all))
+  pub looking-none : count ≤ j → oldest (view ws .txns) (waitRow ws i) (drop from (view ws .entries)) ≡ none
+  looking-none l = from-none (entries-read ws) (k .none-yet) (omega (arith, k .all))
 
 module _ {from : ℕ} {ws₀ ws a₀ a : List ℕ} {count done i n : ℕ} (t : Turns from ws₀ ws a₀ a count done i n) where
   same-count : waitCount ws ≡ waitCount ws₀

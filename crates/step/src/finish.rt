@@ -162,7 +162,13 @@ pub(crate) fn close(space: &mut Words, answers: &mut [u8], count: usize, ending:
 // What every carried-out frame ends with, behind the `count` records that stand in the answers area; its own part has
 // left the entries before row `from` as they were. The number of records afterwards is returned. Most frames are over
 // here at once.
-pub(crate) fn finish(space: &mut Words, answers: &mut [u8], count: usize, ending: Ending, from: usize) -> usize
+pub(crate) fn finish(
+    space: &mut Words,
+    answers: &mut [u8],
+    count: usize,
+    ending: Ending,
+    from: usize,
+) -> usize
     requires { ⌜ recordSize * (count + maxTxns + maxWaits) ≤ length (now answers) ⌝ }
     ensures { λ n. ⌜ Does (finishedBy ending from (view (now (space .entry)))) (now (space .exit))
         (now (answers .entry)) (now (answers .exit)) count n ⌝ }

@@ -1,13 +1,10 @@
 // The own part of a look-up.
 ghost use mathlib.Core.Path.{_≡_};
 ghost use mathlib.Core.Option.{none};
-ghost use Prim.Native.Nat.{_≤_};
-ghost use Rattle.rules.specs.Holds.{liveTxn};
 ghost use Rattle.rules.specs.LookUp.{lookUpOf, givesNothing, answer, lookUp};
 ghost use Rattle.rules.specs.Requests.{frameOf, spaceRefusal};
 ghost use Rattle.rules.specs.Words.{view};
 ghost use Rattle.rules.specs.declared.Request.the-variants.{Find};
-ghost use Rattle.holds.specs.Live.{noSlot, slotOf};
 ghost use Rattle.words.specs.Ends.{InTime};
 ghost use Rattle.words.specs.Rows.{FitsWord};
 ghost use Rattle.step.specs.Does.{Carries};
@@ -17,7 +14,6 @@ use codec::records::plain_record;
 use holds::find::Match;
 use holds::find::any_conflict;
 use holds::find::find_available;
-use holds::live::slot_of;
 use holds::sweep::hand_out;
 use rules::FindRequest;
 use rules::LookUp;
@@ -50,27 +46,26 @@ pub(crate) fn look_up_of(space: &Words, l: FindRequest) -> LookUp
 
 // Whether a look-up to which no entry is available gets nothing: at timeout 0, and for the IfExists kinds where none
 // conflicts.
-pub(crate) fn gives_nothing(space: &Words, w: LookUp, p: u8, timeout: u32) -> bool
-    requires { ⌜ (p ≤ noSlot) × (p ≡ slotOf (liveTxn (w .txn .0) (view (now space) .txns))) ⌝ }
+pub(crate) fn gives_nothing(space: &Words, w: LookUp, timeout: u32) -> bool
     ensures { λ r. ⌜ r ≡ givesNothing (view (now (space .entry))) w timeout ⌝ }
 {
     if timeout == 0 {
         return true;
     }
     if w.if_exists {
-        !any_conflict(space, w, p)
+        !any_conflict(space, w)
     } else {
         false
     }
 }
 
 // A look-up to which no entry is available gets nothing, or waits, where there is room for it.
-pub(crate) fn wait_or_nothing(space: &mut Words, w: LookUp, p: u8, timeout: u32) -> Record
-    requires { ⌜ (p ≤ noSlot) × (p ≡ slotOf (liveTxn (w .txn .0) (view (now space) .txns))) × FitsWord (w .deadline) ⌝ }
+pub(crate) fn wait_or_nothing(space: &mut Words, w: LookUp, timeout: u32) -> Record
+    requires { ⌜ FitsWord (w .deadline) ⌝ }
     ensures { λ r. ⌜ (CanWait (view (now (space .entry)))
         → Carries (answer (view (now (space .entry))) w timeout none) (now (space .exit)) r) ⌝ }
 {
-    if gives_nothing(space, w, p, timeout) {
+    if gives_nothing(space, w, timeout) {
         return plain_record(KIND_NOTHING, w.party, w.txn);
     }
     add_wait(space, w);
@@ -84,11 +79,9 @@ pub(crate) fn find(space: &mut Words, l: FindRequest) -> Record
         → Carries (lookUp (view (now (space .entry))) (frameOf (Find l))) (now (space .exit)) r) ⌝ }
 {
     let w = look_up_of(space, l);
-    let txn = w.txn;
-    let p = slot_of(space, txn);
-    let Match::At(e) = find_available(space, w, p) else {
-        return wait_or_nothing(space, w, p, l.timeout);
+    let Match::At(e) = find_available(space, w) else {
+        return wait_or_nothing(space, w, l.timeout);
     };
-    hand_out(space, e, w, p);
+    hand_out(space, e, w);
     found_record(w, e)
 }

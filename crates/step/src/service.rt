@@ -1,14 +1,15 @@
 // Service: the waiting look-ups are gone through once.
 ghost use Prim.Native.Nat.{_+_, _*_, _≤_};
 ghost use lib.ListN.{length};
-ghost use Rattle.rules.specs.Numbers.{maxWaits, recordSize};
+ghost use Rattle.rules.specs.Numbers.{maxEntries, maxWaits, recordSize};
 ghost use Rattle.rules.specs.Words.{view};
 ghost use Rattle.step.specs.Does.{Does};
 ghost use Rattle.step.specs.From.{serviceFrom};
 use crate::answers::add_record;
 use codec::records::found_record;
+use holds::find::asked_at;
+use holds::find::next_row;
 use holds::holds::is_available;
-use holds::live::slot_of;
 use holds::sweep::hand_out;
 use words::rows::Words;
 use words::rows::entry_at;
@@ -22,7 +23,7 @@ use words::rows::wait_count;
 // with the oldest available at its turn, of the entries from row `from` on. `count` records stand in the answers area
 // before; the number afterwards is returned.
 pub(crate) fn serve_waits(space: &mut Words, answers: &mut [u8], count: usize, from: usize) -> usize
-    requires { ⌜ recordSize * (count + maxWaits) ≤ length (now answers) ⌝ }
+    requires { ⌜ (recordSize * (count + maxWaits) ≤ length (now answers)) × (from ≤ maxEntries) ⌝ }
     ensures { λ n. ⌜ Does (serviceFrom from (view (now (space .entry)))) (now (space .exit))
         (now (answers .entry)) (now (answers .exit)) count n ⌝ }
 {
@@ -31,21 +32,20 @@ pub(crate) fn serve_waits(space: &mut Words, answers: &mut [u8], count: usize, f
     let mut i: usize = 0;
     let mut n: usize = 0;
     'waiting: while i < waits {
-        let w = wait_at(space, i);
-        let txn = w.txn;
-        let p = slot_of(space, txn);
+        let asked = asked_at(space, i);
         let entries = entry_count(space);
-        let mut j: usize = from;
+        let mut j = next_row(space, asked, from, entries);
         while j < entries {
+            let w = wait_at(space, i);
             let e = entry_at(space, j);
-            if is_available(e, w, p) {
-                hand_out(space, e, w, p);
+            if is_available(space, e, w) {
+                hand_out(space, e, w);
                 let r = found_record(w, e);
                 done = add_record(answers, done, r);
                 i += 1;
                 continue 'waiting;
             }
-            j += 1;
+            j = next_row(space, asked, j + 1, entries);
         }
         move_wait(space, i, n);
         n += 1;

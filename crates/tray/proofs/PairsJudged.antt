@@ -30,8 +30,11 @@ few-frames tray e =
 pub pair-there : (tray : List ℕ) (i : ℕ) → badTray tray ≡ false → i < frameCount tray → 4 + 8 * (i + 1) ≤ length tray
 unfolding badTray
 pair-there tray i e h =
-    omega (arith, ltb-false (length tray) (pairsEnd tray)
-    (or-right (ltb (length tray) 4 || ltb maxTray (length tray) || ltb maxFrames (frameCount tray)) _ e))
+    omega (
+      arith,
+      ltb-false (length tray) (pairsEnd tray)
+          (or-right (ltb (length tray) 4 || ltb maxTray (length tray) || ltb maxFrames (frameCount tray)) _ e),
+    )
 
 -- i pairs have been judged, and what is free begins at `free`
 pub record Judging (tray : List ℕ) (free i : ℕ) : Type 0 where

@@ -28,12 +28,13 @@ pub lent-row : (b w k : ℕ) (ws : List ℕ) → take (b + w * k + w - (b + w * 
 unfolding row
 lent-row b w k ws = let e : b + w * k + w - (b + w * k) ≡ w = omega arith in ap (λ n. take n (drop (b + w * k) ws)) e
 
--- and its first word
-pub row-first : (b w k : ℕ) (ws : List ℕ) → 0 < w → getD (row b w ws k) 0 0 ≡ getD ws (b + w * k) 0
+-- its words, and the first
+pub row-word : (b w k j : ℕ) (ws : List ℕ) → j < w → getD (row b w ws k) j 0 ≡ getD ws (b + w * k + j) 0
 unfolding row
-row-first b w k ws h =
-    getD-take w (drop (b + w * k) ws) 0 0 h ∙ getD-drop (b + w * k) ws 0 0
-    ∙ ap (λ j. getD ws j 0) (add-zero (b + w * k))
+row-word b w k j ws h = getD-take w (drop (b + w * k) ws) j 0 h ∙ getD-drop (b + w * k) ws j 0
+
+pub row-first : (b w k : ℕ) (ws : List ℕ) → 0 < w → getD (row b w ws k) 0 0 ≡ getD ws (b + w * k) 0
+row-first b w k ws h = row-word b w k 0 ws h ∙ ap (λ j. getD ws j 0) (add-zero (b + w * k))
 
 -- a row that is put is read back
 pub row-put : (b w k : ℕ) (ws r : List ℕ) → length r ≡ w → b + w * k + w ≤ length ws

@@ -85,13 +85,13 @@ module _ {A : Type 0} {q : A → Bool} {f : ℕ → A} where
     pub search-found : {x : A} → i < n → x ≡ f i → q x ≡ true → findb q xs ≡ some x
     search-found l e t = ap (findb q) (r .is) ∙ found-up-to i n s l (ap q (sym e) ∙ t) ∙ ap some (sym e)
 
-    pub search-none : i ≡ n → findb q xs ≡ none
+    pub search-none : n ≤ i → findb q xs ≡ none
     search-none e = ap (findb q) (r .is) ∙ none-up-to n (record { passed = λ k l. s .passed k (omega arith) })
 
     pub search-any : {x : A} → i < n → x ≡ f i → q x ≡ true → anyb q xs ≡ true
     search-any l e t = some-any q xs (search-found l e t)
 
-    pub search-no : i ≡ n → anyb q xs ≡ false
+    pub search-no : n ≤ i → anyb q xs ≡ false
     search-no e = none-any q xs (search-none e)
 
 -- ---- a loop that begins at row k: none of those from k up to i passes

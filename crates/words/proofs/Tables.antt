@@ -1,5 +1,5 @@
 -- The three tables of a space: how a row is read and what it can hold, and the model once one of them is written.
-use Prim.Native.Nat.{ℕ, _<_}
+use Prim.Native.Nat.{ℕ, zero, suc, _+_, _*_, _<_}
 use mathlib.Core.Bool.{Bool, true, false, cond}
 use mathlib.Core.Path.{_≡_, refl, sym, ap, _∙_}
 use mathlib.Core.List.{List}
@@ -18,12 +18,12 @@ use Rattle.rules.specs.Frame.{isTake, isIfExists, lookUpOp}
 use Rattle.rules.specs.Numbers.{forever, maxEntries, maxTxns, maxWaits}
 use Rattle.rules.specs.State.{Model, holding, withEntries, withTxns, withWaits, withClock, withNextEntry, withNextTxn}
 use Rattle.rules.specs.Words.{untilOf, untilWord, entryWords, txnWords, waitWords, entryOf, txnOf, waitOf, entries}
-use Rattle.rules.specs.Words.{txns, waits, view}
+use Rattle.rules.specs.Words.{row, txns, waits, view}
 use Rattle.rules.specs.Words.{clockAt, nextEntryAt, nextTxnAt, entryCountAt, txnCountAt, waitCountAt, entryCount}
 use Rattle.rules.specs.Words.{txnCount, waitCount}
 use Rattle.rules.specs.Words.{entriesAt, entryWidth, txnsAt, txnWidth, waitsAt, waitWidth, spaceWords}
-use Rattle.words.specs.Rows.{entryRow, txnRow, waitRow, FitsWord, byteValues}
-use Rattle.words.proofs.RowLaws.{But, but-set, clear, word-kept}
+use Rattle.words.specs.Rows.{entryRow, txnRow, waitRow, fieldAt, FitsWord, byteValues}
+use Rattle.words.proofs.RowLaws.{But, but-set, clear, word-kept, row-word}
 use Rattle.words.proofs.SearchLaws.{Rows}
 use Rattle.words.proofs.Table.{Table, tableOf, all, apart, kept, Turned, length-all}
 
@@ -116,6 +116,20 @@ length-txns ws = length-all txnTable ws
 pub length-waits : (ws : List ℕ) → length (view ws .waits) ≡ waitCount ws
 unfolding view waits
 length-waits ws = length-all waitTable ws
+
+-- the field of an entry at a column, by its word
+pub field-word : (ws : List ℕ) (i k : ℕ) → k < 4
+    → fieldAt k (entryRow ws i .fields) ≡ getD ws (entriesAt + 1 + entryWidth * i + k) 0
+unfolding entryOf
+field-word ws i k h =
+    go k h ∙ row-word entriesAt entryWidth i (1 + k) ws (omega arith) ∙ ap (λ j. getD ws j 0) (omega arith)
+  where
+    go : (k : ℕ) → k < 4 → fieldAt k (entryRow ws i .fields) ≡ getD (row entriesAt entryWidth ws i) (1 + k) 0
+    go zero h = refl
+    go (suc zero) h = refl
+    go (suc (suc zero)) h = refl
+    go (suc (suc (suc zero))) h = refl
+    go (suc (suc (suc (suc k)))) h = absurd (omega arith)
 
 -- ---- what a row can hold is read back
 -- an end that was read from a word is written as that word

@@ -2,9 +2,10 @@
 use Prim.Native.Nat.{ℕ, zero, suc, _+_, _-_, _*_}
 use mathlib.Core.Path.{_≡_}
 use mathlib.Core.List.{List, [], _∷_}
-use lib.ListN.{take, drop}
+use lib.ListN.{getD, take, drop}
 use lib.Seq.{sets}
 use Rattle.rules.specs.declared.Entry.{Entry}
+use Rattle.rules.specs.declared.Fields.{Fields}
 use Rattle.rules.specs.declared.LookUp.{LookUp}
 use Rattle.rules.specs.declared.Txn.{Txn}
 use Rattle.rules.specs.declared.Until.{Until}
@@ -20,6 +21,10 @@ txnRow ws k = txnOf (row txnsAt txnWidth ws k)
 
 abbrev pub waitRow : List ℕ → ℕ → LookUp
 waitRow ws k = waitOf (row waitsAt waitWidth ws k)
+
+-- the field at a column, counted from 0
+abbrev pub fieldAt : ℕ → Fields → ℕ
+fieldAt k f = getD (f .kind ∷ f .side ∷ f .image ∷ f .place ∷ []) k 0
 
 -- the words once an entry is put in row k
 abbrev pub putEntry : List ℕ → ℕ → Entry → List ℕ

@@ -10,7 +10,7 @@ ghost use Rattle.rules.specs.Numbers.{maxEntries, maxTxns, maxWaits};
 ghost use Rattle.rules.specs.State.{empty, withEntries, withTxns, withWaits, withClock, withNextEntry, withNextTxn};
 ghost use Rattle.rules.specs.Words.{untilOf, untilWord, entryCount, txnCount, waitCount, view, spaceWords};
 ghost use Rattle.rules.specs.Words.{entryCountAt, txnCountAt, waitCountAt};
-ghost use Rattle.words.specs.Rows.{entryRow, txnRow, waitRow, putEntry, moveWords, moveTxn, moveWait};
+ghost use Rattle.words.specs.Rows.{entryRow, txnRow, waitRow, fieldAt, putEntry, moveWords, moveTxn, moveWait};
 ghost use Rattle.words.specs.Rows.{FitsWord, emptyWords};
 use rules::Entry;
 use rules::EntryId;
@@ -50,6 +50,9 @@ const WAIT_COUNT_AT: usize = 5;
 const ENTRIES_AT: usize = 6;
 
 const ENTRY_WIDTH: usize = 9;
+
+// Where the fields of the first row stand.
+const FIELDS_AT: usize = ENTRIES_AT + 1;
 
 const TXNS_AT: usize = ENTRIES_AT + ENTRY_WIDTH * MAX_ENTRIES;
 
@@ -266,6 +269,14 @@ pub fn entry_id(space: &Words, i: usize) -> u32
     space[ENTRIES_AT + ENTRY_WIDTH * i]
 }
 
+// The field of the entry in row i at a column, counted from 0.
+pub fn field_at(space: &Words, i: usize, column: usize) -> u32
+    requires { ⌜ (i < maxEntries) × (column < 4) ⌝ }
+    ensures { λ r. ⌜ r ≡ fieldAt column (entryRow (now (space .entry)) i .fields) ⌝ }
+{
+    space[FIELDS_AT + ENTRY_WIDTH * i + column]
+}
+
 pub fn put_entry(space: &mut Words, i: usize, e: Entry)
     requires { ⌜ i < maxEntries ⌝ }
     ensures { λ _. ⌜ now (space .exit) ≡ putEntry (now (space .entry)) i e ⌝ }
@@ -388,6 +399,30 @@ pub fn wait_at(space: &Words, i: usize) -> LookUp
         },
         txn: TxnId(r[7]),
         deadline,
+    }
+}
+
+// The template of the look-up in row i.
+pub fn wait_mask(space: &Words, i: usize) -> u8
+    requires { ⌜ i < maxWaits ⌝ }
+    ensures { λ r. ⌜ r ≡ waitRow (now (space .entry)) i .mask ⌝ }
+{
+    (space[WAITS_AT + WAIT_WIDTH * i + 2] % BYTE_VALUES) as u8
+}
+
+pub fn wait_fields(space: &Words, i: usize) -> Fields
+    requires { ⌜ i < maxWaits ⌝ }
+    ensures { λ r. ⌜ r ≡ waitRow (now (space .entry)) i .fields ⌝ }
+{
+    let o = WAITS_AT + WAIT_WIDTH * i;
+    let e = o + WAIT_WIDTH;
+    let all = &space[..];
+    let r = &all[o..e];
+    Fields {
+        kind: r[3],
+        side: r[4],
+        image: r[5],
+        place: r[6],
     }
 }
 

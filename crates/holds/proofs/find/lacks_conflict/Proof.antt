@@ -9,10 +9,10 @@ use Rattle.holds.proofs.find.lacks_conflict.Tie as tie
 
 returns : tie.Need-returns
 returns c =
-    let read = c .before .before .before in
+    let read = c .before in
     let m = view (read .before .args .space .now) in
     ap not (c .any-conflict .ensures ∙ ap (λ w. someConflicts (m .txns) w (m .entries)) (read .wait-at .ensures))
 
 pub lacks-conflict-spec : {M : Type 1} → statement M
 lacks-conflict-spec =
-    tie.close (tie.spec (λ c κs. search needs) (λ c κs. search needs) (λ c κs. search needs) returns)
+    tie.close (tie.spec (λ c κs. search needs) (λ c κs. search needs) returns)
