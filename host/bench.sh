@@ -1,9 +1,48 @@
 #!/usr/bin/env bash
-# Times the proved space, the plain reference and the tuned peer on the same trays: host/bench.sh [RUNS]
+# The proved space, the plain reference and the tuned peers on the same trays; no part of the test.
+#   host/bench.sh [--markdown] [RUNS]   ns a frame, of so many runs (7) of each of four programs, whose code lies behind
+#                                       0, 16, 32 and 48 bytes: elsewhere in memory a loop is faster or slower
+#   host/bench.sh [--markdown] count    instructions a frame, by valgrind
 set -euo pipefail
 cd "$(dirname "$0")/.."
 . host/build.sh
+
+what=times runs=7 form=()
+for word in "$@"; do
+    case $word in
+        --markdown) form=("$word") ;;
+        count) what=$word ;;
+        *) runs=$word ;;
+    esac
+done
+
+build_behind() { # PADDING: the program with so many bytes before its code
+    CARGO_TARGET_DIR=$out/behind-$1 BENCH_PADDING=$1 build_rust harness --bin bench
+    programs+=("$out/behind-$1/release/bench")
+}
+
+places() { # PROGRAM: where the functions lie that are timed
+    nm "$1" | awk '$3 == "space_run_tray" || $3 ~ /tuned.*run_tray/ { print $1 }' | sort
+}
+
+lies_behind() { # PADDING: in the last program they all lie so much further than in the first
+    local first last functions=0
+    while read -r first last; do
+        [ $((16#$last - 16#$first)) -eq "$1" ] || return 1
+        functions=$((functions + 1))
+    done < <(paste <(places "${programs[0]}") <(places "${programs[-1]}"))
+    [ $functions -gt 1 ]
+}
+
 find_archive
-build_rust harness --bin bench
+programs=()
+build_behind 0
+if [ "$what" = count ]; then
+    exec "${programs[0]}" "${form[@]}" count
+fi
+for padding in 16 32 48; do
+    build_behind $padding
+    lies_behind $padding || { echo "the code does not lie $padding bytes further in ${programs[-1]}"; exit 1; }
+done
 echo "$(grep -m 1 'model name' /proc/cpuinfo | sed 's/.*: //'), $(nproc) processors; $(rustc --version)"
-"$built/bench" "$@"
+"${programs[0]}" "${form[@]}" "$runs" "${programs[@]}"

@@ -5,7 +5,7 @@ cd "$(dirname "$0")/.."
 . host/build.sh
 
 FRAMES=2000000         # of the space, compared with the reference
-TUNED_FRAMES=300000    # of the tuned peer
+TUNED_FRAMES=300000    # of each tuned peer
 FENCED_TRAYS=20000     # damaged trays with guard pages
 CHECKED_TRAYS=400      # damaged trays under valgrind or the address sanitizer
 RANDOM_TRAYS=60        # given to the program and to host/run_tray.c
@@ -207,9 +207,10 @@ check_damaged() {
 
 # A discrepancy is a text that can be run: it is left in target/host/differ-NAME.txt. That the look-ups add up (document
 # 02, T-11) is checked after every frame; the report has the sums of all trays and histories.
-check_differ() { # NAME FRAMES
-    local sums report=$out/differ-$1.txt
-    "$built/differ" "$2" 1 "$1" 2> "$out/differ.progress" > "$report" ||
+check_differ() { # NAME FRAMES: the last word of the name is differ's
+    local sums subject=${1##* }
+    local report=$out/differ-$subject.txt
+    "$built/differ" "$2" 1 "$subject" 2> "$out/differ.progress" > "$report" ||
         { head -n 60 "$report"; fail "the $1 and the reference differ, or too little occurred: $report"; }
     sums=$(grep '^look-ups not refused: [1-9][0-9]* = ' "$report") || fail "the $1: its look-ups do not add up: $report"
     echo "ok: the $1, $(tail -n 2 "$report" | head -n 1)"
@@ -227,5 +228,6 @@ check_program
 check_random_trays
 check_damaged
 check_differ space "$FRAMES"
-check_differ tuned "$TUNED_FRAMES"
+check_differ "tuned rows" "$TUNED_FRAMES"
+check_differ "tuned columns" "$TUNED_FRAMES"
 echo "host/check.sh: all passed"

@@ -80,15 +80,15 @@ impl Subject for Proved {
     }
 }
 
-/// The tuned peer.
+/// A tuned peer.
 #[derive(Clone, PartialEq)]
-pub struct Tuned(tuned::Space);
+pub struct Tuned<S>(S);
 
-impl Subject for Tuned {
-    const NAME: &'static str = "the tuned peer";
+impl<S: tuned::Space> Subject for Tuned<S> {
+    const NAME: &'static str = S::NAME;
 
-    fn begin(at: Beginning) -> Tuned {
-        Tuned(tuned::Space::beginning(at.clock, at.next_entry, at.next_transaction))
+    fn begin(at: Beginning) -> Tuned<S> {
+        Tuned(S::beginning(at.clock, at.next_entry, at.next_transaction))
     }
 
     fn step(&mut self, frame: &[u8], area: &mut [u8]) -> u64 {
@@ -96,7 +96,7 @@ impl Subject for Tuned {
     }
 
     fn run_tray(tray: &[u8], area: &mut [u8]) -> u64 {
-        tuned::run_tray(tray, area)
+        S::run_tray(tray, area)
     }
 
     fn tables(&self) -> Option<Space> {

@@ -33,7 +33,8 @@ pub fn word<const N: usize>(bytes: &[u8; N], at: usize) -> u32 {
 /// For each field, all ones if the mask asks for it.
 #[inline(always)]
 pub fn asked(mask: u8) -> Fields {
-    std::array::from_fn(|i| 0u32.wrapping_sub(u32::from(mask >> i & 1)))
+    let mask = u32::from(mask); // a word, so that the compiler does all four at once
+    std::array::from_fn(|i| 0u32.wrapping_sub(mask >> i & 1))
 }
 
 #[inline(always)]

@@ -1,17 +1,32 @@
-//! Documents 01 and 02 in plain safe Rust, written for speed: a peer to measure the proved space against. No heap.
+//! Documents 01 and 02 in plain safe Rust, written for speed, in two layouts: peers to measure the proved space by.
+//! No heap.
 //!
 //! - `frame`: frames decoded, refusals 2 to 5
 //! - `answer`: answer records
-//! - `space`: who holds what, what each frame does, refusals 1 and 6 to 13
+//! - `rows`, `columns`: spaces, who holds what, what each frame does, refusals 1 and 6 to 13
+//! - `common`: what both have
 //! - `tray`: trays, refusals 15 and 16
 //!
 //! Of several available entries the one with the lowest number is handed out (document 02).
 #![forbid(unsafe_code)]
 
 mod answer;
+pub mod columns;
+mod common;
 mod frame;
-mod space;
+pub mod rows;
 mod tray;
 
-pub use space::Space;
-pub use tray::run_tray;
+/// A space, whatever the layout of its entries.
+pub trait Space: Clone + PartialEq {
+    const NAME: &'static str;
+
+    /// With 0, 1, 1 the empty space; else one like it, at this clock and with these next numbers.
+    fn beginning(clock: u32, next_entry: u32, next_transaction: u32) -> Self;
+
+    /// Carries out a frame: records + 65,536 × number.
+    fn step(&mut self, frame: &[u8], answers: &mut [u8]) -> u64;
+
+    /// Runs a tray from an empty space: frames + 65,536 × records + 4,294,967,296 × number.
+    fn run_tray(tray: &[u8], answers: &mut [u8]) -> u64;
+}

@@ -2,7 +2,7 @@
 
 use crate::answer::{RECORD, STEP};
 use crate::frame::word;
-use crate::space::Space;
+use crate::Space;
 
 const LONGEST_TRAY: usize = 65536;
 const MOST_FRAMES: usize = 2000;
@@ -35,13 +35,14 @@ fn judge(tray: &[u8]) -> Result<usize, u64> {
     Ok(count)
 }
 
-/// Runs a tray from an empty space: frames + 65,536 × records + 4,294,967,296 × number.
-pub fn run_tray(tray: &[u8], answers: &mut [u8]) -> u64 {
+/// Each layout's `run_tray`. A layout calls it itself: so it is compiled in this crate, where what is called once is
+/// inlined.
+pub fn run<S: Space>(tray: &[u8], answers: &mut [u8]) -> u64 {
     let count = match judge(tray) {
         Ok(count) => count,
         Err(number) => return number << 32,
     };
-    let mut space = Space::beginning(0, 1, 1);
+    let mut space = S::beginning(0, 1, 1);
     let mut records = 0;
     for place in 0..count {
         let rest = &mut answers[RECORD * records..];

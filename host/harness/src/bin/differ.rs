@@ -1,4 +1,4 @@
-//! Compares a space with the reference: `differ [FRAMES] [SEED] [space|tuned]`.
+//! Compares a space with the reference: `differ [FRAMES] [SEED] [space|rows|columns]`.
 //!
 //! History number k has seed SEED + k, so `differ 1 S` repeats the history of seed S alone. A discrepancy is printed as
 //! a text that can be run, shortened to the frames that are needed; what differs stands in its comments.
@@ -63,14 +63,15 @@ fn main() -> ExitCode {
     let arguments: Vec<String> = std::env::args().skip(1).collect();
     let subject = arguments.get(2).map_or("space", String::as_str);
     let numbers = (number(arguments.first(), 1_000_000), number(arguments.get(1), 1));
-    let ((Some(wanted), Some(first)), "space" | "tuned", 0..=3) = (numbers, subject, arguments.len()) else {
-        eprintln!("usage: differ [FRAMES] [SEED] [space|tuned]");
+    let ((Some(wanted), Some(first)), "space" | "rows" | "columns", 0..=3) = (numbers, subject, arguments.len()) else {
+        eprintln!("usage: differ [FRAMES] [SEED] [space|rows|columns]");
         return ExitCode::from(2);
     };
     let begin = Instant::now();
     let mut coverage = Coverage::default();
     let ran = match subject {
-        "tuned" => run::<Tuned>(wanted, first, &mut coverage),
+        "rows" => run::<Tuned<tuned::rows::Space>>(wanted, first, &mut coverage),
+        "columns" => run::<Tuned<tuned::columns::Space>>(wanted, first, &mut coverage),
         _ => run_proved(wanted, first, &mut coverage),
     };
     match ran {

@@ -1,63 +1,62 @@
-//! The table that is printed.
+//! Tables as they are printed.
 
-use crate::Times;
+use crate::contenders::{better, Each, TUNED};
+use crate::loads::Load;
 
-pub struct Row {
-    group: String,
-    name: String,
-    runs: Vec<Times>,
+#[derive(Clone, Copy)]
+pub enum Form {
+    Text,
+    Markdown,
 }
 
-impl Row {
-    pub fn new(group: &str, name: &str) -> Row {
-        Row { group: group.to_string(), name: name.to_string(), runs: Vec::new() }
+impl Form {
+    /// The tuned peers' numbers; the better stands out.
+    pub fn tuned(self, numbers: &Each<f64>) -> Vec<String> {
+        let better = better(numbers);
+        let shown = |it: usize| match self {
+            _ if it != better => format!("{:.1}", numbers[it]),
+            Form::Text => format!("*{:.1}", numbers[it]),
+            Form::Markdown => format!("**{:.1}**", numbers[it]),
+        };
+        TUNED.map(shown).to_vec()
     }
 
-    pub fn add(&mut self, times: Times) {
-        self.runs.push(times);
-    }
-
-    fn times(&self, contender: usize) -> Spread {
-        Spread::of(self.runs.iter().map(|times| times[contender]))
-    }
-
-    /// Of the proved space's time to another's.
-    fn ratio(&self, contender: usize) -> Spread {
-        Spread::of(self.runs.iter().map(|times| times[0] / times[contender]))
-    }
-}
-
-/// Median and quartiles.
-struct Spread {
-    median: f64,
-    low: f64,
-    high: f64,
-}
-
-impl Spread {
-    fn of(values: impl Iterator<Item = f64>) -> Spread {
-        let mut values: Vec<f64> = values.collect();
-        values.sort_by(f64::total_cmp);
-        let at = |quarters: usize| values[(values.len() - 1) * quarters / 4];
-        Spread { median: at(2), low: at(1), high: at(3) }
-    }
-
-    fn shown(&self, digits: usize) -> String {
-        format!("{:.digits$} [{:.digits$}, {:.digits$}]", self.median, self.low, self.high)
-    }
-}
-
-pub fn print(rows: &[Row], runs: usize) {
-    println!("ns a frame, medians of {runs} runs [quartiles]; a ratio is taken within a run.");
-    let mut group = "";
-    for row in rows {
-        if row.group != group {
-            group = &row.group;
-            println!("\n| {group} | here | plain | here / plain | tuned | here / tuned |");
-            println!("|---|---:|---:|---:|---:|---:|");
+    /// The names of a table's columns behind the first, which has the group's name; a row for each load.
+    pub fn print(self, columns: &[&str], loads: &[Load], cells: &[Vec<String>]) {
+        let rows: Vec<(&Load, &Vec<String>)> = loads.iter().zip(cells).collect();
+        for group in rows.chunk_by(|(a, _), (b, _)| a.group == b.group) {
+            let columns = columns.iter().map(|column| column.to_string()).collect();
+            let mut lines = vec![line(&group[0].0.group, columns)];
+            lines.extend(group.iter().map(|(load, cells)| line(&load.name, cells.to_vec())));
+            println!();
+            match self {
+                Form::Text => print_text(&lines),
+                Form::Markdown => print_markdown(&lines),
+            }
         }
-        let plain = format!("{:.1} | {}", row.times(1).median, row.ratio(1).shown(2));
-        let tuned = format!("{:.1} | {}", row.times(2).median, row.ratio(2).shown(2));
-        println!("| {} | {} | {plain} | {tuned} |", row.name, row.times(0).shown(1));
+    }
+}
+
+fn line(name: &str, cells: Vec<String>) -> Vec<String> {
+    [vec![name.to_string()], cells].concat()
+}
+
+fn print_text(lines: &[Vec<String>]) {
+    let widths: Vec<usize> =
+        (0..lines[0].len()).map(|i| lines.iter().map(|line| line[i].chars().count()).max().unwrap_or(0)).collect();
+    for line in lines {
+        print!("{:<width$}", line[0], width = widths[0]);
+        for (cell, width) in line.iter().zip(&widths).skip(1) {
+            print!("  {cell:>width$}");
+        }
+        println!();
+    }
+}
+
+fn print_markdown(lines: &[Vec<String>]) {
+    println!("| {} |", lines[0].join(" | "));
+    println!("|---|{}", "---:|".repeat(lines[0].len() - 1));
+    for line in &lines[1..] {
+        println!("| {} |", line.join(" | "));
     }
 }

@@ -1,7 +1,7 @@
-//! The space. What makes it fast:
+//! Entries as rows of 32 bytes, by number. What makes it fast:
 //!
-//! - Rows are by number: a write appends, removing moves rows down. So the first available row is the entry with the
-//!   lowest number, and no numbers are compared.
+//! - A write appends, removing moves rows down. So the first available row is the entry with the lowest number, and no
+//!   numbers are compared.
 //! - Between steps no waiting look-up has an available entry, so service looks only at the rows that the step has set
 //!   free (`fresh`, a mask of 64 rows), the lowest bit first: of all available entries it meets the lowest number.
 //! - The least end is kept, so that a tick at which nothing ends is one comparison.
@@ -9,15 +9,13 @@
 //!   vain), and whether a transaction has written, read or taken anything.
 //! - The four fields are compared as two words of 64 bits.
 
-use crate::answer::{Answers, ABORTED, COMMITTED, CREATED, EXCEPTION, NOTHING, TICKED, WAITING};
-use crate::frame::{asked, decode, Fields, Long, Request, FOREVER, LAST_CLOCK};
+use crate::answer::{Answers, ABORTED, COMMITTED, EXCEPTION, NOTHING, WAITING};
+use crate::common::{Common, NO_SLOT, SLOTS};
+use crate::frame::{asked, decode, Fields, Long, Request, FOREVER};
+use crate::tray;
 
 const ENTRIES: usize = 64;
-const SLOTS: usize = 8;
 const WAITS: usize = 16;
-
-/// The slot of no transaction; it has no bit.
-const NO_SLOT: u8 = 8;
 
 #[derive(Clone, Copy, PartialEq)]
 struct Entry {
@@ -52,31 +50,10 @@ fn paired(fields: Fields) -> [u64; 2] {
     [kind | side << 32, image | place << 32]
 }
 
+/// None for NO_SLOT.
 #[inline(always)]
 fn bit_of(slot: u8) -> u8 {
     (1u32 << slot) as u8
-}
-
-/// clock + duration, or FOREVER; refusal 10.
-#[inline(always)]
-fn end_of(clock: u32, duration: u32) -> Result<u32, u8> {
-    if duration == FOREVER {
-        return Ok(FOREVER);
-    }
-    match clock.checked_add(duration) {
-        Some(end) if end <= LAST_CLOCK => Ok(end),
-        _ => Err(10),
-    }
-}
-
-/// The words that equal x, as bits.
-#[inline(always)]
-fn equal(words: &[u32; SLOTS], x: u32) -> u8 {
-    let mut bits = 0;
-    for (i, &word) in words.iter().enumerate() {
-        bits |= u8::from(word == x) << i;
-    }
-    bits
 }
 
 impl Entry {
@@ -116,15 +93,7 @@ impl Entry {
 
 #[derive(Clone, PartialEq)]
 pub struct Space {
-    clock: u32,
-    next_entry: u32,
-    next_transaction: u32,
-    /// No entry, transaction or waiting look-up ends before this.
-    next_end: u32,
-    /// The transactions by slot; number 0: the slot is free.
-    numbers: [u32; SLOTS],
-    ends: [u32; SLOTS],
-    owners: [u8; SLOTS],
+    common: Common,
     /// Bit p: the transaction in slot p has written, read or taken something.
     active: u8,
     /// Bit p: party p waits.
@@ -139,22 +108,17 @@ pub struct Space {
     entries: [Entry; ENTRIES],
 }
 
-impl Space {
-    /// With 0, 1, 1 the empty space; else one like it, at this clock and with these next numbers.
-    pub fn beginning(clock: u32, next_entry: u32, next_transaction: u32) -> Space {
+impl crate::Space for Space {
+    const NAME: &'static str = "the tuned rows";
+
+    fn beginning(clock: u32, next_entry: u32, next_transaction: u32) -> Space {
         let (asks, pairs) = ([0; 2], [0; 2]);
         let (takes, if_exists) = (false, false);
         let (slot, bit) = (NO_SLOT, 0);
         let wait = LookUp { asks, pairs, transaction: 0, deadline: 0, party: 0, takes, if_exists, slot, bit };
         let entry = Entry { pairs, number: 0, end: 0, private: NO_SLOT, taken: NO_SLOT, readers: 0 };
         Space {
-            clock,
-            next_entry,
-            next_transaction,
-            next_end: FOREVER,
-            numbers: [0; SLOTS],
-            ends: [0; SLOTS],
-            owners: [0; SLOTS],
+            common: Common::beginning(clock, next_entry, next_transaction),
             active: 0,
             waiting: 0,
             if_exists: 0,
@@ -165,9 +129,8 @@ impl Space {
         }
     }
 
-    /// Carries out a frame: records + 65,536 × number.
     #[inline]
-    pub fn step(&mut self, frame: &[u8], answers: &mut [u8]) -> u64 {
+    fn step(&mut self, frame: &[u8], answers: &mut [u8]) -> u64 {
         let Some(mut answers) = Answers::new(answers) else { return 65536 };
         match decode(frame).and_then(|request| self.perform(request, &mut answers)) {
             Ok(()) => {
@@ -183,19 +146,28 @@ impl Space {
         }
     }
 
+    fn run_tray(tray: &[u8], answers: &mut [u8]) -> u64 {
+        tray::run::<Space>(tray, answers)
+    }
+}
+
+impl Space {
     /// Carries out the request, or gives the first of refusals 6 to 13 that applies and changes nothing.
     #[inline(always)]
     fn perform(&mut self, request: Request, answers: &mut Answers) -> Result<(), u8> {
         match request {
             Request::Write(long) => self.write(&long, answers),
             Request::LookUp { operation, long } => self.look_up(operation, &long, answers),
-            Request::Create { party, lease } => self.create(party, lease, answers),
+            Request::Create { party, lease } => {
+                self.check_party(party)?;
+                self.common.create(party, lease, answers)
+            }
             Request::End { commits, party, transaction } => {
                 let waits = self.waiting >> party & 1 == 1;
                 if waits && (commits || !self.waits_inside(party, transaction)) {
                     return Err(6);
                 }
-                let slot = self.slot(party, transaction)?;
+                let slot = self.common.slot(party, transaction)?;
                 answers.plain(if commits { COMMITTED } else { ABORTED }, party, transaction);
                 let fresh = self.end_transaction(commits, slot, 0);
                 if waits {
@@ -223,44 +195,16 @@ impl Space {
         transaction != 0 && waits.any(|look_up| look_up.party == party && look_up.transaction == transaction)
     }
 
-    /// The slot of a commit's or abort's transaction; 7 and 8.
-    #[inline(always)]
-    fn slot(&self, party: u8, transaction: u32) -> Result<u8, u8> {
-        let found = equal(&self.numbers, transaction);
-        if transaction == 0 || found == 0 {
-            return Err(7);
-        }
-        let slot = found.trailing_zeros() as u8 & 7;
-        if self.owners[usize::from(slot)] == party {
-            Ok(slot)
-        } else {
-            Err(8)
-        }
-    }
-
-    #[inline(always)]
-    fn slot_or_none(&self, party: u8, transaction: u32) -> Result<u8, u8> {
-        if transaction == 0 {
-            Ok(NO_SLOT)
-        } else {
-            self.slot(party, transaction)
-        }
-    }
-
     #[inline(always)]
     fn write(&mut self, long: &Long, answers: &mut Answers) -> Result<(), u8> {
         self.check_party(long.party)?;
-        let private = self.slot_or_none(long.party, long.transaction)?;
-        let end = end_of(self.clock, long.duration)?;
+        let private = self.common.slot_or_none(long.party, long.transaction)?;
+        let end = self.common.end_of(long.duration)?;
         let row = self.entry_count;
         if long.duration != 0 && row >= ENTRIES {
             return Err(11);
         }
-        let number = self.next_entry;
-        if number == FOREVER {
-            return Err(13);
-        }
-        self.next_entry = number + 1;
+        let number = self.common.entry_number()?;
         answers.written(long.party, long.transaction, number);
         if long.duration == 0 {
             return Ok(());
@@ -268,7 +212,7 @@ impl Space {
         let pairs = paired(long.fields);
         self.entries[row & 63] = Entry { pairs, number, end, private, taken: NO_SLOT, readers: 0 };
         self.entry_count = row + 1;
-        self.next_end = self.next_end.min(end);
+        self.common.next_end = self.common.next_end.min(end);
         self.active |= bit_of(private);
         if private == NO_SLOT && self.wait_count != 0 {
             self.serve(1 << row, answers);
@@ -280,8 +224,8 @@ impl Space {
     fn look_up(&mut self, operation: u8, long: &Long, answers: &mut Answers) -> Result<(), u8> {
         let &Long { party, transaction, .. } = long;
         self.check_party(party)?;
-        let slot = self.slot_or_none(party, transaction)?;
-        let deadline = end_of(self.clock, long.duration)?;
+        let slot = self.common.slot_or_none(party, transaction)?;
+        let deadline = self.common.end_of(long.duration)?;
         let (asks, pairs) = (paired(asked(long.mask)), paired(long.fields));
         let (takes, if_exists) = (operation == 3 || operation == 5, operation >= 4);
         let look_up = LookUp { asks, pairs, transaction, deadline, party, takes, if_exists, slot, bit: bit_of(slot) };
@@ -298,7 +242,7 @@ impl Space {
         self.wait_count += 1;
         self.waiting |= 1 << party;
         self.if_exists = self.if_exists & !(1 << party) | u32::from(if_exists) << party;
-        self.next_end = self.next_end.min(deadline);
+        self.common.next_end = self.common.next_end.min(deadline);
         Ok(())
     }
 
@@ -342,34 +286,9 @@ impl Space {
         }
     }
 
-    #[inline(always)]
-    fn create(&mut self, party: u8, lease: u32, answers: &mut Answers) -> Result<(), u8> {
-        self.check_party(party)?;
-        if lease == 0 {
-            return Err(9);
-        }
-        let end = end_of(self.clock, lease)?;
-        let free = equal(&self.numbers, 0);
-        if free == 0 {
-            return Err(12);
-        }
-        let number = self.next_transaction;
-        if number == FOREVER {
-            return Err(13);
-        }
-        self.next_transaction = number + 1;
-        let slot = free.trailing_zeros() as usize & 7;
-        self.numbers[slot] = number;
-        self.ends[slot] = end;
-        self.owners[slot] = party;
-        self.next_end = self.next_end.min(end);
-        answers.plain(CREATED, party, number);
-        Ok(())
-    }
-
     /// Commits or aborts. Gives the rows set free, with those that are fresh already (`before`) at their new places.
     fn end_transaction(&mut self, commits: bool, slot: u8, before: u64) -> u64 {
-        self.numbers[usize::from(slot) & 7] = 0;
+        self.common.numbers[usize::from(slot) & 7] = 0;
         let bit = bit_of(slot);
         if self.active & bit == 0 {
             return before;
@@ -427,19 +346,14 @@ impl Space {
 
     #[inline(always)]
     fn tick(&mut self, answers: &mut Answers) -> Result<(), u8> {
-        if self.clock >= LAST_CLOCK {
-            return Err(10);
-        }
-        self.clock += 1;
-        answers.plain(TICKED, 0, 0);
-        if self.next_end <= self.clock {
-            self.next_end = FOREVER;
+        if self.common.tick(answers)? {
+            self.common.next_end = FOREVER;
             let fresh = self.end_transactions(answers);
             let fresh = self.end_entries(fresh);
             self.serve(fresh, answers);
             self.close_waits(answers);
             for look_up in &self.waits[..self.wait_count.min(WAITS)] {
-                self.next_end = self.next_end.min(look_up.deadline);
+                self.common.next_end = self.common.next_end.min(look_up.deadline);
             }
         }
         Ok(())
@@ -448,19 +362,18 @@ impl Space {
     /// Aborts the transactions that end now, by number. Gives the rows set free.
     fn end_transactions(&mut self, answers: &mut Answers) -> u64 {
         let mut ended = 0u8;
-        for slot in (0..SLOTS).filter(|&slot| self.numbers[slot] != 0) {
-            if self.ends[slot] == self.clock {
+        for slot in (0..SLOTS).filter(|&slot| self.common.numbers[slot] != 0) {
+            if self.common.ends[slot] == self.common.clock {
                 ended |= 1 << slot;
             } else {
-                self.next_end = self.next_end.min(self.ends[slot]);
+                self.common.next_end = self.common.next_end.min(self.common.ends[slot]);
             }
         }
         let mut fresh = 0;
         while ended != 0 {
-            let all = (0..SLOTS).filter(|slot| ended >> slot & 1 == 1);
-            let slot = all.min_by_key(|&slot| self.numbers[slot]).expect("one is left");
+            let slot = self.common.oldest(ended);
             ended &= !(1 << slot);
-            answers.plain(EXCEPTION, self.owners[slot], self.numbers[slot]);
+            answers.plain(EXCEPTION, self.common.owners[slot], self.common.numbers[slot]);
             fresh = self.end_transaction(false, slot as u8, fresh);
             self.keep_waits(|look_up| usize::from(look_up.slot) != slot);
         }
@@ -472,13 +385,13 @@ impl Space {
         let (mut fresh, mut kept) = (0, 0);
         for row in 0..self.entry_count.min(ENTRIES) {
             let entry = self.entries[row];
-            if entry.end != self.clock {
+            if entry.end != self.common.clock {
                 if kept != row {
                     self.entries[kept & 63] = entry;
                 }
                 fresh |= (before >> row & 1) << kept;
                 kept += 1;
-                self.next_end = self.next_end.min(entry.end);
+                self.common.next_end = self.common.next_end.min(entry.end);
             }
         }
         self.entry_count = kept;
@@ -490,7 +403,7 @@ impl Space {
     fn close_waits(&mut self, answers: &mut Answers) {
         let mut over = 0u32;
         for look_up in &self.waits[..self.wait_count.min(WAITS)] {
-            if look_up.deadline == self.clock || look_up.if_exists && !self.any_conflict(look_up) {
+            if look_up.deadline == self.common.clock || look_up.if_exists && !self.any_conflict(look_up) {
                 answers.plain(NOTHING, look_up.party, look_up.transaction);
                 over |= 1 << look_up.party;
             }

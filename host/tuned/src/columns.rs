@@ -1,0 +1,471 @@
+//! Entries as columns of 64 words; which rows are in use, private, take-held and read-held are masks of 64 bits. What
+//! makes it fast:
+//!
+//! - The first field asked for is compared with a whole column, further fields only in the rows that have it.
+//! - A commit, an abort and the end of a lease are a few operations on masks, and no row moves.
+//! - Service, ends and waiting parties as in `rows`.
+//!
+//! A write takes the first free row, so rows are not by number: of several available entries the numbers are compared.
+
+use crate::answer::{Answers, ABORTED, COMMITTED, EXCEPTION, NOTHING, WAITING};
+use crate::common::{Common, NO_SLOT, SLOTS};
+use crate::frame::{asked, decode, Fields, Long, Request, FOREVER};
+use crate::tray;
+
+const ENTRIES: usize = 64;
+const WAITS: usize = 16;
+
+/// Words of a column that are compared at once.
+const BLOCK: usize = 16;
+
+/// The place of no transaction among the masks by slot; it has 0 there, always.
+const NONE: usize = NO_SLOT as usize;
+
+type Column = [u32; ENTRIES];
+
+#[derive(Clone, Copy, PartialEq)]
+struct LookUp {
+    party: u8,
+    takes: bool,
+    if_exists: bool,
+    mask: u8,
+    slot: u8,
+    transaction: u32,
+    deadline: u32,
+    fields: Fields,
+}
+
+impl LookUp {
+    #[inline(always)]
+    fn slot(&self) -> usize {
+        usize::from(self.slot).min(NONE)
+    }
+}
+
+/// The words of the first so many blocks that equal x, as bits. A block without any is told by one reduction.
+#[inline(always)]
+fn equal(column: &Column, x: u32, blocks: usize) -> u64 {
+    let mut rows = 0;
+    for (b, block) in column.chunks_exact(BLOCK).take(blocks).enumerate() {
+        let block: &[u32; BLOCK] = block.try_into().expect("a whole block");
+        if block.iter().fold(false, |any, &word| any | (word == x)) {
+            let bits = block.iter().enumerate().fold(0, |bits, (i, &word)| bits | u32::from(word == x) << i);
+            rows |= u64::from(bits) << (BLOCK * b);
+        }
+    }
+    rows
+}
+
+#[derive(Clone, PartialEq)]
+pub struct Space {
+    common: Common,
+    used: u64,
+    /// Private to some transaction; take-held by one.
+    private: u64,
+    taken: u64,
+    /// The same by slot, and read-held.
+    own: [u64; SLOTS + 1],
+    held: [u64; SLOTS + 1],
+    read: [u64; SLOTS + 1],
+    /// Bit p: party p waits.
+    waiting: u32,
+    /// Bit p: the look-up with which party p waits, or waited last, is of an IfExists kind.
+    if_exists: u32,
+    wait_count: usize,
+    /// By arrival.
+    waits: [LookUp; WAITS],
+    fields: [Column; 4],
+    numbers: Column,
+    ends: Column,
+}
+
+impl crate::Space for Space {
+    const NAME: &'static str = "the tuned columns";
+
+    fn beginning(clock: u32, next_entry: u32, next_transaction: u32) -> Space {
+        let (takes, if_exists) = (false, false);
+        let (mask, slot) = (0, NO_SLOT);
+        let wait = LookUp { party: 0, takes, if_exists, mask, slot, transaction: 0, deadline: 0, fields: [0; 4] };
+        Space {
+            common: Common::beginning(clock, next_entry, next_transaction),
+            used: 0,
+            private: 0,
+            taken: 0,
+            own: [0; SLOTS + 1],
+            held: [0; SLOTS + 1],
+            read: [0; SLOTS + 1],
+            waiting: 0,
+            if_exists: 0,
+            wait_count: 0,
+            waits: [wait; WAITS],
+            fields: [[0; ENTRIES]; 4],
+            numbers: [0; ENTRIES],
+            ends: [0; ENTRIES],
+        }
+    }
+
+    #[inline]
+    fn step(&mut self, frame: &[u8], answers: &mut [u8]) -> u64 {
+        let Some(mut answers) = Answers::new(answers) else { return 65536 };
+        match decode(frame).and_then(|request| self.perform(request, &mut answers)) {
+            Ok(()) => {
+                if self.waiting & self.if_exists != 0 {
+                    self.close_waits(&mut answers);
+                }
+                answers.count as u64
+            }
+            Err(number) => {
+                answers.refused(frame, number);
+                1 + 65536 * u64::from(number)
+            }
+        }
+    }
+
+    fn run_tray(tray: &[u8], answers: &mut [u8]) -> u64 {
+        tray::run::<Space>(tray, answers)
+    }
+}
+
+impl Space {
+    /// Carries out the request, or gives the first of refusals 6 to 13 that applies and changes nothing.
+    #[inline(always)]
+    fn perform(&mut self, request: Request, answers: &mut Answers) -> Result<(), u8> {
+        match request {
+            Request::Write(long) => self.write(&long, answers),
+            Request::LookUp { operation, long } => self.look_up(operation, &long, answers),
+            Request::Create { party, lease } => {
+                self.check_party(party)?;
+                self.common.create(party, lease, answers)
+            }
+            Request::End { commits, party, transaction } => {
+                let waits = self.waiting >> party & 1 == 1;
+                if waits && (commits || !self.waits_inside(party, transaction)) {
+                    return Err(6);
+                }
+                let slot = usize::from(self.common.slot(party, transaction)?);
+                answers.plain(if commits { COMMITTED } else { ABORTED }, party, transaction);
+                let fresh = if commits { self.commit(slot) } else { self.abort(slot) };
+                if waits {
+                    self.keep_waits(|look_up| look_up.party != party);
+                }
+                self.serve(fresh & self.used, answers);
+                Ok(())
+            }
+            Request::Tick => self.tick(answers),
+        }
+    }
+
+    /// 6
+    #[inline(always)]
+    fn check_party(&self, party: u8) -> Result<(), u8> {
+        if self.waiting >> party & 1 == 1 {
+            return Err(6);
+        }
+        Ok(())
+    }
+
+    /// Whether the party's look-up waits inside the transaction: an abort of it withdraws the look-up.
+    fn waits_inside(&self, party: u8, transaction: u32) -> bool {
+        let mut waits = self.waits[..self.wait_count.min(WAITS)].iter();
+        transaction != 0 && waits.any(|look_up| look_up.party == party && look_up.transaction == transaction)
+    }
+
+    #[inline(always)]
+    fn write(&mut self, long: &Long, answers: &mut Answers) -> Result<(), u8> {
+        self.check_party(long.party)?;
+        let slot = usize::from(self.common.slot_or_none(long.party, long.transaction)?);
+        let end = self.common.end_of(long.duration)?;
+        if long.duration != 0 && self.used == u64::MAX {
+            return Err(11);
+        }
+        let number = self.common.entry_number()?;
+        answers.written(long.party, long.transaction, number);
+        if long.duration == 0 {
+            return Ok(());
+        }
+        let row = (!self.used).trailing_zeros() as usize & 63;
+        let bit = 1 << row;
+        self.used |= bit;
+        self.numbers[row] = number;
+        self.ends[row] = end;
+        for (column, field) in self.fields.iter_mut().zip(long.fields) {
+            column[row] = field;
+        }
+        self.common.next_end = self.common.next_end.min(end);
+        if slot != NONE {
+            self.private |= bit;
+            self.own[slot] |= bit;
+        } else if self.wait_count != 0 {
+            self.serve(bit, answers);
+        }
+        Ok(())
+    }
+
+    #[inline(always)]
+    fn look_up(&mut self, operation: u8, long: &Long, answers: &mut Answers) -> Result<(), u8> {
+        let Long { party, mask, transaction, fields, .. } = *long;
+        self.check_party(party)?;
+        let slot = usize::from(self.common.slot_or_none(party, transaction)?);
+        let deadline = self.common.end_of(long.duration)?;
+        let (takes, if_exists) = (operation & 1 == 1, operation >= 4);
+        let hits = self.matching(self.open(takes, slot), mask, &fields);
+        if hits != 0 {
+            self.hand_out(self.oldest(hits), party, takes, slot, transaction, answers);
+            return Ok(());
+        }
+        if long.duration == 0 || if_exists && !self.any_conflict(takes, slot, mask, &fields) {
+            answers.plain(NOTHING, party, transaction);
+            return Ok(());
+        }
+        answers.plain(WAITING, party, transaction);
+        let slot = slot as u8;
+        self.waits[self.wait_count] = LookUp { party, takes, if_exists, mask, slot, transaction, deadline, fields };
+        self.wait_count += 1;
+        self.waiting |= 1 << party;
+        self.if_exists = self.if_exists & !(1 << party) | u32::from(if_exists) << party;
+        self.common.next_end = self.common.next_end.min(deadline);
+        Ok(())
+    }
+
+    #[inline(always)]
+    fn read_by_others(&self, slot: usize) -> u64 {
+        (0..SLOTS).fold(0, |rows, other| rows | if other == slot { 0 } else { self.read[other] })
+    }
+
+    /// The rows that are available as far as holds go.
+    #[inline(always)]
+    fn open(&self, takes: bool, slot: usize) -> u64 {
+        let visible = self.used & !self.taken & (!self.private | self.own[slot]);
+        if takes {
+            visible & !self.read_by_others(slot)
+        } else {
+            visible
+        }
+    }
+
+    #[inline(always)]
+    fn any_conflict(&self, takes: bool, slot: usize, mask: u8, fields: &Fields) -> bool {
+        let mut others = self.private & !self.own[slot] | self.taken & !self.held[slot];
+        if takes {
+            others |= self.read_by_others(slot);
+        }
+        others != 0 && self.matching(others, mask, fields) != 0
+    }
+
+    /// Of these rows, those that match: by the column of the first field asked for, then row by row.
+    #[inline(always)]
+    fn matching(&self, rows: u64, mask: u8, fields: &Fields) -> u64 {
+        if mask == 0 {
+            return rows;
+        }
+        let blocks = (ENTRIES + BLOCK - 1 - rows.leading_zeros() as usize) / BLOCK;
+        let first = mask.trailing_zeros() as usize & 3;
+        let hits = rows & equal(&self.fields[first], fields[first], blocks);
+        if mask & (mask - 1) == 0 {
+            hits
+        } else {
+            self.matching_few(hits, mask, fields)
+        }
+    }
+
+    /// The same, row by row: for few rows.
+    #[inline(always)]
+    fn matching_few(&self, rows: u64, mask: u8, fields: &Fields) -> u64 {
+        let asked = asked(mask);
+        let (mut left, mut hits) = (rows, 0);
+        while left != 0 {
+            let row = left.trailing_zeros() as usize & 63;
+            let differs = (0..4).fold(0, |bits, i| bits | (self.fields[i][row] ^ fields[i]) & asked[i]);
+            hits |= u64::from(differs == 0) << row;
+            left &= left - 1;
+        }
+        hits
+    }
+
+    /// Of these rows, the one with the lowest number.
+    #[inline(always)]
+    fn oldest(&self, rows: u64) -> usize {
+        let mut oldest = rows.trailing_zeros() as usize & 63;
+        let mut left = rows & (rows - 1);
+        while left != 0 {
+            let row = left.trailing_zeros() as usize & 63;
+            if self.numbers[row] < self.numbers[oldest] {
+                oldest = row;
+            }
+            left &= left - 1;
+        }
+        oldest
+    }
+
+    /// Answers found, and does to the entry what the look-up does.
+    #[inline(always)]
+    fn hand_out(&mut self, row: usize, party: u8, takes: bool, slot: usize, transaction: u32, answers: &mut Answers) {
+        let fields = self.fields.each_ref().map(|column| column[row]);
+        answers.found(party, transaction, self.numbers[row], fields);
+        let bit = 1 << row;
+        if takes {
+            if slot == NONE {
+                self.used &= !bit;
+            } else if self.own[slot] & bit != 0 {
+                self.used &= !bit;
+                self.private &= !bit;
+                self.own[slot] &= !bit;
+            } else {
+                self.taken |= bit;
+                self.held[slot] |= bit;
+                self.read[slot] &= !bit;
+            }
+        } else if slot != NONE {
+            self.read[slot] |= bit & !self.own[slot];
+        }
+    }
+
+    /// Gives the rows set free.
+    #[inline(always)]
+    fn commit(&mut self, slot: usize) -> u64 {
+        self.used &= !self.held[slot];
+        let fresh = self.own[slot] | self.read[slot];
+        self.end_transaction(slot);
+        fresh
+    }
+
+    /// Gives the rows set free.
+    #[inline(always)]
+    fn abort(&mut self, slot: usize) -> u64 {
+        self.used &= !self.own[slot];
+        let fresh = self.held[slot] | self.read[slot];
+        self.end_transaction(slot);
+        fresh
+    }
+
+    #[inline(always)]
+    fn end_transaction(&mut self, slot: usize) {
+        self.private &= !self.own[slot];
+        self.taken &= !self.held[slot];
+        (self.own[slot], self.held[slot], self.read[slot]) = (0, 0, 0);
+        self.common.numbers[slot] = 0;
+    }
+
+    /// The waiting look-ups once, in order of arrival; each with an available entry among the fresh is answered found,
+    /// with the lowest number of these. A hand-out makes no entry available, so no row becomes fresh on the way.
+    fn serve(&mut self, fresh: u64, answers: &mut Answers) {
+        if fresh == 0 {
+            return;
+        }
+        let mut kept = 0;
+        for i in 0..self.wait_count.min(WAITS) {
+            let look_up = self.waits[i];
+            let slot = look_up.slot();
+            let rows = fresh & self.open(look_up.takes, slot);
+            let hits = if rows.count_ones() <= 4 {
+                self.matching_few(rows, look_up.mask, &look_up.fields)
+            } else {
+                self.matching(rows, look_up.mask, &look_up.fields)
+            };
+            if hits != 0 {
+                let row = self.oldest(hits);
+                self.waiting &= !(1 << look_up.party);
+                self.hand_out(row, look_up.party, look_up.takes, slot, look_up.transaction, answers);
+                continue;
+            }
+            if kept != i {
+                self.waits[kept & 15] = look_up;
+            }
+            kept += 1;
+        }
+        self.wait_count = kept;
+    }
+
+    #[inline(always)]
+    fn tick(&mut self, answers: &mut Answers) -> Result<(), u8> {
+        if self.common.tick(answers)? {
+            let fresh = self.end_transactions(answers);
+            self.end_entries();
+            self.serve(fresh & self.used, answers);
+            self.close_waits(answers);
+            self.common.next_end = self.least_end();
+        }
+        Ok(())
+    }
+
+    /// Aborts the transactions that end now, by number. Gives the rows set free.
+    fn end_transactions(&mut self, answers: &mut Answers) -> u64 {
+        let mut ended = 0;
+        for slot in 0..SLOTS {
+            let ends = self.common.numbers[slot] != 0 && self.common.ends[slot] == self.common.clock;
+            ended |= u8::from(ends) << slot;
+        }
+        let mut fresh = 0;
+        while ended != 0 {
+            let slot = self.common.oldest(ended);
+            ended &= !(1 << slot);
+            answers.plain(EXCEPTION, self.common.owners[slot], self.common.numbers[slot]);
+            fresh |= self.abort(slot);
+            self.keep_waits(|look_up| usize::from(look_up.slot) != slot);
+        }
+        fresh
+    }
+
+    /// Removes the entries that end now.
+    fn end_entries(&mut self) {
+        let over = self.used & equal(&self.ends, self.common.clock, ENTRIES / BLOCK);
+        if over != 0 {
+            self.used &= !over;
+            self.private &= !over;
+            self.taken &= !over;
+            for slot in 0..SLOTS {
+                self.own[slot] &= !over;
+                self.held[slot] &= !over;
+                self.read[slot] &= !over;
+            }
+        }
+    }
+
+    /// What has gone may leave behind an end that is still to come: then one tick too many is looked at.
+    fn least_end(&self) -> u32 {
+        let clock = self.common.clock;
+        let later = |end: u32| if end > clock { end } else { FOREVER };
+        let mut least = FOREVER;
+        for &end in &self.ends {
+            least = least.min(later(end));
+        }
+        for &end in &self.common.ends {
+            least = least.min(later(end));
+        }
+        for look_up in &self.waits[..self.wait_count.min(WAITS)] {
+            least = least.min(look_up.deadline);
+        }
+        least
+    }
+
+    /// Gives nothing, in order of arrival, to the look-ups whose deadline is reached, and to those of an IfExists kind
+    /// with no conflicting entry left.
+    fn close_waits(&mut self, answers: &mut Answers) {
+        let mut over = 0u32;
+        for look_up in &self.waits[..self.wait_count.min(WAITS)] {
+            let &LookUp { takes, mask, ref fields, .. } = look_up;
+            let conflicts = || self.any_conflict(takes, look_up.slot(), mask, fields);
+            if look_up.deadline == self.common.clock || look_up.if_exists && !conflicts() {
+                answers.plain(NOTHING, look_up.party, look_up.transaction);
+                over |= 1 << look_up.party;
+            }
+        }
+        if over != 0 {
+            self.keep_waits(|look_up| over >> look_up.party & 1 == 0);
+        }
+    }
+
+    fn keep_waits(&mut self, keep: impl Fn(&LookUp) -> bool) {
+        let mut kept = 0;
+        for i in 0..self.wait_count.min(WAITS) {
+            let look_up = self.waits[i];
+            if keep(&look_up) {
+                self.waits[kept & 15] = look_up;
+                kept += 1;
+            } else {
+                self.waiting &= !(1 << look_up.party);
+            }
+        }
+        self.wait_count = kept;
+    }
+}
