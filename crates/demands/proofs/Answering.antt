@@ -65,7 +65,7 @@ mask-fits f e =
     let first = or-left _ (namesNoTxn (f .op) && not (eqb (f .txn) 0)) e in
     let second =
     or-left _ (not (hasTemplate (f .op)) && not (eqb (f .mask) 0))
-    (or-left _ (hasTemplate (f .op) && badTemplate f) first) in
+    (or-left _ (hasTemplate (f .op) && badTemplate (f .mask) (f .fields)) first) in
     let l = ltb-false 15 (f .mask) (or-right (not (eqb (f .byte3) 0)) _ second) in
     omega arith
 

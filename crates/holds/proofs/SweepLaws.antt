@@ -17,7 +17,7 @@ use Rattle.rules.specs.Template.{bit}
 use Rattle.rules.specs.Holds.{dropReader}
 use Rattle.rules.specs.Transactions.{privateTo, takenBy}
 use Rattle.holds.specs.declared.sweep.Sweep.{Sweep}
-use Rattle.holds.specs.declared.sweep.Sweep.the-variants.{Expire, Commit, Abort, Remove, Mark}
+use Rattle.holds.specs.declared.sweep.Sweep.the-variants.{Expire, Commit, Abort}
 use Rattle.rules.specs.Lists.{filterb}
 use Rattle.rules.proofs.ListLaws.{filter-append}
 use Rattle.rules.specs.Words.{upTo, row, entryOf, entryWords, entryCount, entryCountAt, entries, view}
@@ -25,7 +25,7 @@ use Rattle.rules.specs.Numbers.{maxEntries}
 use Rattle.rules.specs.State.{holding}
 use Rattle.words.specs.Rows.{entryRow, byteValues}
 use Rattle.holds.specs.Live.{noSlot}
-use Rattle.holds.specs.Sweep.{dropAt, releasedAt, markedAt, keeps, changes, KeptAt, OthersBefore, Still}
+use Rattle.holds.specs.Sweep.{dropAt, releasedAt, keeps, changes, KeptAt, Still}
 use Rattle.holds.specs.Sweep.{FreeBefore, swept, sweepModel, SameBefore}
 use Rattle.words.proofs.UpToLaws.{length-upTo, take-upTo}
 use Rattle.words.proofs.CompactLaws.{Compacting, compact-start, compact-same, compact-put, compact-done}
@@ -37,14 +37,10 @@ abbrev asHeld : Entry → Entry → Entry
 asHeld e x = holding e (x .«private_to») (x .«taken_by») (x .readers)
 
 changed : (s : Sweep) (e : Entry) → changes s e ≡ asHeld e (changes s e)
-unfolding releasedAt markedAt
+unfolding releasedAt
 changed (Expire clock) e = refl
 changed (Commit t p) e = refl
 changed (Abort t p) e = refl
-changed (Remove n) e = refl
-changed (Mark n takes t p) e =
-    cond-cases (λ x. x ≡ asHeld e x) (eqb (e .id .0) (n .0))
-    (λ h. cond-cases (λ x. x ≡ asHeld e x) (privateTo (t .0) e) (λ k. refl) (λ k. refl)) (λ h. refl)
 
 storable : (s : Sweep) (r : List ℕ) → changes s (entryOf r) .readers < byteValues → Storable (changes s (entryOf r))
 storable s r l = subst Storable (sym (changed s (entryOf r))) (held-fits r _ _ _ l)
@@ -72,16 +68,7 @@ sweep-still s ws (suc r) h =
     let a = h r (omega arith) in
     rw (sym (add-one r)) (compact-same (sweep-still s ws r (λ k l. h k (omega arith))) refl (a .0) refl (a .1))
 
--- a pass by number leaves the rows with other numbers as they are
-pub still-remove : (n : EntryId) (ws : List ℕ) (r : ℕ) → OthersBefore (n .0) ws r → Still (Remove n) ws r
-still-remove n ws r h k l = (ap not (h k l), refl)
-
-pub still-mark : (n : EntryId) (takes : Bool) (t : TxnId) (p : ℕ) (ws : List ℕ) (r : ℕ) → OthersBefore (n .0) ws r
-    → Still (Mark n takes t p) ws r
-still-mark n takes t p ws r h k l =
-    (refl, ap (λ b. cond b (markedAt takes t p (entryRow ws k)) (entryRow ws k)) (h k l))
-
--- nor does the end of a transaction touch the rows of which it has nothing
+-- the end of a transaction does not touch the rows of which it has nothing
 module _ (t : TxnId) (p : ℕ) (ws : List ℕ) (r : ℕ) (h : FreeBefore (t .0) p ws r) where
   pub still-commit : Still (Commit t p) ws r
   still-commit k l = (ap not (h k l .untaken), h k l .unheld)

@@ -8,14 +8,20 @@ use lib.Dec.{eqb}
 use Rattle.rules.specs.declared.Entry.{Entry}
 use Rattle.rules.specs.declared.Fields.{Fields}
 use Rattle.rules.specs.Template.{bit, matches}
+use Rattle.rules.specs.Words.{entryCount}
 use Rattle.words.specs.Rows.{fieldAt, entryRow}
 use Rattle.holds.specs.declared.find.Asked.{Asked}
 use Rattle.holds.specs.declared.find.Match.{Match}
 use Rattle.holds.specs.declared.find.Match.the-variants.{At, None}
 
 abbrev pub matchOf : Match → Option Entry
-matchOf (At e) = some e
+matchOf (At e i) = some e
 matchOf None = none
+
+-- it stands in its row
+abbrev pub InRow : List ℕ → Match → Type 0
+InRow ws (At e i) = (i < entryCount ws) × (e ≡ entryRow ws i)
+InRow ws None = Unit {0}
 
 -- a column that is one asks for the template's field there
 abbrev pub Asks : Asked → ℕ → Fields → Type 0

@@ -17,7 +17,7 @@ use Rattle.rules.specs.Transactions.{privateTo, takenBy, releasedBy}
 use Rattle.words.specs.Rows.{entryRow, putEntry, byteValues}
 use Rattle.holds.specs.Live.{noSlot}
 use Rattle.holds.specs.declared.sweep.Sweep.{Sweep}
-use Rattle.holds.specs.declared.sweep.Sweep.the-variants.{Expire, Commit, Abort, Remove, Mark}
+use Rattle.holds.specs.declared.sweep.Sweep.the-variants.{Expire, Commit, Abort}
 
 -- read holders with the one at slot p added, unless p is none
 abbrev pub addAt : ℕ → ℕ → ℕ
@@ -40,33 +40,23 @@ abbrev pub keeps : Sweep → Entry → Bool
 keeps (Expire clock) e = not (reached clock (e .end))
 keeps (Commit t p) e = not (takenBy (t .0) e)
 keeps (Abort t p) e = not (privateTo (t .0) e)
-keeps (Remove n) e = not (eqb (e .id .0) (n .0))
-keeps (Mark n takes t p) e = true
 
 abbrev pub changes : Sweep → Entry → Entry
 changes (Expire clock) e = e
 changes (Commit t p) e = releasedAt (t .0) p e
 changes (Abort t p) e = releasedAt (t .0) p e
-changes (Remove n) e = e
-changes (Mark n takes t p) e = cond (eqb (e .id .0) (n .0)) (markedAt takes t p e) e
 
 -- the slot that it goes by, or none
 abbrev pub slotIn : Sweep → ℕ
 slotIn (Expire clock) = 0
 slotIn (Commit t p) = p
 slotIn (Abort t p) = p
-slotIn (Remove n) = 0
-slotIn (Mark n takes t p) = p
 
 -- the words before and after the entry e of row i is kept at row n: it stands there as it is, or is written, changed
 abbrev pub KeptAt : Sweep → Entry → ℕ → ℕ → List ℕ → List ℕ → Type 0
 KeptAt s e i n ws ws′ =
     ((n ≡ i) × (changes s e ≡ e) × (ws′ ≡ ws))
     ⊎ ((changes s e .readers < byteValues) × (ws′ ≡ putEntry ws n (changes s e)))
-
--- no row before r has an entry with the number
-abbrev pub OthersBefore : ℕ → List ℕ → ℕ → Type 0
-OthersBefore n ws r = (k : ℕ) → k < r → eqb (entryRow ws k .id .0) n ≡ false
 
 -- the transaction t, at slot p, has nothing of the entry
 pub record FreeOf (t p : ℕ) (e : Entry) : Type 0 where

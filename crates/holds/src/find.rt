@@ -7,7 +7,7 @@ ghost use Rattle.rules.specs.Words.{view};
 ghost use Rattle.words.specs.Rows.{waitRow};
 ghost use Rattle.rules.specs.Closing.{isOver};
 ghost use Rattle.rules.specs.Holds.{oldest, someConflicts};
-ghost use Rattle.holds.specs.Find.{matchOf, Asks, hasField, Passes, PassesAsked};
+ghost use Rattle.holds.specs.Find.{matchOf, InRow, Asks, hasField, Passes, PassesAsked};
 use crate::holds::has_bit;
 use crate::holds::is_available;
 use crate::holds::is_conflicting;
@@ -24,9 +24,9 @@ use words::rows::wait_fields;
 use words::rows::wait_mask;
 use words::time::reached_at;
 
-// An available entry, or none.
+// An available entry with its row, or none.
 pub enum Match {
-    At(Entry),
+    At(Entry, usize),
     None,
 }
 
@@ -141,7 +141,8 @@ pub fn next_row(space: &Words, a: Asked, from: usize, n: usize) -> usize
 
 // The oldest entry that is available to the look-up.
 pub fn find_available(space: &Words, w: LookUp) -> Match
-    ensures { λ r. ⌜ matchOf r ≡ oldest (view (now (space .entry)) .txns) w (view (now (space .entry)) .entries) ⌝ }
+    ensures { λ r. ⌜ (matchOf r ≡ oldest (view (now (space .entry)) .txns) w (view (now (space .entry)) .entries))
+        × InRow (now (space .entry)) r ⌝ }
 {
     let n = entry_count(space);
     let asked = asked_of(w.mask, w.fields);
@@ -149,7 +150,7 @@ pub fn find_available(space: &Words, w: LookUp) -> Match
     while i < n {
         let e = entry_at(space, i);
         if is_available(space, e, w) {
-            return Match::At(e);
+            return Match::At(e, i);
         }
         i = next_row(space, asked, i + 1, n);
     }

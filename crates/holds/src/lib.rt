@@ -1,6 +1,7 @@
 // Who holds what: searches, passes over the entries, transactions made and ended.
 pub mod endings;
 pub mod find;
+pub mod hand;
 pub mod holds;
 pub mod live;
 pub mod sweep;

@@ -6,29 +6,21 @@ ghost use Rattle.rules.specs.Numbers.{maxEntries};
 ghost use Rattle.rules.specs.Tick.{dropEnded};
 ghost use Rattle.rules.specs.Words.{view, spaceWords};
 ghost use Rattle.holds.specs.Live.{noSlot};
-ghost use Rattle.holds.specs.Hand.{handedOut};
-ghost use mathlib.Core.Bool.{true, not, cond, _&&_, _||_};
+ghost use mathlib.Core.Bool.{true, cond};
 ghost use lib.Dec.{eqb};
 ghost use Rattle.rules.specs.Transactions.{noTxn};
-ghost use Rattle.holds.specs.Sweep.{releasedAt, markedAt, keeps, changes, slotIn};
-ghost use Rattle.holds.specs.Sweep.{KeptAt, OthersBefore, FreeOf, FreeBefore, Still, sweepModel, SameBefore};
-use crate::holds::add_reader;
+ghost use Rattle.holds.specs.Sweep.{releasedAt, keeps, changes, slotIn};
+ghost use Rattle.holds.specs.Sweep.{KeptAt, FreeOf, FreeBefore, Still, sweepModel, SameBefore};
 use crate::holds::drop_reader;
 use crate::holds::has_bit;
-use crate::live::NO_SLOT;
-use crate::live::slot_of;
 use rules::Entry;
-use rules::EntryId;
-use rules::LookUp;
 use rules::TxnId;
 use words::rows::Words;
 use words::rows::clock;
 use words::rows::entry_at;
 use words::rows::entry_count;
-use words::rows::entry_id;
 use words::rows::put_entry;
 use words::rows::set_entry_count;
-use words::rows::whole;
 use words::time::reached_at;
 
 // A pass over the entries.
@@ -39,10 +31,6 @@ pub(crate) enum Sweep {
     Commit(TxnId, u8),
     // It aborts: what it has written goes, the rest is released.
     Abort(TxnId, u8),
-    // The entry with the number goes.
-    Remove(EntryId),
-    // It gets the mark of a read, or of a take, by the transaction at its slot.
-    Mark(EntryId, bool, TxnId, u8),
 }
 
 pub(crate) fn keeps_entry(s: Sweep, e: Entry) -> bool
@@ -55,8 +43,6 @@ pub(crate) fn keeps_entry(s: Sweep, e: Entry) -> bool
         }
         Sweep::Commit(t, _) => e.taken_by.0 != t.0,
         Sweep::Abort(t, _) => e.private_to.0 != t.0,
-        Sweep::Remove(n) => e.id.0 != n.0,
-        Sweep::Mark(_, _, _, _) => true,
     }
 }
 
@@ -80,23 +66,6 @@ pub(crate) fn release(e: Entry, t: TxnId, p: u8) -> Entry
     x
 }
 
-pub(crate) fn mark(e: Entry, takes: bool, t: TxnId, p: u8) -> Entry
-    requires { ⌜ p ≤ noSlot ⌝ }
-    ensures { λ r. ⌜ r ≡ markedAt takes t p e ⌝ }
-{
-    if e.private_to.0 == t.0 {
-        return e;
-    }
-    let mut x = e;
-    if takes {
-        x.taken_by = t;
-        x.readers = drop_reader(e.readers, p);
-        return x;
-    }
-    x.readers = add_reader(e.readers, p);
-    x
-}
-
 pub(crate) fn change_entry(s: Sweep, e: Entry) -> Entry
     requires { ⌜ slotIn s ≤ noSlot ⌝ }
     ensures { λ r. ⌜ r ≡ changes s e ⌝ }
@@ -105,14 +74,6 @@ pub(crate) fn change_entry(s: Sweep, e: Entry) -> Entry
         Sweep::Expire(_) => e,
         Sweep::Commit(t, p) => release(e, t, p),
         Sweep::Abort(t, p) => release(e, t, p),
-        Sweep::Remove(_) => e,
-        Sweep::Mark(n, takes, t, p) => {
-            if e.id.0 == n.0 {
-                mark(e, takes, t, p)
-            } else {
-                e
-            }
-        }
     }
 }
 
@@ -139,8 +100,6 @@ pub(crate) fn is_untouched(s: Sweep, e: Entry) -> bool
         Sweep::Expire(_) => true,
         Sweep::Commit(t, p) => is_free_of(e, t, p),
         Sweep::Abort(t, p) => is_free_of(e, t, p),
-        Sweep::Remove(_) => true,
-        Sweep::Mark(n, _, _, _) => e.id.0 != n.0,
     }
 }
 
@@ -162,21 +121,6 @@ pub(crate) fn keep_entry(space: &mut Words, s: Sweep, e: Entry, i: usize, n: usi
     }
     let x = change_entry(s, e);
     put_entry(space, n, x);
-}
-
-// The first of the rows whose entry has the number, or else their count.
-pub(crate) fn row_of(space: &Words, id: EntryId, count: usize) -> usize
-    requires { ⌜ count ≤ maxEntries ⌝ }
-    ensures { λ r. ⌜ (r ≤ count) × OthersBefore (id .0) (now (space .entry)) r ⌝ }
-{
-    let mut i: usize = 0;
-    while i < count {
-        if entry_id(space, i) == id.0 {
-            return i;
-        }
-        i += 1;
-    }
-    count
 }
 
 // The first of the rows of whose entry the transaction t, at slot p, has anything, or else their count.
@@ -204,8 +148,6 @@ pub(crate) fn first_touched(space: &Words, s: Sweep, count: usize) -> usize
         Sweep::Expire(_) => 0,
         Sweep::Commit(t, p) => first_held(space, t, p, count),
         Sweep::Abort(t, p) => first_held(space, t, p, count),
-        Sweep::Remove(n) => row_of(space, n, count),
-        Sweep::Mark(n, _, _, _) => row_of(space, n, count),
     }
 }
 
@@ -231,41 +173,6 @@ pub(crate) fn pass_over(space: &mut Words, s: Sweep) -> usize
     }
     set_entry_count(space, n);
     first
-}
-
-// Whether handing the entry out removes it.
-pub(crate) fn is_removed(takes: bool, private_to: TxnId, t: TxnId) -> bool
-    ensures { λ r. ⌜ r ≡ (takes && eqb («private_to» .0) (t .0)) ⌝ }
-{
-    takes & (private_to.0 == t.0)
-}
-
-// Whether handing out leaves a mark where it does not remove.
-pub(crate) fn is_marked(takes: bool, p: u8) -> bool
-    ensures { λ r. ⌜ r ≡ (takes || not (eqb p noSlot)) ⌝ }
-{
-    takes | (p != NO_SLOT)
-}
-
-// The entry is handed out to the look-up. A read outside transactions leaves no mark.
-pub fn hand_out(space: &mut Words, e: Entry, w: LookUp)
-    ensures { λ _. ⌜ (view (now (space .exit)) ≡ handedOut w e (view (now (space .entry))))
-        × (length (now (space .exit)) ≡ spaceWords) ⌝ }
-{
-    let id = e.id;
-    let private_to = e.private_to;
-    let txn = w.txn;
-    let takes = w.takes;
-    if is_removed(takes, private_to, txn) {
-        pass_over(space, Sweep::Remove(id));
-        return;
-    }
-    let p = slot_of(space, txn);
-    if is_marked(takes, p) {
-        pass_over(space, Sweep::Mark(id, takes, txn, p));
-        return;
-    }
-    whole(space);
 }
 
 // Stored entries that end now are removed.

@@ -3,7 +3,7 @@
 use Prim.Native.Nat.{ℕ, _+_, _<_}
 use mathlib.Core.Bool.{Bool, cond, not}
 use mathlib.Core.Path.{_≡_, refl}
-use mathlib.Core.List.{List, map}
+use mathlib.Core.List.{List, [], _∷_, map}
 use native.Mathlib.Omega.{arith}
 use Rattle.rules.specs.declared.Entry.{Entry}
 use Rattle.rules.specs.declared.Txn.{Txn}
@@ -13,7 +13,8 @@ use Rattle.rules.specs.State.{Model}
 use Rattle.rules.specs.Frame.{Frame}
 use Rattle.rules.specs.Write.{newEntry, stored}
 use Rattle.rules.specs.LookUp.{removes, isEntry, marked, handOut}
-use Rattle.rules.specs.Transactions.{released}
+use Rattle.rules.specs.Transactions.{released, abort}
+use Rattle.rules.specs.Tick.{endedTxns, abortAll, dropEnded, lapsed}
 use Rattle.rules.specs.Sound.{Ascending}
 use Rattle.rules.proofs.BoolLaws.{cond-cases}
 use Rattle.sound.proofs.AllLaws.{all-snoc, all-filter, all-map}
@@ -56,3 +57,18 @@ stored-order m f h =
     eqb-cases (Numbered (m .nextEntry + 1)) (f .leaseOrTimeout) 0 (λ _. (h .0, more))
     (λ _. let up = ascend-snoc (λ (e : Entry). e .id .0) (newEntry m f) (m .entries) (h .1) (h .0) in
     (up, all-snoc (m .entries) more (omega arith)))
+
+-- what ends in a tick
+abort-order : (t : ℕ) (m : Model) → InOrder m → InOrder (abort t m)
+unfolding abort
+abort-order t m h = freed-numbered (m .txns) t _ (m .entries) h
+
+all-aborted : (ts : List Txn) (m : Model) → InOrder m → InOrder (abortAll ts m)
+unfolding abortAll
+all-aborted [] m h = h
+all-aborted (t ∷ ts) m h = all-aborted ts (abort (t .id .0) m) (abort-order (t .id .0) m h)
+
+pub lapsed-order : (m : Model) → InOrder m → InOrder (lapsed m .model)
+unfolding lapsed dropEnded
+lapsed-order m h =
+    let n = abortAll (endedTxns m) m in numbered-filter _ (n .entries) (all-aborted (endedTxns m) m h)

@@ -36,6 +36,7 @@ use Rattle.sound.proofs.Events.{Admitted}
 use Rattle.sound.proofs.OwnPartLaws.{part-at}
 use Rattle.sound.proofs.ConflictLaws.{leftOf, nobody-over}
 use Rattle.sound.proofs.FreedLaws.{own-freed, none-expired}
+use Rattle.sound.proofs.OrderLaws.{InOrder, lapsed-order}
 use Rattle.holds.specs.Sweep.{SameBefore}
 use Rattle.step.specs.From.{serviceFrom}
 use Rattle.step.proofs.FromLaws.{service-idle, service-whole, from-none, service-from, from-counts}
@@ -159,6 +160,12 @@ module _ (f : Frame) (m : Model) (s : Sound m) (a : Admitted f m) (o : isOperati
       subst⁻¹ (λ ts. NoneFor (dropEnded (abortAll ts own))) none
       (subst⁻¹ (λ n. NoneFor (dropEnded n)) ticks (none-expired m _ s))
 
+  ticking : isTick (f .op) ≡ true → InOrder own
+  unfolding tick
+  ticking t =
+      let ticks = ap (λ (c : Carried). c .model) (part-at m f (eqb-true (f .op) opTick t)) in
+      subst⁻¹ InOrder ticks (s .consistent .ordered .entries, s .consistent .below)
+
   ticked : isTick (f .op) ≡ true → Bounded own
       → let n = length (lapsed own .records) in
       serviceFrom (firstFree Tick k n) (lapsed own .model) ≡ service (lapsed own .model)
@@ -166,7 +173,7 @@ module _ (f : Frame) (m : Model) (s : Sound m) (a : Admitted f m) (o : isOperati
       let n = length (lapsed own .records) in
       ⊎-elim (λ z. rw z (from-none maxEntries (lapsed own .model) (lapsed-fits own b .model-fits .entries-fit)
       ∙ sym (service-idle (lapsed own .model) (idle t (eqb-true n 0 z)))))
-      (λ z. rw z (service-whole (lapsed own .model))) (bool-cases (eqb n 0))
+      (λ z. rw z (service-whole (lapsed own .model) (lapsed-order own (ticking t)))) (bool-cases (eqb n 0))
 
   -- service from the row on is the whole of it
   from-same : (e : Ending) → EndsAs f e → SameBefore k m own → Bounded own

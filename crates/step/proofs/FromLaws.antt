@@ -1,16 +1,17 @@
 -- Service from a row on is the rules' service, where no entry before it is available to anyone who waits; and where none
 -- is at all, service does nothing.
-use Prim.Native.Nat.{ℕ, _+_, _≤_, _<_}
+use Prim.Native.Nat.{ℕ, suc, _+_, _≤_, _<_}
 use mathlib.Core.Bool.{Bool, true, false, not, cond}
 use mathlib.Core.Logic.{_⊎_, inl, inr}
 use mathlib.Core.Option.{Option, none, some}
 use mathlib.Core.Path.{_≡_, refl, sym, ap, ap₂, _∙_, subst, subst⁻¹}
 use mathlib.Core.List.{List, [], _∷_, _++_, map, map-append, List·Memᴰ, List·Memᴰ·head, List·Memᴰ·tail}
+use mathlib.Core.List.{List·Memᴰ·not-nil}
 use native.Mathlib.Omega.{arith}
 use native.Mathlib.Decide.{decLt}
 use borrow.Author.Tests.{ne-eqb}
-use lib.ListN.{length, take, drop, length-take, take-append-drop, drop-of-length-le}
-use lib.Seq.{take-all, drop-append-seam}
+use lib.ListN.{length, getD, take, drop, length-take, length-drop, take-append-drop, drop-of-length-le}
+use lib.Seq.{take-all, drop-append-seam, getD-drop}
 use Rattle.rules.specs.declared.Entry.{Entry}
 use Rattle.rules.specs.declared.LookUp.{LookUp}
 use Rattle.rules.specs.declared.Txn.{Txn}
@@ -22,12 +23,14 @@ use Rattle.rules.specs.Done.{Done, quiet}
 use Rattle.rules.specs.Service.{Served, serve, service, foundFirst, waitsFirst}
 use Rattle.rules.specs.Sound.{NoneFor}
 use Rattle.rules.proofs.BoolLaws.{option-cases}
-use Rattle.rules.proofs.ListLaws.{any-none, all-false, find-some, filter-append, filter-pass}
+use Rattle.rules.proofs.ListLaws.{none≢some, any-none, all-false, find-some, filter-append, filter-pass}
 use Rattle.rules.proofs.StepCases.{serve-none, serve-some}
 use Rattle.words.proofs.SearchLaws.{find-append-none}
+use Rattle.holds.specs.Hand.{handAt}
+use Rattle.holds.proofs.HandLaws.{by-row}
 use Rattle.sound.proofs.AscendingLaws.{ascend-across}
 use Rattle.sound.proofs.OrderLaws.{Numbered, handed-numbered}
-use Rattle.step.specs.From.{serveFrom, serviceFrom}
+use Rattle.step.specs.From.{ahead, oldestRow, serveFrom, serviceFrom}
 use Rattle.step.proofs.ServingLaws.{from-waits, from-finds}
 
 abbrev asDone : Model → Served → Done
@@ -48,26 +51,6 @@ service-idle m h =
     ap (asDone m)
     (serve-idle (m .txns) (m .entries) (m .waits) h)
 
--- ---- from the first row on
-from-zero : (ts : List Txn) (ws : List LookUp) (es : List Entry) → serveFrom 0 ts es ws ≡ serve ts es ws
-unfolding serveFrom serve
-from-zero ts [] es = refl
-from-zero ts (w ∷ ws) es = go (option-cases (oldest ts w es)) (from-zero ts ws)
-  where
-    go : (oldest ts w es ≡ none) ⊎ ((e : Entry) × (oldest ts w es ≡ some e))
-        → ((xs : List Entry) → serveFrom 0 ts xs ws ≡ serve ts xs ws)
-        → serveFrom 0 ts es (w ∷ ws) ≡ serve ts es (w ∷ ws)
-    go (inl q) below = from-waits 0 ts es w ws q ∙ ap (waitsFirst w) (below es) ∙ sym (serve-none ts es w ws q)
-    go (inr (e, q)) below =
-        from-finds 0 ts es w ws e q ∙ ap (foundFirst w e) (below (handOut ts w e es))
-        ∙ sym (serve-some ts es w ws e q)
-
-pub service-whole : (m : Model) → serviceFrom 0 m ≡ service m
-unfolding serviceFrom service
-service-whole m =
-    ap (asDone m)
-    (from-zero (m .txns) (m .waits) (m .entries))
-
 -- ---- no entry from the row on
 from-idle : (k : ℕ) (ts : List Txn) (es : List Entry) (ws : List LookUp) → length es ≤ k
     → serveFrom k ts es ws ≡ record { entries = es; waits = ws; records = [] }
@@ -82,6 +65,30 @@ unfolding serviceFrom
 from-none k m l =
     ap (asDone m)
     (from-idle k (m .txns) (m .entries) (m .waits) l)
+
+-- ---- the row of the oldest that is available has it
+ahead-there : {A : Type 0} (q : A → Bool) (xs : List A) {x : A} → findb q xs ≡ some x
+    → (ahead q xs < length xs) × (getD xs (ahead q xs) x ≡ x)
+ahead-there q [] e = absurd (none≢some e)
+ahead-there {A} q (y ∷ ys) {x} e = go (q y) e (λ r. ahead-there q ys r)
+  where
+    go : (b : Bool) → cond b (some y) (findb q ys) ≡ some x
+        → (findb q ys ≡ some x → (ahead q ys < length ys) × (getD ys (ahead q ys) x ≡ x))
+        → (cond b 0 (suc (ahead q ys)) < length (y ∷ ys)) × (getD (y ∷ ys) (cond b 0 (suc (ahead q ys))) x ≡ x)
+    go true r below = (omega arith, cc)
+    go false r below = let p = below r in (omega (arith, p .0), p .1)
+
+row-there : (ts : List Txn) (w : LookUp) (k : ℕ) (es : List Entry) {e : Entry} → oldest ts w (drop k es) ≡ some e
+    → (oldestRow ts w k es < length es) × (getD es (oldestRow ts w k es) e ≡ e)
+row-there ts w k es {e} q =
+    let p = ahead-there (available ts w) (drop k es) q in
+    (omega (arith, p .0, length-drop k es), sym (getD-drop k es (ahead (available ts w) (drop k es)) e) ∙ p .1)
+
+-- so it is handed out as the rules do
+handed-there : {n : ℕ} (ts : List Txn) (w : LookUp) (k : ℕ) (es : List Entry) {e : Entry} → Numbered n es
+    → oldest ts w (drop k es) ≡ some e → handAt ts w e (oldestRow ts w k es) es ≡ handOut ts w e es
+handed-there ts w k es {e} h q =
+    let p = row-there ts w k es q in by-row ts w e es (oldestRow ts w k es) (p .0) (p .1) (h .0)
 
 -- ---- the entries before the row are out of reach
 -- an entry behind them is handed out: they stay
@@ -147,7 +154,8 @@ module _ (ts : List Txn) (xs : List Entry) where
           let apart = handOut-behind ts w e xs ys (others ys h (find-some (available ts w) ys q .0)) in
           let order = subst (Numbered n) apart (handed-numbered ts w e (xs ++ ys) h) in
           from-finds (length xs) ts (xs ++ ys) w ws e (here q)
-          ∙ ap (λ es. foundFirst w e (serveFrom (length xs) ts es ws)) apart
+          ∙ ap (λ es. foundFirst w e (serveFrom (length xs) ts es ws))
+          (handed-there ts w (length xs) (xs ++ ys) h (here q) ∙ apart)
           ∙ ap (foundFirst w e) (below (handOut ts w e ys) order)
           ∙ ap (λ es. foundFirst w e (serve ts es ws)) (sym apart)
           ∙ sym (serve-some ts (xs ++ ys) w ws e (there q))
@@ -179,6 +187,9 @@ module _ {n : ℕ} (k : ℕ) (m : Model) (h : Numbered n (m .entries))
       go (yes l) = within (omega arith)
       go (no l) = behind (omega arith)
 
+pub service-whole : {n : ℕ} (m : Model) → Numbered n (m .entries) → serviceFrom 0 m ≡ service m
+service-whole m h = service-from 0 m h (λ w i e j. absurd (List·Memᴰ·not-nil j))
+
 -- ---- a found for each look-up that waits no longer
 from-length : (k : ℕ) (ts : List Txn) (ws : List LookUp) (es : List Entry)
     → length (serveFrom k ts es ws .records) + length (serveFrom k ts es ws .waits) ≡ length ws
@@ -196,7 +207,7 @@ from-length k ts (w ∷ ws) es = go (option-cases (oldest ts w (drop k es))) (fr
         ∙ omega (arith, below es)
     go (inr (e, q)) below =
         ap (λ (r : Served). length (r .records) + length (r .waits)) (from-finds k ts es w ws e q)
-        ∙ omega (arith, below (handOut ts w e es))
+        ∙ omega (arith, below (handAt ts w e (oldestRow ts w k es) es))
 
 pub from-counts : (k : ℕ) (m : Model)
     → length (serviceFrom k m .records) + length (serviceFrom k m .model .waits) ≡ length (m .waits)

@@ -15,10 +15,9 @@ use Rattle.rules.specs.declared.Txn.{Txn}
 use Rattle.rules.specs.State.{Model, withEntries, withWaits}
 use Rattle.rules.specs.Holds.{oldest}
 use Rattle.rules.specs.Records.{found}
-use Rattle.rules.specs.LookUp.{handOut}
 use Rattle.rules.specs.Service.{Served, foundFirst, waitsFirst}
-use Rattle.holds.specs.Hand.{handedOut}
-use Rattle.step.specs.From.{serveFrom, serviceFrom}
+use Rattle.holds.specs.Hand.{handAt, handedAt}
+use Rattle.step.specs.From.{oldestRow, serveFrom, serviceFrom}
 
 -- a look-up's turn
 module _ (k : ℕ) (ts : List Txn) (es : List Entry) (w : LookUp) (ws : List LookUp) where
@@ -27,7 +26,7 @@ module _ (k : ℕ) (ts : List Txn) (es : List Entry) (w : LookUp) (ws : List Loo
   from-waits e = rw (e, serveFrom)
 
   pub from-finds : (x : Entry) → oldest ts w (drop k es) ≡ some x
-      → serveFrom k ts es (w ∷ ws) ≡ foundFirst w x (serveFrom k ts (handOut ts w x es) ws)
+      → serveFrom k ts es (w ∷ ws) ≡ foundFirst w x (serveFrom k ts (handAt ts w x (oldestRow ts w k es) es) ws)
   unfolding serveFrom
   from-finds x e = rw (e, serveFrom)
 
@@ -68,11 +67,12 @@ module _ {k : ℕ} {m₀ m : Model} {i n : ℕ} {rs : List Record} (s : Serving 
 
   -- the next look-up is answered found
   pub serving-found : {e : Entry} → oldest (m .txns) w (drop k (m .entries)) ≡ some e
-      → Serving k m₀ (handedOut w e m) (i + 1) n (rs ++ (found w e ∷ []))
-  unfolding handedOut
+      → Serving k m₀ (handedAt w e (oldestRow (m .txns) w k (m .entries)) m) (i + 1) n (rs ++ (found w e ∷ []))
+  unfolding handedAt
   serving-found {e} p =
       record {
-        rest-same = ap (withEntries (handOut (m .txns) w e (m .entries))) (s .rest-same);
+        rest-same =
+            ap (withEntries (handAt (m .txns) w e (oldestRow (m .txns) w k (m .entries)) (m .entries))) (s .rest-same);
         size = s .size;
         so-far =
             rw (add-one i)

@@ -31,7 +31,7 @@ use Rattle.sound.proofs.Events.{Admitted}
 use Rattle.sound.proofs.EventsProof.{admitted}
 use Rattle.holds.specs.Sweep.{SameBefore}
 use Rattle.step.specs.Does.{Carries, Adds, Does}
-use Rattle.step.specs.Judge.{HasRoom}
+use Rattle.step.specs.Judge.{ReadyFor}
 use Rattle.step.specs.declared.finish.Ending.{Ending}
 use Rattle.step.specs.Ending.{EndsAs, finishedBy}
 use Rattle.step.proofs.AddsLaws.{adds-then}
@@ -84,15 +84,19 @@ module _ (m : Model) (bs : List ℕ) (area : ℕ) where
           ∙ ap (λ n. cond (eqb n 0) (spaceRefusal m (decode bs)) n) (sym (d .number))
           ∙ ap (spaceRefusal m) (sym (asked-frame d))
 
--- on a sound space it has room to wait, if it is a look-up
-has-room : {bs : List ℕ} {q : Request} (m : Model) → Decodes bs (Asks q) → spaceRefusal m (frameOf q) ≡ 0 → Sound m
-    → HasRoom m (frameOf q)
+-- on a sound space all is there for it, if it is a look-up
+ready-for : {bs : List ℕ} {q : Request} (m : Model) → Decodes bs (Asks q) → spaceRefusal m (frameOf q) ≡ 0 → Sound m
+    → ReadyFor m (frameOf q)
 unfolding formRefusal spaceRefusal
-has-room {bs} {q} m d e s l =
+ready-for {bs} {q} m d e s l =
     let f = frameOf q in
-    room-left m f l
-    (ap wrongParty (asked-frame d) ∙ none-applies (formRows bs (decode bs)) refl (sym (d .number)) 3)
-    (none-applies (admissionRows m f ++ roomRows m f) refl e 0) s
+    record {
+      room =
+          room-left m f l
+          (ap wrongParty (asked-frame d) ∙ none-applies (formRows bs (decode bs)) refl (sym (d .number)) 3)
+          (none-applies (admissionRows m f ++ roomRows m f) refl e 0) s;
+      numbered = s .consistent .ordered .entries;
+    }
 
 -- and it ends as the rules say
 ends-same : {bs : List ℕ} {q : Request} (m : Model) (area : ℕ) → refusal m bs area ≡ 0 → Decodes bs (Asks q) → Sound m
@@ -170,7 +174,7 @@ module _ {ws bs area ws′ area′ : List ℕ} {returned : ℕ} where
 
       -- carried out: the frame's own record, and then its finish
       pub stepped-done : {ws₁ a₁ : List ℕ} {own : Record} {n : ℕ} (k : ℕ) → spaceRefusal (view ws) (frameOf q) ≡ 0
-          → (HasRoom (view ws) (frameOf q) → Carries (ownPart (view ws) (frameOf q)) ws₁ own)
+          → (ReadyFor (view ws) (frameOf q) → Carries (ownPart (view ws) (frameOf q)) ws₁ own)
           × SameBefore k (view ws) (view ws₁)
           → Adds (own ∷ []) area a₁ 0 n → (x : Ending) → EndsAs (frameOf q) x
           → Does (finishedBy x k (view ws₁)) ws′ a₁ area′ n returned
@@ -182,7 +186,7 @@ module _ {ws bs area ws′ area′ : List ℕ} {returned : ℕ} where
           let given = by ws bs area zero in
           let ends : (s : Sound (view ws)) → finishedBy x k (ownPart (view ws) (frameOf q) .model)
           ≡ finish (frameOf q) (ownPart (view ws) (frameOf q) .model) =
-          λ s. let o = c .0 (has-room (view ws) d e s) .model in
+          λ s. let o = c .0 (ready-for (view ws) d e s) .model in
           ends-same (view ws) (length area) zero d s k x y (subst (SameBefore k (view ws)) o (c .1))
           (subst Bounded o (view-bounded ws₁)) in
           let same = given ∙ ap (λ g. accepted (carriedOut (view ws) g)) (sym (asked-frame d)) in
@@ -197,12 +201,12 @@ module _ {ws bs area ws′ area′ : List ℕ} {returned : ℕ} where
             allowed =
                 record {
                   space = λ s.
-                      let o = c .0 (has-room (view ws) d e (s refl)) in
+                      let o = c .0 (ready-for (view ws) d e (s refl)) in
                       f .model ∙ ap (λ m. finishedBy x k m .model) (o .model)
                       ∙ ap (λ (b : Done). b .model) (ends (s refl))
                       ∙ sym (ap (λ (x : Outcome). x .model) same);
                   records = λ s.
-                      let o = c .0 (has-room (view ws) d e (s refl)) in
+                      let o = c .0 (ready-for (view ws) d e (s refl)) in
                       ap₂ (λ r m. r ∷ finishedBy x k m .records) (o .own) (o .model)
                       ∙ ap (λ (b : Done). ownPart (view ws) (frameOf q) .own ∷ b .records)
                       (ends (s refl))

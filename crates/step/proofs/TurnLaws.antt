@@ -1,6 +1,6 @@
 -- Service over the words and the answers area: a look-up's turn.
-use Prim.Native.Nat.{ℕ, suc, _+_, _*_, _≤_, _<_}
-use mathlib.Core.Bool.{Bool, true, false}
+use Prim.Native.Nat.{ℕ, zero, suc, _+_, _-_, _*_, _≤_, _<_}
+use mathlib.Core.Bool.{Bool, true, false, cond}
 use mathlib.Core.Option.{none, some}
 use mathlib.Core.Path.{_≡_, refl, sym, ap, _∙_, subst}
 use mathlib.Core.List.{List, [], _∷_, _++_}
@@ -15,17 +15,18 @@ use Rattle.rules.specs.Holds.{available, oldest}
 use Rattle.rules.specs.Numbers.{maxWaits, recordSize}
 use Rattle.rules.specs.Records.{found}
 use Rattle.rules.specs.State.{withWaits}
-use Rattle.rules.specs.Words.{entryCount, waitCount, waitCountAt, waits, view, spaceWords}
+use Rattle.rules.specs.Words.{upTo, entryCount, waitCount, waitCountAt, waits, view, spaceWords}
 use Rattle.words.specs.Rows.{entryRow, waitRow, moveWait}
-use Rattle.words.proofs.SearchLaws.{SearchingFrom, from-more, from-found, from-none}
+use Rattle.words.proofs.SearchLaws.{Rows, SearchingFrom, from-more, from-found, from-none}
 use Rattle.words.proofs.Table.{drop-all, moved, closed}
+use Rattle.words.proofs.UpToLaws.{drop-upTo}
 use Rattle.words.proofs.Tables.{waitTable, view-waits, length-waits, entries-read}
 use Rattle.holds.specs.declared.find.Asked.{Asked}
 use Rattle.holds.specs.Find.{Asks, PassesAsked}
-use Rattle.holds.specs.Hand.{handedOut}
+use Rattle.holds.specs.Hand.{handedAt}
 use Rattle.holds.proofs.FindLaws.{from-on, only-available}
 use Rattle.step.specs.Does.{Adds, Does}
-use Rattle.step.specs.From.{serviceFrom}
+use Rattle.step.specs.From.{ahead, oldestRow, serviceFrom}
 use Rattle.step.proofs.AddsLaws.{adds-none, adds-length, adds-then}
 use Rattle.step.proofs.ServingLaws.{Serving, serving-none, serving-found, serving-waits, serving-done}
 
@@ -51,6 +52,23 @@ pub record Looking (from : ℕ) (ws₀ ws a₀ a : List ℕ) (done₀ done i₀ 
   pub all : count ≡ entryCount ws
   pub begun : from ≤ j
   pub none-yet : SearchingFrom from (available (view ws .txns) (waitRow ws i)) (entryRow ws) j
+
+-- the row where a search stops is the one behind those that do not pass
+module _ {A : Type 0} (q : A → Bool) (f : ℕ → A) (n : ℕ) where
+  ahead-of : (d k i : ℕ) → k + d ≡ i → i < n → SearchingFrom k q f i → q (f i) ≡ true → ahead q (drop k (upTo f n)) ≡ d
+  ahead-of zero k i e h s t =
+      let p : k ≡ i = omega arith in
+      ap (ahead q) (drop-upTo f n k (omega arith))
+      ∙ ap {B = ℕ} (λ b. cond b 0 (suc (ahead q (drop (suc k) (upTo f n))))) (ap (λ x. q (f x)) p ∙ t)
+  ahead-of (suc d) k i e h s t =
+      ap (ahead q) (drop-upTo f n k (omega arith))
+      ∙ ap {B = ℕ} (λ b. cond b 0 (suc (ahead q (drop (suc k) (upTo f n))))) (s .passed k (omega arith) (omega arith))
+      ∙ ap suc (ahead-of d (suc k) i (omega arith) h (record { passed = λ x l r. s .passed x (omega arith) r }) t)
+
+from-row : {A : Type 0} {k : ℕ} {q : A → Bool} {f : ℕ → A} {n : ℕ} {xs : List A} → Rows xs f n → {i : ℕ}
+    → SearchingFrom k q f i → {x : A} → k ≤ i → i < n → x ≡ f i → q x ≡ true → i ≡ k + ahead q (drop k xs)
+from-row {k = k} {q = q} {f = f} {n = n} r {i} s h l e t =
+    omega (arith, ap (λ xs. ahead q (drop k xs)) (r .is), ahead-of q f n (i - k) k i (omega arith) l s (ap q (sym e) ∙ t))
 
 -- the search goes on to row j
 abbrev Goes : Asked → List ℕ → ℕ → ℕ → Type 0
@@ -92,10 +110,15 @@ module _ {from : ℕ} {ws₀ ws a₀ a : List ℕ} {done₀ done i₀ i : ℕ} {
         rw (← k .same-words, ← k .same-area, ← k .same-done, ← k .same-turn)
         (looking-on (k .asks) (k .all) (omega (arith, k .begun)) (from-more (k .none-yet) r (sym test ∙ t)) g)
 
-    pub looking-found : b ≡ true → j < count → oldest (view ws .txns) w (drop from (view ws .entries)) ≡ some e
-    looking-found t l =
-        ap (λ x. oldest (view ws .txns) x (drop from (view ws .entries))) q
-        ∙ from-found (entries-read ws) (k .none-yet) (k .begun) (omega (arith, k .all)) r (sym test ∙ t)
+    pub looking-found : b ≡ true → j < count
+        → (oldest (view ws .txns) w (drop from (view ws .entries)) ≡ some e)
+        × (j ≡ oldestRow (view ws .txns) w from (view ws .entries))
+    looking-found t l = (
+      ap (λ x. oldest (view ws .txns) x (drop from (view ws .entries))) q
+          ∙ from-found (entries-read ws) (k .none-yet) (k .begun) (omega (arith, k .all)) r (sym test ∙ t),
+      from-row (entries-read ws) (k .none-yet) (k .begun) (omega (arith, k .all)) r (sym test ∙ t)
+          ∙ ap (λ x. oldestRow (view ws .txns) x from (view ws .entries)) (sym q),
+    )
 
   pub looking-none : count ≤ j → oldest (view ws .txns) (waitRow ws i) (drop from (view ws .entries)) ≡ none
   looking-none l = from-none (entries-read ws) (k .none-yet) (omega (arith, k .all))
@@ -125,19 +148,20 @@ module _ {from : ℕ} {ws₀ ws a₀ a : List ℕ} {count done i n : ℕ} (t : T
         view-waits _ ws (moved waitTable ws i n (omega arith) (omega (arith, t .serving .low)) (omega (arith, t .long)))
         ∙ ap (λ x. withWaits (set (view ws .waits) n x) (view ws)) (sym q)
 
-    pub turn-found : {ws′ a′ : List ℕ} {e : Entry} {r : Record} {done′ : ℕ}
-        → oldest (view ws .txns) w (drop from (view ws .entries)) ≡ some e
-        → (view ws′ ≡ handedOut w e (view ws)) × (length ws′ ≡ spaceWords) → r ≡ found w e
+    pub turn-found : {ws′ a′ : List ℕ} {e : Entry} {j : ℕ} {r : Record} {done′ : ℕ}
+        → (oldest (view ws .txns) w (drop from (view ws .entries)) ≡ some e)
+        × (j ≡ oldestRow (view ws .txns) w from (view ws .entries))
+        → (view ws′ ≡ handedAt w e j (view ws)) × (length ws′ ≡ spaceWords) → r ≡ found w e
         → recordSize * count ≤ length a₀
         → Adds (r ∷ []) a a′ done done′
         → Turns from ws₀ ws′ a₀ a′ count done′ (i + 1) n
-    turn-found {a′ = a′} {e = e} {done′ = done′} p v o room d =
+    turn-found {a′ = a′} {e = e} {j = j} {done′ = done′} p v o room d =
         record {
           long = v .1;
           records = t .records ++ (found w e ∷ []);
           serving =
-              subst (λ m. Serving from (view ws₀) m (i + 1) n (t .records ++ (found w e ∷ []))) (sym (v .0))
-              (serving-found (t .serving) this-wait p);
+              subst (λ m. Serving from (view ws₀) m (i + 1) n (t .records ++ (found w e ∷ []))) (sym (v .0 ∙ ap (λ x. handedAt w e x (view ws)) (p .1)))
+              (serving-found (t .serving) this-wait (p .0));
           adds = adds-then room (t .adds) (subst (λ x. Adds (x ∷ []) a a′ done done′) o d);
         }
 

@@ -2,7 +2,7 @@
 use Prim.Native.Nat.{ℕ, _+_, _<_}
 use mathlib.Core.Bool.{Bool, true, not, cond, _&&_, _||_}
 use mathlib.Core.Path.{_≡_}
-use mathlib.Core.List.{List, [], _∷_}
+use mathlib.Core.List.{List, [], _∷_, map}
 use lib.Dec.{eqb, leb, ltb}
 use lib.ListN.{length}
 use Rattle.rules.specs.declared.Entry.{Entry}
@@ -15,6 +15,7 @@ use Rattle.rules.specs.State.{Model}
 use Rattle.rules.specs.Holds.{liveTxn}
 use Rattle.rules.specs.Frame.{Frame, isLookUp}
 use Rattle.rules.specs.Refusals.{isOf, admissionRows, roomRows}
+use Rattle.rules.specs.Sound.{Ascending}
 
 -- 6, of a party whose frame aborts the transaction `leaving`, or none (0): whether a look-up bars it, and whether one
 -- does
@@ -52,10 +53,15 @@ admissionRefusal m f = firstRow (admissionRows m f)
 abbrev pub roomRefusal : Model → Frame → ℕ
 roomRefusal m f = firstRow (roomRows m f)
 
--- a look-up that must wait finds room; and a frame does, if it is a look-up. (On a sound space every frame does that 5
--- and 6 let pass.)
+-- what a look-up needs of the space: room, if it must wait, and entries that stand by number, none twice. (So it is in
+-- every sound space, for a frame that 5 and 6 let pass.)
 abbrev pub CanWait : Model → Type 0
 CanWait m = length (m .waits) < maxWaits
 
-abbrev pub HasRoom : Model → Frame → Type 0
-HasRoom m f = isLookUp (f .op) ≡ true → CanWait m
+pub record Ready (m : Model) : Type 0 where
+  pub room : CanWait m
+  pub numbered : Ascending (map (λ (e : Entry). e .id .0) (m .entries))
+
+-- it is there for a frame, if that is a look-up
+abbrev pub ReadyFor : Model → Frame → Type 0
+ReadyFor m f = isLookUp (f .op) ≡ true → Ready m

@@ -8,13 +8,13 @@ ghost use Rattle.rules.specs.declared.Request.the-variants.{Find};
 ghost use Rattle.words.specs.Ends.{InTime};
 ghost use Rattle.words.specs.Rows.{FitsWord};
 ghost use Rattle.step.specs.Does.{Carries};
-ghost use Rattle.step.specs.Judge.{CanWait};
+ghost use Rattle.step.specs.Judge.{CanWait, Ready};
 use codec::records::found_record;
 use codec::records::plain_record;
 use holds::find::Match;
 use holds::find::any_conflict;
 use holds::find::find_available;
-use holds::sweep::hand_out;
+use holds::hand::hand_out;
 use rules::FindRequest;
 use rules::LookUp;
 use rules::Record;
@@ -75,13 +75,13 @@ pub(crate) fn wait_or_nothing(space: &mut Words, w: LookUp, timeout: u32) -> Rec
 // A look-up: found, nothing or waiting. The entries are looked for once.
 pub(crate) fn find(space: &mut Words, l: FindRequest) -> Record
     requires { ⌜ spaceRefusal (view (now space)) (frameOf (Find l)) ≡ 0 ⌝ }
-    ensures { λ r. ⌜ (CanWait (view (now (space .entry)))
+    ensures { λ r. ⌜ (Ready (view (now (space .entry)))
         → Carries (lookUp (view (now (space .entry))) (frameOf (Find l))) (now (space .exit)) r) ⌝ }
 {
     let w = look_up_of(space, l);
-    let Match::At(e) = find_available(space, w) else {
+    let Match::At(e, row) = find_available(space, w) else {
         return wait_or_nothing(space, w, l.timeout);
     };
-    hand_out(space, e, w);
+    hand_out(space, row, e, w);
     found_record(w, e)
 }

@@ -10,7 +10,7 @@ ghost use Rattle.rules.specs.Transactions.{create as createFrame};
 ghost use Rattle.rules.specs.Words.{view};
 ghost use Rattle.holds.specs.Sweep.{SameBefore};
 ghost use Rattle.step.specs.Does.{Carries};
-ghost use Rattle.step.specs.Judge.{HasRoom};
+ghost use Rattle.step.specs.Judge.{ReadyFor};
 use crate::look_up::find;
 use crate::write::write;
 use codec::records::plain_record;
@@ -75,7 +75,7 @@ pub(crate) fn tick(space: &mut Words) -> Record
 // is said of the entries.
 pub(crate) fn carry_out(space: &mut Words, q: Request) -> Own
     requires { ⌜ spaceRefusal (view (now space)) (frameOf q) ≡ 0 ⌝ }
-    ensures { λ r. ⌜ (HasRoom (view (now (space .entry))) (frameOf q)
+    ensures { λ r. ⌜ (ReadyFor (view (now (space .entry))) (frameOf q)
         → Carries (ownPart (view (now (space .entry))) (frameOf q)) (now (space .exit)) (r .answer))
         × SameBefore (r .from) (view (now (space .entry))) (view (now (space .exit))) ⌝ }
 {

@@ -9,8 +9,8 @@ use crate::answers::add_record;
 use codec::records::found_record;
 use holds::find::asked_at;
 use holds::find::next_row;
+use holds::hand::hand_out;
 use holds::holds::is_available;
-use holds::sweep::hand_out;
 use words::rows::Words;
 use words::rows::entry_at;
 use words::rows::entry_count;
@@ -39,7 +39,7 @@ pub(crate) fn serve_waits(space: &mut Words, answers: &mut [u8], count: usize, f
             let w = wait_at(space, i);
             let e = entry_at(space, j);
             if is_available(space, e, w) {
-                hand_out(space, e, w);
+                hand_out(space, j, e, w);
                 let r = found_record(w, e);
                 done = add_record(answers, done, r);
                 i += 1;

@@ -9,7 +9,7 @@ use native.Mathlib.Nat.{add-zero, mul-suc, mul-le-mul-left}
 use borrow.Author.Tests.{ltb-true, leb-true, eqb-false, not-true}
 use lib.Dec.{ltb, leb, eqb}
 use lib.ListN.{length, getD, take, drop, set, length-set, length-take, length-drop, take-append-drop}
-use lib.Seq.{getD-set-other, getD-take, getD-drop, drop-at, take-at, take-add, length-take-le, ext-getD, sets}
+use lib.Seq.{getD-set-same, getD-set-other, getD-take, getD-drop, drop-at, take-at, take-add, length-take-le, ext-getD, sets}
 use lib.Seq.{sets-eq, length-sets}
 use Rattle.rules.specs.Words.{row}
 use Rattle.words.specs.Rows.{moveWords}
@@ -62,6 +62,25 @@ sets-other [] ws o j h = refl
 sets-other (x ∷ r) ws o j h =
     sets-other r (set ws o x) (suc o) j (λ l. let u = h (omega arith) in omega arith)
     ∙ getD-set-other ws o j x 0 (λ e. let u = h (omega arith) in omega arith)
+
+-- those that are put
+pub sets-in : (r ws : List ℕ) (o j : ℕ) → j < length r → o + length r ≤ length ws
+    → getD (sets ws o r) (o + j) 0 ≡ getD r j 0
+sets-in [] ws o j h l = absurd (omega arith)
+sets-in (x ∷ r) ws o zero h l =
+    ap (λ k. getD (sets (set ws o x) (suc o) r) k 0) (add-zero o)
+    ∙ sets-other r (set ws o x) (suc o) o (λ q. absurd (omega arith)) ∙ getD-set-same ws o x 0 (omega arith)
+sets-in (x ∷ r) ws o (suc j) h l =
+    let e : o + suc j ≡ suc o + j = omega arith in
+    ap (λ k. getD (sets (set ws o x) (suc o) r) k 0) e
+    ∙ sets-in r (set ws o x) (suc o) j (omega arith) (omega (arith, length-set ws o x))
+
+-- words that are moved, where they stand then
+pub moved-word : (ws : List ℕ) (f t n j : ℕ) → t ≤ f → f + n ≤ length ws → j < n
+    → getD (moveWords ws f t n) (t + j) 0 ≡ getD ws (f + j) 0
+moved-word ws f t n j h l p =
+    let long = length-take-le n (drop f ws) (omega (arith, length-drop f ws)) in
+    sets-in (take n (drop f ws)) ws t j (omega arith) (omega arith) ∙ getD-take n (drop f ws) j 0 p ∙ getD-drop f ws j 0
 
 -- words that are moved to the front: those that are still to be moved stand where they stood
 pub move-more : (ws : List ℕ) (f t n k : ℕ) → t ≤ f → f + n ≤ length ws → k < n

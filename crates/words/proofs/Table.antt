@@ -1,22 +1,23 @@
 -- A table of rows of words: what is read of it after a write, and what a write leaves of the others.
-use Prim.Native.Nat.{ℕ, suc, _+_, _*_, _≤_, _<_, min}
+use Prim.Native.Nat.{ℕ, suc, _+_, _-_, _*_, _≤_, _<_, min}
 use mathlib.Core.Bool.{Bool, true, _&&_, _||_}
 use mathlib.Core.Logic.{_≢_, ⊎-elim}
 use mathlib.Core.Path.{_≡_, sym, ap, ap₂, _∙_, subst}
 use mathlib.Core.List.{List, [], _∷_, _++_}
 use native.Mathlib.Omega.{arith}
 use native.Mathlib.Decide.{decLt}
+use native.Mathlib.Nat.{mul-add, mul-suc, mul-le-mul-left}
 use native.Mathlib.Numerals.{add-one}
 use borrow.Author.Tests.{ltb-true, leb-true}
 use lib.Dec.{ltb, leb}
-use lib.ListN.{length, getD, take, drop, set}
-use lib.Seq.{getD-set-same, sets}
+use lib.ListN.{length, length-drop, getD, take, drop, set}
+use lib.Seq.{getD-set-same, sets, length-take-le, ext-getD}
 use Rattle.rules.proofs.BoolLaws.{and-left, and-right, or-cases}
 use Rattle.rules.specs.Words.{row, table}
-use Rattle.words.specs.Rows.{moveWords}
+use Rattle.words.specs.Rows.{moveWords, without}
 use Rattle.words.proofs.RowLaws.{row-within, length-row, row-put, But, but-then, but-set, but-sets, clear}
-use Rattle.words.proofs.RowLaws.{word-kept, row-same}
-use Rattle.words.proofs.UpToLaws.{upTo-ext, length-upTo, drop-upTo, take-upTo, upTo-set}
+use Rattle.words.proofs.RowLaws.{word-kept, row-same, row-word, moved-word}
+use Rattle.words.proofs.UpToLaws.{upTo-ext, length-upTo, drop-upTo, take-upTo, upTo-set, upTo-skip}
 
 -- ---- a table: where its rows begin, the words of a row, how many rows it has at most, where its count stands, how a
 -- row is read
@@ -164,6 +165,83 @@ module _ {A : Type 0} (t : Table A) where
   moved ws i n p q l =
       put ws n (row (t .base) (t .width) ws i)
       (length-row (t .base) (t .width) i ws (omega (arith, row-within (t .width) (t .base) i (t .most) p))) q l
+
+  -- ---- a row goes, and those behind it move up by one
+  module _ (ws : List ℕ) (i c : ℕ) (q : c ≡ count ws) (h : i < c) (l : end ≤ length ws) where
+    -- the words behind it
+    abbrev behind : ℕ
+    behind = t .width * (c - suc i)
+
+    abbrev up : List ℕ
+    up = moveWords ws (at (suc i)) (at i) behind
+
+    spread : (k : ℕ) → i ≤ k → t .width * k ≡ t .width * i + t .width * (k - i)
+    spread k p =
+        let e : k ≡ i + (k - i) = omega arith in
+        ap (λ j. t .width * j) e ∙ mul-add (t .width) i (k - i)
+
+    there : at (suc i) + behind ≤ end
+    there =
+        omega (
+          arith,
+          mul-suc (t .width) i,
+          mul-add (t .width) (suc i) (c - suc i),
+          mul-le-mul-left {m = suc i + (c - suc i)} {n = t .most} (t .width) (omega arith),
+        )
+
+    up-but : (lo : ℕ) → lo ≤ at i → But (t .countAt) lo end up ws
+    up-but lo p =
+        but-sets (t .countAt) lo end ws (at i) (take behind (drop (at (suc i)) ws)) p
+        (omega (
+          arith,
+          there,
+          mul-suc (t .width) i,
+          length-take-le behind (drop (at (suc i)) ws)
+              (omega (arith, there, length-drop (at (suc i)) ws)),
+        ))
+
+    ahead-same : (k : ℕ) → k < i → cell up k ≡ cell ws k
+    ahead-same k p =
+        ap (t .read)
+        (row-same (up-but (at i) (omega arith)) (t .base) (t .width) k (t .ahead)
+        (λ j a b d. absurd (omega (arith, row-within (t .width) (t .base) k i p))))
+
+    -- word j of row k
+    word-up : (k j : ℕ) → i ≤ k → suc k < c → j < t .width
+        → getD (row (t .base) (t .width) up k) j 0 ≡ getD (row (t .base) (t .width) ws (suc k)) j 0
+    word-up k j p r b =
+        let o = t .width * (k - i) + j in
+        row-word (t .base) (t .width) k j up b
+        ∙ ap (λ x. getD up x 0) (omega (arith, spread k p))
+        ∙ moved-word ws (at (suc i)) (at i) behind o (omega (arith, mul-suc (t .width) i)) (omega (arith, there))
+        (omega (
+          arith,
+          mul-suc (t .width) (k - i),
+          mul-le-mul-left {m = suc (k - i)} {n = c - suc i} (t .width) (omega arith),
+        ))
+        ∙ ap (λ x. getD ws x 0) (omega (arith, spread k p, mul-suc (t .width) i, mul-suc (t .width) k))
+        ∙ sym (row-word (t .base) (t .width) (suc k) j ws b)
+
+    moved-up : (k : ℕ) → i ≤ k → suc k < c → cell up k ≡ cell ws (suc k)
+    moved-up k p r =
+        let long = up-but (at i) (omega arith) .long in
+        let a = length-row (t .base) (t .width) k up
+        (omega (arith, long, row-within (t .width) (t .base) k (t .most) (omega arith))) in
+        let b = length-row (t .base) (t .width) (suc k) ws
+        (omega (arith, row-within (t .width) (t .base) (suc k) (t .most) (omega arith))) in
+        ap (t .read) (ext-getD 0 _ _ (a ∙ sym b) (λ j d. word-up k j p r (omega arith)))
+
+    pub removed : {ws₁ ws₂ : List ℕ} → ws₁ ≡ up → ws₂ ≡ set ws₁ (t .countAt) (c - 1) → Turned ws₂ ws (without i (all ws))
+    removed e f =
+        subst (λ v. Turned v ws (without i (all ws))) (sym (f ∙ ap (λ v. set v (t .countAt) (c - 1)) e))
+        (record {
+          but = but-then (but-set (t .countAt) (t .base) end up (c - 1)) (up-but (t .base) (omega arith));
+          now =
+              let one-less : suc (c - 1) ≡ count ws = omega arith in
+              counted up (c - 1) (omega arith) (omega (arith, up-but (at i) (omega arith) .long))
+              ∙ upTo-skip (cell ws) (cell up) i (c - 1) (omega arith) ahead-same (λ k p r. moved-up k p (omega arith))
+              ∙ ap (λ n. without i (first n ws)) one-less;
+        })
 
   -- ---- the elements
   pub length-all : (ws : List ℕ) → length (all ws) ≡ count ws

@@ -25,6 +25,7 @@ use Rattle.rules.specs.Words.{entriesAt, entryWidth, txnsAt, txnWidth, waitsAt,
 use Rattle.words.specs.Rows.{entryRow, txnRow, waitRow, fieldAt, FitsWord, byteValues}
 use Rattle.words.proofs.RowLaws.{But, but-set, clear, word-kept, row-word}
 use Rattle.words.proofs.SearchLaws.{Rows}
+use Rattle.words.proofs.UpToLaws.{getD-upTo}
 use Rattle.words.proofs.Table.{Table, tableOf, all, apart, kept, Turned, length-all}
 
 abbrev pub entryTable : Table Entry
@@ -97,6 +98,10 @@ pub entries-read : (ws : List ℕ) → Rows (view ws .entries) (entryRow ws) (en
 unfolding view entries
 entries-read ws = record { is = refl }
 
+pub entry-in : (ws : List ℕ) (i : ℕ) (d : Entry) → i < entryCount ws → getD (view ws .entries) i d ≡ entryRow ws i
+unfolding view entries
+entry-in ws i d h = getD-upTo (entryRow ws) (entryCount ws) i d h
+
 pub txns-read : (ws : List ℕ) → Rows (view ws .txns) (txnRow ws) (txnCount ws)
 unfolding view txns
 txns-read ws = record { is = refl }
@@ -141,11 +146,15 @@ pub record Storable (e : Entry) : Type 0 where
   pub readers-fit : e .readers < byteValues
   pub end-fits : FitsWord (e .end)
 
+pub end-read : (r : List ℕ) → FitsWord (entryOf r .end)
+unfolding entryOf
+end-read r = ap untilOf (until-back _)
+
 -- and so is an entry that was read from one, with other holders
 pub held-fits : (r : List ℕ) (owner taker : TxnId) (holders : ℕ) → holders < byteValues
     → Storable (holding (entryOf r) owner taker holders)
 unfolding entryOf
-held-fits r owner taker holders h = record { readers-fit = h; end-fits = ap untilOf (until-back _) }
+held-fits r owner taker holders h = record { readers-fit = h; end-fits = end-read r }
 
 pub entry-back : (e : Entry) → Storable e → entryOf (entryWords e) ≡ e
 unfolding entryOf

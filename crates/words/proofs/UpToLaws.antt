@@ -2,12 +2,13 @@
 use Prim.Native.Nat.{ℕ, zero, suc, _+_, _≤_, _<_}
 use mathlib.Core.Logic.{_≢_}
 use mathlib.Core.Path.{_≡_, refl, sym, ap, ap₂, _∙_}
-use mathlib.Core.List.{List, [], _∷_, _++_}
+use mathlib.Core.List.{List, [], _∷_, _++_, append-assoc, append-nil}
 use native.Mathlib.Omega.{arith}
 use native.Mathlib.Decide.{decLt}
-use lib.ListN.{length, getD, take, drop, set, List·getD-append, length-append}
-use lib.Seq.{set-append-left, set-at, set-out, getD-at, drop-cons, take-all, take-append-le}
+use lib.ListN.{length, getD, take, drop, set, List·getD-append, length-append, drop-of-length-le}
+use lib.Seq.{set-append-left, set-at, set-out, getD-at, drop-cons, take-all, take-append-le, drop-append-le}
 use Rattle.rules.specs.Words.{upTo}
+use Rattle.words.specs.Rows.{without}
 
 module _ {A : Type 0} where
   pub upTo-ext : (f g : ℕ → A) (n : ℕ) → ((k : ℕ) → k < n → f k ≡ g k) → upTo f n ≡ upTo g n
@@ -67,3 +68,28 @@ upTo-set {A} f g k (suc n) h = go (decLt k n) (decLt n k) (upTo-set f g k n h)
         ap₂ {C = List A} (λ a b. a ++ (b ∷ [])) (below
         ∙ set-out (upTo f n) k (g k) (omega (arith, length-upTo f n))) (ap g s)
         ∙ sym (set-at (upTo f n) (f n) [] (g k) k (length-upTo f n ∙ s))
+
+-- a function that leaves one value out
+pub upTo-skip : {A : Type 0} (f g : ℕ → A) (i n : ℕ) → i ≤ n → ((k : ℕ) → k < i → g k ≡ f k)
+    → ((k : ℕ) → i ≤ k → k < n → g k ≡ f (suc k)) → upTo g n ≡ without i (upTo f (suc n))
+upTo-skip f g i zero l h p =
+    let s : i ≡ 0 = omega arith in ap (λ k. without k (f 0 ∷ [])) (sym s)
+upTo-skip {A} f g i (suc n) l h p = go (decLt i (suc n)) (λ b. upTo-skip f g i n b h (λ k q r. p k q (omega arith)))
+  where
+    more : List A
+    more = upTo f (suc n)
+
+    go : Dec (i < suc n) → (i ≤ n → upTo g n ≡ without i more) → upTo g (suc n) ≡ without i (upTo f (suc (suc n)))
+    go (yes b) below =
+        ap₂ {C = List A} (λ xs x. xs ++ (x ∷ [])) (below (omega arith)) (p n (omega arith) (omega arith))
+        ∙ append-assoc (take i more) (drop (suc i) more) (f (suc n) ∷ [])
+        ∙ sym (ap₂ {C = List A} (λ xs ys. xs ++ ys)
+        (take-append-le i more (f (suc n) ∷ []) (omega (arith, length-upTo f (suc n))))
+        (drop-append-le (suc i) more (f (suc n) ∷ []) (omega (arith, length-upTo f (suc n)))))
+    go (no b) below =
+        let s : i ≡ suc n = omega arith in
+        upTo-ext g f (suc n) (λ k q. h k (omega arith))
+        ∙ sym (append-nil more)
+        ∙ sym (ap₂ {C = List A} (λ xs ys. xs ++ ys)
+        (take-upTo f (suc (suc n)) i (omega arith) ∙ ap (upTo f) s)
+        (drop-of-length-le (upTo f (suc (suc n))) {i = suc i} (omega (arith, length-upTo f (suc (suc n))))))

@@ -1,7 +1,7 @@
 -- The rows of a space as the code reads them, its words after a row is put or moved, and the words of an empty space.
 use Prim.Native.Nat.{ℕ, zero, suc, _+_, _-_, _*_}
 use mathlib.Core.Path.{_≡_}
-use mathlib.Core.List.{List, [], _∷_}
+use mathlib.Core.List.{List, [], _∷_, _++_}
 use lib.ListN.{getD, take, drop}
 use lib.Seq.{sets}
 use Rattle.rules.specs.declared.Entry.{Entry}
@@ -40,6 +40,10 @@ moveTxn ws from to = moveWords ws (txnsAt + txnWidth * from) (txnsAt + txnWidth 
 
 abbrev pub moveWait : List ℕ → ℕ → ℕ → List ℕ
 moveWait ws from to = moveWords ws (waitsAt + waitWidth * from) (waitsAt + waitWidth * to) waitWidth
+
+-- a list without its element at i
+abbrev pub without : {A : Type 0} → ℕ → List A → List A
+without i xs = take i xs ++ drop (suc i) xs
 
 -- how many values a byte has
 abbrev pub byteValues : ℕ

@@ -10,7 +10,7 @@ ghost use Rattle.rules.specs.Numbers.{maxEntries, maxTxns, maxWaits};
 ghost use Rattle.rules.specs.State.{empty, withEntries, withTxns, withWaits, withClock, withNextEntry, withNextTxn};
 ghost use Rattle.rules.specs.Words.{untilOf, untilWord, entryCount, txnCount, waitCount, view, spaceWords};
 ghost use Rattle.rules.specs.Words.{entryCountAt, txnCountAt, waitCountAt};
-ghost use Rattle.words.specs.Rows.{entryRow, txnRow, waitRow, fieldAt, putEntry, moveWords, moveTxn, moveWait};
+ghost use Rattle.words.specs.Rows.{entryRow, txnRow, waitRow, fieldAt, putEntry, moveWords, moveTxn, moveWait, without};
 ghost use Rattle.words.specs.Rows.{FitsWord, emptyWords};
 use rules::Entry;
 use rules::EntryId;
@@ -306,6 +306,31 @@ pub fn add_entry(space: &mut Words, e: Entry)
     let n = entry_count(space);
     put_entry(space, n, e);
     set_entry_count(space, n + 1);
+}
+
+// The entry in row i goes; those behind it move up by one row.
+pub fn remove_entry(space: &mut Words, i: usize)
+    requires { ⌜ i < entryCount (now space) ⌝ }
+    ensures { λ _. ⌜ (view (now (space .exit))
+        ≡ withEntries (without i (view (now (space .entry)) .entries)) (view (now (space .entry))))
+        × (length (now (space .exit)) ≡ spaceWords) ⌝ }
+{
+    let count = entry_count(space);
+    let o = ENTRIES_AT + ENTRY_WIDTH * i;
+    let behind = ENTRY_WIDTH * (count - i - 1);
+    move_words(space, o + ENTRY_WIDTH, o, behind);
+    set_entry_count(space, count - 1);
+}
+
+// The entry in row i becomes e.
+pub fn set_entry(space: &mut Words, i: usize, e: Entry)
+    requires { ⌜ (i < entryCount (now space)) × FitsWord (e .end) ⌝ }
+    ensures { λ _. ⌜ (view (now (space .exit))
+        ≡ withEntries (set (view (now (space .entry)) .entries) i e) (view (now (space .entry))))
+        × (length (now (space .exit)) ≡ spaceWords) ⌝ }
+{
+    whole(space);
+    put_entry(space, i, e);
 }
 
 pub fn txn_at(space: &Words, i: usize) -> Txn

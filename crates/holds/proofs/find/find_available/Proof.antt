@@ -29,8 +29,12 @@ returns : tie.Need-returns Inv-loop μ-loop
 returns c =
     let l = c .before .before .before .before in
     let test = sym (c .before .is-available .ensures) ∙ c .if1 .taken in
-    sym (search-found (entries-read (l .before .before .before .before .args .space .now)) (l .loop .inv) (omega arith)
-    (c .before .before .entry-at .ensures) test)
+    let is = c .before .before .entry-at .ensures in
+    let count = l .before .before .before .entry-count .ensures .0 in (
+      sym (search-found (entries-read (l .before .before .before .before .args .space .now)) (l .loop .inv) (omega arith) is
+          test),
+      (omega (arith, count), is),
+    )
 
 loop-again : tie.Need-loop-again Inv-loop μ-loop
 loop-again c =
@@ -49,7 +53,7 @@ loop-less c = omega (arith, c .next-row2 .ensures .0)
 returns-2 : tie.Need-returns-2 Inv-loop μ-loop
 returns-2 c =
     let l = c .before in
-    sym (search-none (entries-read (l .before .before .before .before .args .space .now)) (l .loop .inv) (omega arith))
+    (sym (search-none (entries-read (l .before .before .before .before .args .space .now)) (l .loop .inv) (omega arith)), tt)
 
 pub find-available-spec : {M : Type 1} → statement M
 find-available-spec =

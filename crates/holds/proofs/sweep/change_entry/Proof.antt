@@ -2,7 +2,6 @@
 use borrow.Author.Needs.{needs}
 use Prim.Native.Nat.{_≤_}
 use mathlib.Core.Path.{subst}
-use borrow.Author.Tests.{eq-eqb, ne-eqb}
 use Rattle.holds.specs.Live.{noSlot}
 use Rattle.holds.specs.Sweep.{slotIn}
 use Rattle.holds.proofs.sweep.change_entry.Statement.{statement}
@@ -14,27 +13,14 @@ release-requires c κs = subst (λ s. slotIn s ≤ noSlot) (c .before .s .given 
 release-requires-2 : tie.Need-release-requires-2
 release-requires-2 c κs = subst (λ s. slotIn s ≤ noSlot) (c .before .s2 .given .1) (c .before .before .before .pre)
 
-mark-requires : tie.Need-mark-requires
-mark-requires c κs =
-    let b = c .before .before .before .before in
-    subst (λ s. slotIn s ≤ noSlot) (b .s3 .given .1) (b .before .before .pre)
-
 returns-2 : tie.Need-returns-2
 returns-2 c = rw (c .before .before .s .given .1) (c .release .ensures)
 
 returns-3 : tie.Need-returns-3
 returns-3 c = rw (c .before .before .s2 .given .1) (c .release2 .ensures)
 
-returns-5 : tie.Need-returns-5
-returns-5 c =
-    rw (c .before .before .before .before .before .s3 .given .1, eq-eqb _ _ (c .before .if1 .taken)) (c .mark .ensures)
-
-returns-6 : tie.Need-returns-6
-returns-6 c = rw (c .before .before .before .before .s3 .given .1, ne-eqb _ _ (c .if1 .left))
-
 pub change-entry-spec : {M : Type 1} → statement M
 change-entry-spec =
     tie.close
     (tie.spec (λ c. search needs) (λ c. search needs) release-requires (λ c. search needs) release-requires-2
-    (λ c. search needs) (λ c. search needs) mark-requires (λ c. search needs) returns-2 returns-3
-    (λ c. search needs) returns-5 returns-6)
+    (λ c. search needs) returns-2 returns-3)

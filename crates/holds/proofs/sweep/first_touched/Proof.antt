@@ -5,7 +5,7 @@ use native.Mathlib.Omega.{arith}
 use borrow.Author.Needs.{needs}
 use Rattle.holds.specs.Live.{noSlot}
 use Rattle.holds.specs.Sweep.{slotIn, Still}
-use Rattle.holds.proofs.SweepLaws.{still-commit, still-abort, still-remove, still-mark}
+use Rattle.holds.proofs.SweepLaws.{still-commit, still-abort}
 use Rattle.holds.proofs.sweep.first_touched.Statement.{statement}
 use Rattle.holds.proofs.sweep.first_touched.Tie as tie
 
@@ -38,25 +38,8 @@ first-held-requires-2 c κs =
     let p = c .before .before .before .pre in
     (subst (λ s. slotIn s ≤ noSlot) (c .before .s2 .given .1) (p .0), p .1)
 
-returns-4 : tie.Need-returns-4
-returns-4 c =
-    let a = c .before .before .before .before .args in
-    let s = c .before .before .s3 .given in
-    let r = c .row-of .result in
-    let still = still-remove (s .0 .0) (a .space .now) r (c .row-of .ensures .1) in
-    (c .row-of .ensures .0, subst (λ v. Still v (a .space .now) r) (sym (s .1)) still)
-
-returns-5 : tie.Need-returns-5
-returns-5 c =
-    let a = c .before .before .before .before .args in
-    let s = c .before .before .s4 .given in
-    let r = c .row-of2 .result in
-    let still = still-mark (s .0 .0) _ _ _ (a .space .now) r (c .row-of2 .ensures .1) in
-    (c .row-of2 .ensures .0, subst (λ v. Still v (a .space .now) r) (sym (s .1)) still)
-
 pub first-touched-spec : {M : Type 1} → statement M
 first-touched-spec =
     tie.close
     (tie.spec (λ c. search needs) (λ c. search needs) first-held-requires (λ c. search needs)
-    first-held-requires-2 (λ c. search needs) (λ c κs. search needs) (λ c. search needs) (λ c κs. search needs) returns returns-2 returns-3 returns-4
-    returns-5)
+    first-held-requires-2 returns returns-2 returns-3)

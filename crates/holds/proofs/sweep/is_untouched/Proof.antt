@@ -2,8 +2,6 @@
 use borrow.Author.Needs.{needs}
 use Prim.Native.Nat.{_≤_}
 use mathlib.Core.Path.{subst}
-use borrow.Author.Tests.{not-true}
-use lib.Dec.{eqb}
 use Rattle.holds.specs.Live.{noSlot}
 use Rattle.holds.specs.Sweep.{slotIn}
 use Rattle.holds.proofs.sweep.is_untouched.Statement.{statement}
@@ -24,17 +22,8 @@ returns-2 c = rw (c .before .before .s .given .1) (λ q. c .is-free-of .ensures 
 returns-3 : tie.Need-returns-3
 returns-3 c = rw (c .before .before .s2 .given .1) (λ q. c .is-free-of2 .ensures q .unheld)
 
-returns-4 : tie.Need-returns-4
-returns-4 c = λ q. rw (c .enum-told2 .given .1)
-
-returns-5 : tie.Need-returns-5
-returns-5 c =
-    let s = c .before .before .before .s3 .given in
-    λ q. rw (s .1, not-true (eqb (c .before .before .before .before .before .args .e .id .0) (s .0 .0 .0)) q)
-
 pub is-untouched-spec : {M : Type 1} → statement M
 is-untouched-spec =
     tie.close
     (tie.spec (λ c. search needs) (λ c. search needs) is-free-of-requires (λ c. search needs)
-    is-free-of-requires-2 (λ c. search needs) (λ c. search needs) returns returns-2 returns-3 returns-4
-    returns-5)
+    is-free-of-requires-2 returns returns-2 returns-3)

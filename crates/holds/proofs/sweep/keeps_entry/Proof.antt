@@ -12,11 +12,8 @@ returns-2 c = rw (c .before .before .before .s2 .given .1)
 returns-3 : tie.Need-returns-3
 returns-3 c = rw (c .before .before .before .s3 .given .1)
 
-returns-4 : tie.Need-returns-4
-returns-4 c = rw (c .before .before .before .s4 .given .1)
-
 pub keeps-entry-spec : {M : Type 1} → statement M
 keeps-entry-spec =
     tie.close
-    (tie.spec (λ c. search needs) (λ c κs. search needs) (λ c. search needs) (λ c. search needs)
-    (λ c. search needs) (λ c. search needs) returns returns-2 returns-3 returns-4 (λ c. search needs))
+    (tie.spec (λ c. search needs) (λ c κs. search needs) (λ c. search needs) (λ c. search needs) returns returns-2
+    returns-3)

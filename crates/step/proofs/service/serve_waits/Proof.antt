@@ -62,6 +62,11 @@ room : (c : tie.At-loop Inv-loop μ-loop Inv-waiting μ-waiting)
     → recordSize * (c .loop .done + 1) ≤ length (c .loop .answers)
 room c = turn-room (turns c) (outer c .before .before .before .before .pre .0) (omega (arith, this-turn c))
 
+hand-out-requires : tie.Need-hand-out-requires Inv-loop μ-loop Inv-waiting μ-waiting
+hand-out-requires c κs =
+    let loop = c .before .before .before .before .before .before .before .before .before in
+    (omega (arith, loop .loop .inv .all), c .before .before .before .before .entry-at .ensures)
+
 waiting-again : tie.Need-waiting-again Inv-loop μ-loop Inv-waiting μ-waiting
 waiting-again c =
     let found = c .before .before .before .before in
@@ -124,7 +129,7 @@ serve-waits-spec =
     Inv-loop μ-loop Inv-waiting μ-waiting (λ c κs. tt) waiting-holds (λ c κs. omega arith) (λ c κs. tt)
     (λ c κs. omega (arith, c .before .entry-count .ensures .0)) loop-holds
     (λ c κs. omega (arith, this-turn (c .before .before)))
-    (λ c κs. omega arith) (λ c κs. tt) (λ c κs. tt) (λ c κs. tt)
+    (λ c κs. omega arith) (λ c κs. tt) hand-out-requires (λ c κs. tt)
     (λ c κs. room (c .before .before .before .before .before .before .before .before .before .before .before .before))
     add-i
     waiting-less

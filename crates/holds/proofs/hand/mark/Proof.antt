@@ -1,9 +1,9 @@
--- `holds::sweep::mark` meets its contract. Assumes nothing.
+-- `holds::hand::mark` meets its contract. Assumes nothing.
 use borrow.Author.Needs.{needs}
 use borrow.Author.Tests.{eq-eqb, ne-eqb}
 use Rattle.holds.specs.Sweep.{markedAt}
-use Rattle.holds.proofs.sweep.mark.Statement.{statement}
-use Rattle.holds.proofs.sweep.mark.Tie as tie
+use Rattle.holds.proofs.hand.mark.Statement.{statement}
+use Rattle.holds.proofs.hand.mark.Tie as tie
 
 returns : tie.Need-returns
 unfolding markedAt
