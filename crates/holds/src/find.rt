@@ -81,32 +81,34 @@ pub fn asked_at(space: &Words, i: usize) -> Asked
     asked_of(mask, fields)
 }
 
-// How many rows are looked at together.
+// How many rows are looked at in one go: a loop of so many turns is unrolled.
 const BLOCK: usize = 8;
 
-// Whether one of the eight rows from `from` on has x in the column. There is no way out of the loop: that is faster.
-pub(crate) fn has_field(space: &Words, column: usize, x: u32, from: usize) -> bool
+// The first of the eight rows from `from` on that has x in the column, or else the row behind them.
+pub(crate) fn row_in_block(space: &Words, column: usize, x: u32, from: usize) -> usize
     requires { ⌜ (column < 4) × (from + 8 ≤ maxEntries) ⌝ }
-    ensures { λ r. ⌜ (r ≡ false → Passes (hasField column x) (now (space .entry)) from (from + 8)) ⌝ }
+    ensures { λ r. ⌜ (r ≤ from + 8) × Passes (hasField column x) (now (space .entry)) from r ⌝ }
 {
-    let mut any = false;
     let mut k: usize = 0;
     while k < BLOCK {
-        any = any | (field_at(space, from + k, column) == x);
+        if field_at(space, from + k, column) == x {
+            return from + k;
+        }
         k += 1;
     }
-    any
+    from + BLOCK
 }
 
-// The first row from `from` on where eight rows begin of which one has x in the column, or where fewer are left.
+// The first row from `from` on that has x in the column, or where fewer than eight are left.
 pub(crate) fn skip_blocks(space: &Words, column: usize, x: u32, from: usize, n: usize) -> usize
     requires { ⌜ (column < 4) × (from ≤ maxEntries) × (n ≤ maxEntries) ⌝ }
     ensures { λ r. ⌜ Passes (hasField column x) (now (space .entry)) from r ⌝ }
 {
     let mut i = from;
     while i + BLOCK <= n {
-        if has_field(space, column, x, i) {
-            return i;
+        let r = row_in_block(space, column, x, i);
+        if r < i + BLOCK {
+            return r;
         }
         i += BLOCK;
     }

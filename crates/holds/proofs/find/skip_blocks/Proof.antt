@@ -14,6 +14,11 @@ Inv-loop space column x from n i₀ i = (i ≤ maxEntries) × Passes (hasField c
 abbrev μ-loop : tie.MeasureT-loop
 μ-loop space column x from n i₀ i = n - i
 
+loop-again : tie.Need-loop-again Inv-loop μ-loop
+loop-again c =
+    let r = c .before .row-in-block .ensures in
+    (omega arith, passes-on (passes-on (c .before .before .before .loop .inv .1) (r .1)) (passes-none (omega (arith, r .0))))
+
 pub skip-blocks-spec : {M : Type 1} → statement M
 skip-blocks-spec =
     tie.close
@@ -23,8 +28,9 @@ skip-blocks-spec =
     (λ c. (omega arith, passes-none refl))
     (λ c. omega arith)
     (λ c κs. omega arith)
-    (λ c. c .before .before .before .loop .inv .1)
+    (λ c. omega arith)
+    (λ c. passes-on (c .before .before .before .loop .inv .1) (c .before .row-in-block .ensures .1))
     (λ c. omega arith)
     (λ c. omega arith)
-    (λ c. (omega arith, passes-on (c .before .before .before .loop .inv .1) (c .before .has-field .ensures (c .if1 .left))))
+    loop-again
     (λ c. c .before .loop .inv .1))
