@@ -1,6 +1,6 @@
 -- Laws of `Adds` and `Does`: no record is written, one is, and some behind others.
 use Prim.Native.Nat.{ℕ, _+_, _*_, _≤_}
-use mathlib.Core.Path.{_≡_, refl, sym, ap, ap₂, _∙_}
+use mathlib.Core.Path.{_≡_, refl, sym, ap, ap₂, _∙_, subst}
 use mathlib.Core.List.{List, [], _∷_, _++_, append-assoc, append-nil}
 use native.Mathlib.Omega.{arith}
 use lib.ListN.{length, take, drop, length-append, length-drop, take-append-drop}
@@ -66,3 +66,7 @@ pub does-then : {d e : Done} {ws₁ ws₂ a a₁ a₂ : List ℕ} {c c₁ c₂ :
     → Does d ws₁ a a₁ c c₁ → Does e ws₂ a₁ a₂ c₁ c₂
     → Does (record { model = e .model; records = d .records ++ e .records }) ws₂ a a₂ c c₂
 does-then room p q = record { model = q .model; adds = adds-then room (p .adds) (q .adds) }
+
+-- the same, said of an equal part
+pub does-as : {d d′ : Done} {ws′ a a′ : List ℕ} {c n : ℕ} → d ≡ d′ → Does d ws′ a a′ c n → Does d′ ws′ a a′ c n
+does-as {ws′ = ws′} {a = a} {a′ = a′} {c = c} {n = n} q h = subst (λ (d : Done). Does d ws′ a a′ c n) q h

@@ -3,7 +3,7 @@ use Prim.Native.Nat.{ℕ, _+_, _*_, _≤_, _-_}
 use mathlib.Core.Bool.{Bool, true, false, true≢false, not, cond, _||_}
 use mathlib.Core.Logic.{⊎-elim}
 use mathlib.Core.Path.{_≡_, refl, sym, ap, ap₂, _∙_, subst, subst⁻¹, subst₂}
-use mathlib.Core.List.{List, _++_, List·Memᴰ, [], _∷_, Memᴰ·append-left}
+use mathlib.Core.List.{List, _++_, List·Memᴰ, [], _∷_, Memᴰ·append-left, append-nil}
 use native.Mathlib.Omega.{arith}
 use lib.ListN.{length, length-map, take, drop, take-append-drop}
 use borrow.Author.Tests.{eqb-true}
@@ -26,8 +26,7 @@ use Rattle.rules.proofs.Capacity.{lapsed-fits}
 use Rattle.rules.proofs.ListLaws.{filter-pass, count-mem}
 use Rattle.rules.proofs.SoundLaws.{service-ahead, none-existing, own-ahead}
 use Rattle.rules.proofs.ViewLaws.{view-bounded}
-use Rattle.step.specs.declared.finish.Ending.{Ending}
-use Rattle.step.specs.declared.finish.Ending.the-variants.{Quiet, Nothings, Service, Both, Tick}
+use Rattle.step.specs.Ending.{Ending, Quiet, Nothings, Service, Both, Tick}
 use Rattle.step.specs.Does.{Does}
 use Rattle.step.specs.Ending.{inTick, served, closing, EndsAs, endedBy, someIfExists, closedInVain, closedBy}
 use Rattle.step.specs.Ending.{finishedBy, firstFree}
@@ -62,12 +61,17 @@ closedAfter e d v =
     record { model = c .model; records = d .records ++ v .records ++ c .records }
 
 -- a frame that ends with nothing more does no more
-pub quiet-ends : (e : Ending) (k : ℕ) (m : Model) → length (m .entries) ≤ maxEntries → (served e || closing e) ≡ false → finishedBy e k m ≡ quiet m
-quiet-ends Quiet k m b t = ap (closedAfter Quiet (quiet m)) (from-none maxEntries m b)
-quiet-ends Nothings k m b t = absurd (true≢false t)
-quiet-ends Service k m b t = absurd (true≢false t)
-quiet-ends Both k m b t = absurd (true≢false t)
-quiet-ends Tick k m b t = absurd (true≢false t)
+pub quiet-ends : (k : ℕ) (m : Model) → length (m .entries) ≤ maxEntries → finishedBy Quiet k m ≡ quiet m
+quiet-ends k m b = ap (closedAfter Quiet (quiet m)) (from-none maxEntries m b)
+
+-- one that ends with service alone, or with nothings alone
+pub service-ends : (k : ℕ) (m : Model) → finishedBy Service k m ≡ serviceFrom k m
+service-ends k m =
+    let d = serviceFrom k m in
+    ap (λ rs. record { model = d .model; records = rs }) (append-nil (d .records))
+
+pub nothings-end : (k : ℕ) (m : Model) → length (m .entries) ≤ maxEntries → finishedBy Nothings k m ≡ closedInVain m
+nothings-end k m b = ap (closedAfter Nothings (quiet m)) (from-none maxEntries m b)
 
 module _ (ws : List ℕ) (e : Ending) where
   -- at most 8 exceptions

@@ -2,9 +2,12 @@
 use Prim.Native.Nat.{ℕ}
 use mathlib.Core.Bool.{Bool, true, false, not, _&&_, _||_, or-false}
 use mathlib.Core.Path.{_≡_, refl, sym, ap, _∙_}
+use borrow.Author.Tests.{eq-eqb, ne-eqb}
 use lib.Dec.{eqb}
 use Rattle.rules.specs.declared.FindRequest.{FindRequest}
-use Rattle.rules.specs.declared.Request.the-variants.{Find}
+use Rattle.rules.specs.declared.TxnId.{TxnId}
+use Rattle.rules.specs.declared.WriteRequest.{WriteRequest}
+use Rattle.rules.specs.declared.Request.the-variants.{Write, Find, Create, Commit, Abort, Tick}
 use Rattle.rules.specs.Numbers.{opRead, opTake, opReadIfExists, opTakeIfExists}
 use Rattle.rules.specs.State.{Model}
 use Rattle.rules.specs.Frame.{Frame, layoutOf, serves, isLookUp, isTick, isTake, endsTxn, isIfExists, lookUpOp}
@@ -12,8 +15,8 @@ use Rattle.rules.specs.LookUp.{lookUp}
 use Rattle.rules.specs.Requests.{frame, frameOf}
 use Rattle.rules.specs.Step.{ownPart}
 use Rattle.rules.proofs.LayoutLaws.{lookUp-serves}
-use Rattle.step.specs.declared.finish.Ending.{Ending}
-use Rattle.step.specs.Ending.{inTick, served, closing, EndsAs}
+use Rattle.step.specs.Ending as Ending
+use Rattle.step.specs.Ending.{Ending, Quiet, Service, Both, inTick, served, closing, EndsAs}
 
 pub kind-cases : (P : ℕ → Type 0) (takes ifExists : Bool) → P opRead → P opTake → P opReadIfExists → P opTakeIfExists
     → P (lookUpOp takes ifExists)
@@ -60,3 +63,28 @@ find-ends l e t s c =
 
     none-more : (inside || false || false) ≡ inside
     none-more = ap (λ b. b || false) (or-false inside) ∙ or-false inside
+
+-- how the other kinds end
+pub write-serves : (w : WriteRequest) → w .txn .0 ≡ 0 → EndsAs (frameOf (Write w)) Service
+unfolding serves layoutOf
+write-serves w e = record { tick = refl; service = rw (eq-eqb _ 0 e); closes = refl }
+
+pub write-quiet : (w : WriteRequest) → (w .txn .0 ≡ 0 → ⊥) → EndsAs (frameOf (Write w)) Quiet
+unfolding serves layoutOf
+write-quiet w e = record { tick = refl; service = rw (ne-eqb _ 0 e); closes = refl }
+
+pub create-quiet : (party lease : ℕ) → EndsAs (frameOf (Create party lease)) Quiet
+unfolding serves layoutOf
+create-quiet party lease = record { tick = refl; service = refl; closes = refl }
+
+pub commit-ends : (party : ℕ) (id : TxnId) → EndsAs (frameOf (Commit party id)) Both
+unfolding serves layoutOf
+commit-ends party id = record { tick = refl; service = refl; closes = refl }
+
+pub abort-ends : (party : ℕ) (id : TxnId) → EndsAs (frameOf (Abort party id)) Both
+unfolding serves layoutOf
+abort-ends party id = record { tick = refl; service = refl; closes = refl }
+
+pub tick-ends : EndsAs (frameOf Tick) Ending.Tick
+unfolding serves layoutOf
+tick-ends = record { tick = refl; service = refl; closes = refl }

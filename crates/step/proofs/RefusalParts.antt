@@ -6,7 +6,7 @@ use mathlib.Core.Path.{_≡_, refl, sym, ap, _∙_}
 use mathlib.Core.List.{List}
 use native.Mathlib.Omega.{arith}
 use native.Mathlib.Decide.{decLt}
-use borrow.Author.Tests.{ne-eqb, lt-ltb, le-ltb}
+use borrow.Author.Tests.{ne-eqb, eqb-true, eqb-false, lt-ltb, le-ltb}
 use lib.Dec.{eqb, ltb}
 use Rattle.rules.specs.declared.Txn.{Txn}
 use Rattle.rules.specs.declared.LookUp.{LookUp}
@@ -102,3 +102,11 @@ module _ (m : Model) (f : Frame) where
   by-room e z q =
       q ∙ sym (first-append (admissionRows m f) (roomRows m f) refl
       ∙ ap (λ k. cond (eqb k 0) (roomRefusal m f) k) (sym e ∙ z))
+
+  -- nothing of time, room and numbers is asked
+  pub by-admission-alone : {n : ℕ} → n ≡ admissionRefusal m f → roomRefusal m f ≡ 0 → n ≡ spaceRefusal m f
+  by-admission-alone {n} e z = go (eqb n 0) refl
+    where
+      go : (b : Bool) → eqb n 0 ≡ b → n ≡ spaceRefusal m f
+      go true q = let e0 = eqb-true n 0 q in e0 ∙ by-room e e0 (sym z)
+      go false q = by-admission e (eqb-false n 0 q)

@@ -32,8 +32,7 @@ use Rattle.sound.proofs.EventsProof.{admitted}
 use Rattle.holds.specs.Sweep.{SameBefore}
 use Rattle.step.specs.Does.{Carries, Adds, Does}
 use Rattle.step.specs.Judge.{ReadyFor}
-use Rattle.step.specs.declared.finish.Ending.{Ending}
-use Rattle.step.specs.Ending.{EndsAs, finishedBy}
+use Rattle.step.specs.Ending.{Ending, EndsAs, finishedBy}
 use Rattle.step.proofs.AddsLaws.{adds-then}
 use Rattle.step.proofs.FinishLaws.{finish-same}
 

@@ -1,4 +1,4 @@
--- How a frame ends, as the code hands it on.
+-- How a frame ends, kind by kind.
 use Prim.Native.Nat.{ℕ}
 use mathlib.Core.Bool.{Bool, true, false, cond}
 use mathlib.Core.Path.{_≡_}
@@ -14,8 +14,15 @@ use Rattle.rules.specs.Frame.{Frame, isTick, serves}
 use Rattle.rules.specs.Tick.{lapsed}
 use Rattle.rules.specs.Closing.{closeWaits, endsConflicts}
 use Rattle.step.specs.From.{serviceFrom}
-use Rattle.step.specs.declared.finish.Ending.{Ending}
-use Rattle.step.specs.declared.finish.Ending.the-variants.{Quiet, Nothings, Service, Both, Tick}
+
+-- with nothing more; with nothings for those who wait in vain from then on; with service; with service, and then
+-- nothings; as a tick does: with what ends now, too
+pub data Ending : Type 0 where
+  Quiet : Ending
+  Nothings : Ending
+  Service : Ending
+  Both : Ending
+  Tick : Ending
 
 -- whether it is a tick's, whether service is part of it, and whether a conflict may have ended
 abbrev pub inTick : Ending → Bool

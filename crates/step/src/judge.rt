@@ -1,13 +1,14 @@
 // Why a request is refused: the refusals 6 to 13, in document 01's order.
 ghost use mathlib.Core.Path.{_≡_};
+ghost use Rattle.rules.specs.declared.Request.the-variants.{Write, Find, Create, Commit, Abort, Tick};
 ghost use Rattle.rules.specs.Requests.{frameOf, spaceRefusal};
 ghost use Rattle.rules.specs.Words.{view};
 ghost use Rattle.step.specs.Judge.{bars, partyWaiting, txnRefusal, partyRefusal, late, noRoom};
-ghost use Rattle.step.specs.Judge.{admissionRefusal, roomRefusal};
+ghost use Rattle.step.specs.Judge.{roomRefusal};
 use holds::live::Live;
 use holds::live::find_txn;
+use rules::FindRequest;
 use rules::LookUp;
-use rules::Request;
 use rules::TxnId;
 use rules::WriteRequest;
 use rules::numbers::CLOCK_REFUSED;
@@ -82,21 +83,6 @@ pub(crate) fn party_refusal(space: &Words, inside: bool, party: u8, leaving: Txn
     }
 }
 
-// 6 to 8, of the party and its transaction.
-pub(crate) fn admission(space: &Words, q: Request) -> u8
-    ensures { λ r. ⌜ r ≡ admissionRefusal (view (now (space .entry))) (frameOf q) ⌝ }
-{
-    let none = TxnId(0);
-    match q {
-        Request::Write(w) => party_refusal(space, w.txn.0 != 0, w.party, none, w.txn),
-        Request::Find(l) => party_refusal(space, l.txn.0 != 0, l.party, none, l.txn),
-        Request::Create(party, _) => party_refusal(space, false, party, none, none),
-        Request::Commit(party, id) => party_refusal(space, true, party, none, id),
-        Request::Abort(party, id) => party_refusal(space, true, party, id, id),
-        Request::Tick => party_refusal(space, false, 0, none, none),
-    }
-}
-
 // Whether clock + lease or timeout, FOREVER excepted, is above 4294967294.
 pub(crate) fn too_late(space: &Words, amount: u32) -> bool
     ensures { λ r. ⌜ r ≡ late (view (now (space .entry)) .clock) amount ⌝ }
@@ -119,8 +105,9 @@ pub(crate) fn lacks_room(space: &Words, lease: u32) -> bool
     }
 }
 
+// 10, 11 or 13, for a write; 0: none of them applies.
 pub(crate) fn write_room(space: &Words, w: WriteRequest) -> u8
-    ensures { λ r. ⌜ r ≡ roomRefusal (view (now (space .entry))) (frameOf (Request.Write w)) ⌝ }
+    ensures { λ r. ⌜ r ≡ roomRefusal (view (now (space .entry))) (frameOf (Write w)) ⌝ }
 {
     if too_late(space, w.lease) {
         return CLOCK_REFUSED;
@@ -135,8 +122,9 @@ pub(crate) fn write_room(space: &Words, w: WriteRequest) -> u8
     }
 }
 
+// 9, 10, 12 or 13, for a create; 0: none of them applies.
 pub(crate) fn create_room(space: &Words, party: u8, lease: u32) -> u8
-    ensures { λ r. ⌜ r ≡ roomRefusal (view (now (space .entry))) (frameOf (Request.Create party lease)) ⌝ }
+    ensures { λ r. ⌜ r ≡ roomRefusal (view (now (space .entry))) (frameOf (Create party lease)) ⌝ }
 {
     if lease == 0 {
         return LEASE_REFUSED;
@@ -154,39 +142,63 @@ pub(crate) fn create_room(space: &Words, party: u8, lease: u32) -> u8
     }
 }
 
-// 9 to 13, of time, room and numbers.
-pub(crate) fn room(space: &Words, q: Request) -> u8
-    ensures { λ r. ⌜ r ≡ roomRefusal (view (now (space .entry))) (frameOf q) ⌝ }
+// For each kind of request the first of the refusals 6 to 13 that applies, or 0.
+pub(crate) fn write_refusal(space: &Words, w: WriteRequest) -> u8
+    ensures { λ r. ⌜ r ≡ spaceRefusal (view (now (space .entry))) (frameOf (Write w)) ⌝ }
 {
-    match q {
-        Request::Write(w) => write_room(space, w),
-        Request::Find(l) => {
-            if too_late(space, l.timeout) {
-                CLOCK_REFUSED
-            } else {
-                0
-            }
-        }
-        Request::Create(party, lease) => create_room(space, party, lease),
-        Request::Commit(_, _) => 0,
-        Request::Abort(_, _) => 0,
-        Request::Tick => {
-            if LAST_CLOCK <= clock(space) {
-                CLOCK_REFUSED
-            } else {
-                0
-            }
-        }
-    }
-}
-
-// The first of the refusals 6 to 13 that applies, or 0.
-pub(crate) fn judge(space: &Words, q: Request) -> u8
-    ensures { λ r. ⌜ r ≡ spaceRefusal (view (now (space .entry))) (frameOf q) ⌝ }
-{
-    let n = admission(space, q);
+    let n = party_refusal(space, w.txn.0 != 0, w.party, TxnId(0), w.txn);
     if n != 0 {
         return n;
     }
-    room(space, q)
+    write_room(space, w)
+}
+
+pub(crate) fn find_refusal(space: &Words, l: FindRequest) -> u8
+    ensures { λ r. ⌜ r ≡ spaceRefusal (view (now (space .entry))) (frameOf (Find l)) ⌝ }
+{
+    let n = party_refusal(space, l.txn.0 != 0, l.party, TxnId(0), l.txn);
+    if n != 0 {
+        return n;
+    }
+    if too_late(space, l.timeout) {
+        CLOCK_REFUSED
+    } else {
+        0
+    }
+}
+
+pub(crate) fn create_refusal(space: &Words, party: u8, lease: u32) -> u8
+    ensures { λ r. ⌜ r ≡ spaceRefusal (view (now (space .entry))) (frameOf (Create party lease)) ⌝ }
+{
+    let n = party_refusal(space, false, party, TxnId(0), TxnId(0));
+    if n != 0 {
+        return n;
+    }
+    create_room(space, party, lease)
+}
+
+pub(crate) fn commit_refusal(space: &Words, party: u8, id: TxnId) -> u8
+    ensures { λ r. ⌜ r ≡ spaceRefusal (view (now (space .entry))) (frameOf (Commit party id)) ⌝ }
+{
+    party_refusal(space, true, party, TxnId(0), id)
+}
+
+pub(crate) fn abort_refusal(space: &Words, party: u8, id: TxnId) -> u8
+    ensures { λ r. ⌜ r ≡ spaceRefusal (view (now (space .entry))) (frameOf (Abort party id)) ⌝ }
+{
+    party_refusal(space, true, party, id, id)
+}
+
+pub(crate) fn tick_refusal(space: &Words) -> u8
+    ensures { λ r. ⌜ r ≡ spaceRefusal (view (now (space .entry))) (frameOf Tick) ⌝ }
+{
+    let n = party_refusal(space, false, 0, TxnId(0), TxnId(0));
+    if n != 0 {
+        return n;
+    }
+    if LAST_CLOCK <= clock(space) {
+        CLOCK_REFUSED
+    } else {
+        0
+    }
 }

@@ -70,30 +70,3 @@ pub(crate) fn tick(space: &mut Words) -> Record
     set_clock(space, t + 1);
     plain_record(KIND_TICKED, 0, TxnId(0))
 }
-
-// What a request does of its own that the refusals 6 to 13 let pass. Where no service follows, and for a tick, nothing
-// is said of the entries.
-pub(crate) fn carry_out(space: &mut Words, q: Request) -> Own
-    requires { ⌜ spaceRefusal (view (now space)) (frameOf q) ≡ 0 ⌝ }
-    ensures { λ r. ⌜ (ReadyFor (view (now (space .entry))) (frameOf q)
-        → Carries (ownPart (view (now (space .entry))) (frameOf q)) (now (space .exit)) (r .answer))
-        × SameBefore (r .from) (view (now (space .entry))) (view (now (space .exit))) ⌝ }
-{
-    match q {
-        Request::Write(w) => write(space, w),
-        Request::Find(l) => Own {
-            answer: find(space, l),
-            from: 0,
-        },
-        Request::Create(party, lease) => Own {
-            answer: create(space, party, lease),
-            from: 0,
-        },
-        Request::Commit(party, id) => commit(space, party, id),
-        Request::Abort(party, id) => abort(space, party, id),
-        Request::Tick => Own {
-            answer: tick(space),
-            from: 0,
-        },
-    }
-}

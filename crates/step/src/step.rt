@@ -1,4 +1,5 @@
-// A frame's request: judged, carried out and finished, or refused.
+// A frame's request, from its judgement to its end, kind by kind: refused, or carried out, its own record first, and
+// finished.
 ghost use mathlib.Core.Path.{_≡_};
 ghost use mathlib.Core.List.{[], _∷_};
 ghost use Prim.Native.Nat.{_+_, _*_, _≤_};
@@ -8,14 +9,30 @@ ghost use Rattle.rules.specs.Numbers.{stepArea};
 ghost use Rattle.rules.specs.Records.{refused};
 ghost use Rattle.rules.specs.Requests.{Decodes};
 ghost use Rattle.rules.specs.declared.Decoded.the-variants.{Asks};
+ghost use Rattle.rules.specs.declared.Request.the-variants.{Write, Find, Create, Commit, Abort, Tick};
 ghost use Rattle.step.specs.Does.{Adds};
 use crate::answers::add_record;
-use crate::finish::ending_of;
-use crate::finish::finish;
-use crate::judge::judge;
-use crate::own::carry_out;
+use crate::closing::close_in_vain;
+use crate::finish::finish_tick;
+use crate::finish::serve;
+use crate::finish::serve_and_close;
+use crate::judge::abort_refusal;
+use crate::judge::commit_refusal;
+use crate::judge::create_refusal;
+use crate::judge::find_refusal;
+use crate::judge::tick_refusal;
+use crate::judge::write_refusal;
+use crate::look_up::find;
+use crate::own::abort;
+use crate::own::commit;
+use crate::own::create;
+use crate::own::tick;
+use crate::write::write;
 use codec::records::refused_record;
+use rules::FindRequest;
 use rules::Request;
+use rules::TxnId;
+use rules::WriteRequest;
 use words::rows::Words;
 
 // What is returned is the count of records, and so much for each of a refusal's number.
@@ -32,20 +49,135 @@ pub(crate) fn refuse(answers: &mut [u8], frame: &[u8], n: u8) -> u64
     1 + NUMBER * n as u64
 }
 
-// A frame's request is judged; it is carried out, its own record comes first, and the frame is finished; or it is
-// refused.
+// Service follows a write outside transactions.
+pub(crate) fn take_write(
+    space: &mut Words,
+    frame: &[u8],
+    answers: &mut [u8],
+    w: WriteRequest,
+) -> u64
+    requires { ⌜ Decodes (now frame) (Asks (Write w)) × (stepArea ≤ length (now answers)) ⌝ }
+    ensures { λ r. ⌜ Stepped (now (space .entry)) (now (frame .entry)) (now (answers .entry))
+        (now (space .exit)) r (now (answers .exit)) ⌝ }
+{
+    let n = write_refusal(space, w);
+    if n != 0 {
+        return refuse(answers, frame, n);
+    }
+    let own = write(space, w);
+    let answer = own.answer;
+    let count = add_record(answers, 0, answer);
+    if w.txn.0 == 0 {
+        return serve(space, answers, count, own.from) as u64;
+    }
+    count as u64
+}
+
+// A take inside a transaction may be of the transaction's own private entry, for which others wait.
+pub(crate) fn take_find(space: &mut Words, frame: &[u8], answers: &mut [u8], l: FindRequest) -> u64
+    requires { ⌜ Decodes (now frame) (Asks (Find l)) × (stepArea ≤ length (now answers)) ⌝ }
+    ensures { λ r. ⌜ Stepped (now (space .entry)) (now (frame .entry)) (now (answers .entry))
+        (now (space .exit)) r (now (answers .exit)) ⌝ }
+{
+    let n = find_refusal(space, l);
+    if n != 0 {
+        return refuse(answers, frame, n);
+    }
+    let answer = find(space, l);
+    let count = add_record(answers, 0, answer);
+    if l.takes & (l.txn.0 != 0) {
+        return close_in_vain(space, answers, count) as u64;
+    }
+    count as u64
+}
+
+pub(crate) fn take_create(
+    space: &mut Words,
+    frame: &[u8],
+    answers: &mut [u8],
+    party: u8,
+    lease: u32,
+) -> u64
+    requires { ⌜ Decodes (now frame) (Asks (Create party lease)) × (stepArea ≤ length (now answers)) ⌝ }
+    ensures { λ r. ⌜ Stepped (now (space .entry)) (now (frame .entry)) (now (answers .entry))
+        (now (space .exit)) r (now (answers .exit)) ⌝ }
+{
+    let n = create_refusal(space, party, lease);
+    if n != 0 {
+        return refuse(answers, frame, n);
+    }
+    let answer = create(space, party, lease);
+    add_record(answers, 0, answer) as u64
+}
+
+pub(crate) fn take_commit(
+    space: &mut Words,
+    frame: &[u8],
+    answers: &mut [u8],
+    party: u8,
+    id: TxnId,
+) -> u64
+    requires { ⌜ Decodes (now frame) (Asks (Commit party id)) × (stepArea ≤ length (now answers)) ⌝ }
+    ensures { λ r. ⌜ Stepped (now (space .entry)) (now (frame .entry)) (now (answers .entry))
+        (now (space .exit)) r (now (answers .exit)) ⌝ }
+{
+    let n = commit_refusal(space, party, id);
+    if n != 0 {
+        return refuse(answers, frame, n);
+    }
+    let own = commit(space, party, id);
+    let answer = own.answer;
+    let count = add_record(answers, 0, answer);
+    serve_and_close(space, answers, count, own.from) as u64
+}
+
+pub(crate) fn take_abort(
+    space: &mut Words,
+    frame: &[u8],
+    answers: &mut [u8],
+    party: u8,
+    id: TxnId,
+) -> u64
+    requires { ⌜ Decodes (now frame) (Asks (Abort party id)) × (stepArea ≤ length (now answers)) ⌝ }
+    ensures { λ r. ⌜ Stepped (now (space .entry)) (now (frame .entry)) (now (answers .entry))
+        (now (space .exit)) r (now (answers .exit)) ⌝ }
+{
+    let n = abort_refusal(space, party, id);
+    if n != 0 {
+        return refuse(answers, frame, n);
+    }
+    let own = abort(space, party, id);
+    let answer = own.answer;
+    let count = add_record(answers, 0, answer);
+    serve_and_close(space, answers, count, own.from) as u64
+}
+
+pub(crate) fn take_tick(space: &mut Words, frame: &[u8], answers: &mut [u8]) -> u64
+    requires { ⌜ Decodes (now frame) (Asks Tick) × (stepArea ≤ length (now answers)) ⌝ }
+    ensures { λ r. ⌜ Stepped (now (space .entry)) (now (frame .entry)) (now (answers .entry))
+        (now (space .exit)) r (now (answers .exit)) ⌝ }
+{
+    let n = tick_refusal(space);
+    if n != 0 {
+        return refuse(answers, frame, n);
+    }
+    let answer = tick(space);
+    let count = add_record(answers, 0, answer);
+    finish_tick(space, answers, count) as u64
+}
+
+// A frame's request, by its kind.
 pub(crate) fn take_up(space: &mut Words, frame: &[u8], answers: &mut [u8], q: Request) -> u64
     requires { ⌜ Decodes (now frame) (Asks q) × (stepArea ≤ length (now answers)) ⌝ }
     ensures { λ r. ⌜ Stepped (now (space .entry)) (now (frame .entry)) (now (answers .entry))
         (now (space .exit)) r (now (answers .exit)) ⌝ }
 {
-    let n = judge(space, q);
-    if n != 0 {
-        return refuse(answers, frame, n);
+    match q {
+        Request::Write(w) => take_write(space, frame, answers, w),
+        Request::Find(l) => take_find(space, frame, answers, l),
+        Request::Create(party, lease) => take_create(space, frame, answers, party, lease),
+        Request::Commit(party, id) => take_commit(space, frame, answers, party, id),
+        Request::Abort(party, id) => take_abort(space, frame, answers, party, id),
+        Request::Tick => take_tick(space, frame, answers),
     }
-    let own = carry_out(space, q);
-    let answer = own.answer;
-    let count = add_record(answers, 0, answer);
-    let ending = ending_of(q);
-    finish(space, answers, count, ending, own.from) as u64
 }

@@ -1,0 +1,33 @@
+-- `step::step::take_commit` meets its contract. Assumes nothing.
+use mathlib.Core.Path.{refl, sym, _∙_}
+use borrow.Author.Needs.{needs}
+use Rattle.rules.specs.Step.{ownPart}
+use Rattle.step.proofs.KindLaws.{commit-ends}
+use Rattle.step.proofs.SteppedLaws.{stepped-judged, stepped-done}
+use Rattle.step.proofs.step.take_commit.Statement.{statement}
+use Rattle.step.proofs.step.take_commit.Tie as tie
+
+returns : tie.Need-returns
+returns c =
+    let test = c .before .before .before .before in
+    let start = test .before .before .before .before .before in
+    stepped-judged (start .pre .1) (start .pre .0) (test .before .commit-refusal .ensures) (test .if1 .taken) refl
+    (c .before .before .refuse .ensures)
+
+returns-2 : tie.Need-returns-2
+unfolding ownPart
+returns-2 c =
+    let own = c .before .before .before .before .before .before .before in
+    let carried = own .before .before .before in
+    let test = carried .before .before in
+    let start = test .before .before .before .before .before in
+    stepped-done (start .pre .1) (start .pre .0) _ (sym (test .before .commit-refusal .ensures) ∙ test .if1 .left)
+    (λ _. carried .commit .ensures .0, carried .commit .ensures .1) (own .add-record .ensures) _ (commit-ends _ _)
+    (c .before .before .serve-and-close .ensures)
+
+pub take-commit-spec : {M : Type 1} → statement M
+take-commit-spec =
+    tie.close
+    (tie.spec
+    (λ c κs. search needs) (λ c κs. search needs) (λ c. search needs) returns (λ c κs. search needs)
+    (λ c κs. search needs) (λ c κs. search needs) (λ c. search needs) returns-2)

@@ -1,0 +1,36 @@
+-- `step::step::take_tick` meets its contract. Assumes nothing.
+use mathlib.Core.Path.{refl, sym, _∙_}
+use borrow.Author.Needs.{needs}
+use Rattle.rules.specs.Step.{ownPart}
+use Rattle.step.proofs.KindLaws.{tick-ends}
+use Rattle.step.proofs.PassedLaws.{tick-clock}
+use Rattle.step.proofs.SteppedLaws.{stepped-judged, stepped-done}
+use Rattle.step.proofs.step.take_tick.Statement.{statement}
+use Rattle.step.proofs.step.take_tick.Tie as tie
+
+returns : tie.Need-returns
+returns c =
+    let test = c .before .before .before .before in
+    let start = test .before .before .before .before .before in
+    stepped-judged (start .pre .1) (start .pre .0) (test .before .tick-refusal .ensures) (test .if1 .taken) refl
+    (c .before .before .refuse .ensures)
+
+tick-requires : tie.Need-tick-requires
+tick-requires c κs = tick-clock _ (sym (c .before .before .tick-refusal .ensures) ∙ c .before .if1 .left)
+
+returns-2 : tie.Need-returns-2
+unfolding ownPart
+returns-2 c =
+    let own = c .before .before .before .before .before .before .before in
+    let carried = own .before .before in
+    let test = carried .before .before in
+    let start = test .before .before .before .before .before in
+    stepped-done (start .pre .1) (start .pre .0) 0 (sym (test .before .tick-refusal .ensures) ∙ test .if1 .left)
+    (λ _. carried .tick .ensures, refl) (own .add-record .ensures) _ tick-ends (c .before .before .finish-tick .ensures)
+
+pub take-tick-spec : {M : Type 1} → statement M
+take-tick-spec =
+    tie.close
+    (tie.spec
+    (λ c κs. search needs) (λ c κs. search needs) (λ c. search needs) returns tick-requires (λ c κs. search needs)
+    (λ c κs. search needs) (λ c. search needs) returns-2)
