@@ -52,7 +52,7 @@ pub fn slot_of(space: &Words, id: TxnId) -> u8
 }
 
 // The transaction is live no longer.
-pub(crate) fn remove_txn(space: &mut Words, id: TxnId)
+pub fn remove_txn(space: &mut Words, id: TxnId)
     ensures { λ _. ⌜ view (now (space .exit))
         ≡ withTxns (withoutTxn (id .0) (view (now (space .entry)) .txns)) (view (now (space .entry))) ⌝ }
 {

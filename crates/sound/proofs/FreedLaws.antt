@@ -31,7 +31,7 @@ use Rattle.sound.proofs.Consistent.{not-inside}
 use Rattle.sound.proofs.SoundProof.{available-same}
 
 -- a transaction that ends changes nothing for a look-up outside it
-live-without : (t u : ℕ) → (u ≡ t → ⊥) → (ts : List Txn) → liveTxn u (withoutTxn t ts) ≡ liveTxn u ts
+pub live-without : (t u : ℕ) → (u ≡ t → ⊥) → (ts : List Txn) → liveTxn u (withoutTxn t ts) ≡ liveTxn u ts
 unfolding liveTxn withoutTxn
 live-without t u d [] = refl
 live-without t u d (x ∷ ts) = go (eqb (x .id .0) t) refl (live-without t u d ts)

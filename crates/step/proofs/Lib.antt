@@ -7,7 +7,10 @@ pub mod PassedLaws
 pub mod LookUpAnswers
 pub mod ServingLaws
 pub mod FromLaws
+pub mod IdleEnds
 pub mod TurnLaws
 pub mod AbortingLaws
 pub mod FinishLaws
 pub mod SteppedLaws
+pub mod IdleStepped
+pub mod FollowLaws

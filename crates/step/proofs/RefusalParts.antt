@@ -19,9 +19,10 @@ use Rattle.rules.specs.Holds.{liveTxn}
 use Rattle.rules.specs.Refusals.{admissionRows, roomRows, inTxn, withdraws, partyWaits, notLive, notOwn}
 use Rattle.rules.specs.Refusals.{noLease, tooLate, entriesFull, txnsFull, noNumber}
 use Rattle.rules.specs.Requests.{frame, frameOf, spaceRefusal}
-use Rattle.rules.proofs.ListLaws.{some-any, none-any, any-same}
+use Rattle.rules.proofs.ListLaws.{some-any, none-any, any-same, all-false}
 use Rattle.rules.proofs.RefusalLaws.{first-append}
-use Rattle.step.specs.Judge.{bars, txnRefusal, partyRefusal, late, admissionRefusal, roomRefusal}
+use Rattle.hints.specs.Hints.{flag, Reliable}
+use Rattle.step.specs.Judge.{bars, partyWaiting, txnRefusal, partyRefusal, late, admissionRefusal, roomRefusal}
 use Rattle.step.proofs.KindLaws.{kind-cases}
 
 -- ---- 10: a sum above the last clock, by a difference that cannot wrap
@@ -110,3 +111,11 @@ module _ (m : Model) (f : Frame) where
       go : (b : Bool) → eqb n 0 ≡ b → n ≡ spaceRefusal m f
       go true q = let e0 = eqb-true n 0 q in e0 ∙ by-room e e0 (sym z)
       go false q = by-admission e (eqb-false n 0 q)
+
+-- a party without a flag has no look-up that bars it
+pub unflagged-waits : {hs : List ℕ} {m : Model} (party leaving : ℕ) → Reliable hs m → flag hs party ≡ 0
+    → partyWaiting party leaving (m .waits) ≡ false
+unflagged-waits {hs} {m} party leaving r e =
+    all-false (bars party leaving) (m .waits)
+    (λ w i. ap (λ b. b && (eqb leaving 0 || not (eqb (w .txn .0) leaving)))
+    (ne-eqb (w .party) party (λ q. r .flagged w i (ap (flag hs) q ∙ e))))

@@ -37,7 +37,7 @@ use Rattle.step.proofs.AddsLaws.{adds-then}
 use Rattle.step.proofs.FinishLaws.{finish-same}
 
 -- ---- which refusal applies
-asked-frame : {bs : List ℕ} {q : Request} → Decodes bs (Asks q) → frameOf q ≡ decode bs
+pub asked-frame : {bs : List ℕ} {q : Request} → Decodes bs (Asks q) → frameOf q ≡ decode bs
 asked-frame {bs} d = same (d .frame ∙ ap (λ n. cond (eqb n 0) (some (decode bs)) none) (sym (d .number)))
   where
     same : {f g : Frame} → some f ≡ some g → f ≡ g
@@ -77,7 +77,7 @@ module _ (m : Model) (bs : List ℕ) (area : ℕ) where
 
     -- it does not: the request is judged against the space, by 6 to 13
     module _ {q : Request} (d : Decodes bs (Asks q)) where
-      asked : refusal m bs area ≡ spaceRefusal m (frameOf q)
+      pub asked : refusal m bs area ≡ spaceRefusal m (frameOf q)
       asked =
           is-judged
           ∙ ap (λ n. cond (eqb n 0) (spaceRefusal m (decode bs)) n) (sym (d .number))
@@ -165,50 +165,32 @@ module _ {ws bs area ws′ area′ : List ℕ} {returned : ℕ} where
         ∙ ap (λ b. record { model = view ws; records = cond b [] (refused bs n ∷ []); number = n }) y)
         (ap view s) (a .1 .bytes) (a .0) (λ k. s)
 
-    module _ {q : Request} (d : Decodes bs (Asks q)) where
+    module _ {q : Request} (d′ : Decodes bs (Asks q)) where
       -- 6 to 13
       pub stepped-judged : {n : ℕ} → n ≡ spaceRefusal (view ws) (frameOf q) → (n ≡ 0 → ⊥) → ws′ ≡ ws
           → (returned ≡ 1 + 65536 * n) × Adds (refused bs n ∷ []) area area′ 0 1 → Stepped ws bs area ws′ returned area′
-      stepped-judged e z s a = stepped-refused (asked (view ws) bs (length area) h d ∙ sym e) z s a
+      stepped-judged e z s a = stepped-refused (asked (view ws) bs (length area) h d′ ∙ sym e) z s a
 
-      -- carried out: the frame's own record, and then its finish
-      pub stepped-done : {ws₁ a₁ : List ℕ} {own : Record} {n : ℕ} (k : ℕ) → spaceRefusal (view ws) (frameOf q) ≡ 0
-          → (ReadyFor (view ws) (frameOf q) → Carries (ownPart (view ws) (frameOf q)) ws₁ own)
-          × SameBefore k (view ws) (view ws₁)
-          → Adds (own ∷ []) area a₁ 0 n → (x : Ending) → EndsAs (frameOf q) x
-          → Does (finishedBy x k (view ws₁)) ws′ a₁ area′ n returned
-          → Stepped ws bs area ws′ returned area′
+      -- carried out: the frame's own record, and then what it ends with, which is the rules' finish on a sound space
+      pub stepped-sound : {ws₁ a₁ : List ℕ} {own : Record} {n : ℕ} (d : Done) → spaceRefusal (view ws) (frameOf q) ≡ 0
+          → (Sound (view ws) → Carries (ownPart (view ws) (frameOf q)) ws₁ own) → Adds (own ∷ []) area a₁ 0 n
+          → (Sound (view ws) → d ≡ finish (frameOf q) (ownPart (view ws) (frameOf q) .model))
+          → Does d ws′ a₁ area′ n returned → Stepped ws bs area ws′ returned area′
       unfolding carriedOut accepted
-      stepped-done {ws₁} {a₁} {own} k e c a x y f =
+      stepped-sound {own = own} d e c a ends f =
           let all = adds-then (omega arith) a (f .adds) in
-          let zero = asked (view ws) bs (length area) h d ∙ e in
-          let given = by ws bs area zero in
-          let ends : (s : Sound (view ws)) → finishedBy x k (ownPart (view ws) (frameOf q) .model)
-          ≡ finish (frameOf q) (ownPart (view ws) (frameOf q) .model) =
-          λ s. let o = c .0 (ready-for (view ws) d e s) .model in
-          ends-same (view ws) (length area) zero d s k x y (subst (SameBefore k (view ws)) o (c .1))
-          (subst Bounded o (view-bounded ws₁)) in
-          let same = given ∙ ap (λ g. accepted (carriedOut (view ws) g)) (sym (asked-frame d)) in
+          let zero = asked (view ws) bs (length area) h d′ ∙ e in
+          let same = by ws bs area zero ∙ ap (λ g. accepted (carriedOut (view ws) g)) (sym (asked-frame d′)) in
           record {
-            answered =
-                record {
-                  records = own ∷ finishedBy x k (view ws₁) .records;
-                  count = returned;
-                  number = 0;
-                  area = area′;
-                };
+            answered = record { records = own ∷ d .records; count = returned; number = 0; area = area′ };
             allowed =
                 record {
                   space = λ s.
-                      let o = c .0 (ready-for (view ws) d e (s refl)) in
-                      f .model ∙ ap (λ m. finishedBy x k m .model) (o .model)
+                      f .model
                       ∙ ap (λ (b : Done). b .model) (ends (s refl))
                       ∙ sym (ap (λ (x : Outcome). x .model) same);
                   records = λ s.
-                      let o = c .0 (ready-for (view ws) d e (s refl)) in
-                      ap₂ (λ r m. r ∷ finishedBy x k m .records) (o .own) (o .model)
-                      ∙ ap (λ (b : Done). ownPart (view ws) (frameOf q) .own ∷ b .records)
-                      (ends (s refl))
+                      ap₂ (λ r (b : Done). r ∷ b .records) (c (s refl) .own) (ends (s refl))
                       ∙ sym (ap (λ (x : Outcome). x .records) same);
                   count = omega (arith, all .counts);
                   number = sym (ap (λ (x : Outcome). x .number) same);
@@ -218,3 +200,19 @@ module _ {ws bs area ws′ area′ : List ℕ} {returned : ℕ} where
             returns = omega arith;
             leaves = refl;
           }
+
+      -- where the code goes by the frame's kind, and service from a row on
+      pub stepped-done : {ws₁ a₁ : List ℕ} {own : Record} {n : ℕ} (k : ℕ) → spaceRefusal (view ws) (frameOf q) ≡ 0
+          → (ReadyFor (view ws) (frameOf q) → Carries (ownPart (view ws) (frameOf q)) ws₁ own)
+          × SameBefore k (view ws) (view ws₁)
+          → Adds (own ∷ []) area a₁ 0 n → (x : Ending) → EndsAs (frameOf q) x
+          → Does (finishedBy x k (view ws₁)) ws′ a₁ area′ n returned
+          → Stepped ws bs area ws′ returned area′
+      stepped-done {ws₁} k e c a x y f =
+          let carried : Sound (view ws) → Carries (ownPart (view ws) (frameOf q)) ws₁ _ =
+          λ s. c .0 (ready-for (view ws) d′ e s) in
+          stepped-sound (finishedBy x k (view ws₁)) e carried a
+          (λ s. let o = carried s .model in
+          ap (finishedBy x k) o
+          ∙ ends-same (view ws) (length area) (asked (view ws) bs (length area) h d′ ∙ e) d′ s k x y
+          (subst (SameBefore k (view ws)) o (c .1)) (subst Bounded o (view-bounded ws₁))) f

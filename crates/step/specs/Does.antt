@@ -7,7 +7,9 @@ use Rattle.rules.specs.declared.Record.{Record}
 use Rattle.rules.specs.Numbers.{recordSize}
 use Rattle.rules.specs.Records.{areaAfter}
 use Rattle.rules.specs.Done.{Carried, Done}
+use Rattle.rules.specs.Sound.{Sound}
 use Rattle.rules.specs.Words.{view}
+use Rattle.hints.specs.Hints.{Reliable}
 
 -- a frame's own part, as the rules' `c` says it: the words become ws′, and r is the frame's own record
 pub record Carries (c : Carried) (ws′ : List ℕ) (r : Record) : Type 0 where
@@ -24,3 +26,7 @@ pub record Adds (rs : List Record) (area area′ : List ℕ) (count count′ : �
 pub record Does (d : Done) (ws′ area area′ : List ℕ) (count count′ : ℕ) : Type 0 where
   pub model : view ws′ ≡ d .model
   pub adds : Adds (d .records) area area′ count count′
+
+-- of a sound space that becomes the words ws′ what the hints hs say is so
+abbrev pub StaysReliable : List ℕ → List ℕ → List ℕ → Type 0
+StaysReliable ws ws′ hs = Sound (view ws) → Reliable hs (view ws′)

@@ -8,10 +8,11 @@ use lib.ListN.{length}
 use Rattle.rules.specs.declared.LookUp.{LookUp}
 use Rattle.rules.specs.Lists.{anyb}
 use Rattle.rules.specs.Numbers.{maxEntries}
-use Rattle.rules.specs.State.{Model}
+use Rattle.rules.specs.State.{Model, withTxns}
 use Rattle.rules.specs.Done.{Done, quiet}
 use Rattle.rules.specs.Frame.{Frame, isTick, serves}
 use Rattle.rules.specs.Tick.{lapsed}
+use Rattle.rules.specs.Transactions.{withoutTxn}
 use Rattle.rules.specs.Closing.{closeWaits, endsConflicts}
 use Rattle.step.specs.From.{serviceFrom}
 
@@ -83,3 +84,7 @@ finishedBy e k m =
     let served = serviceFrom (firstFree e k (length (ended .records))) (ended .model) in
     let closed = closedBy e (served .model) in
     record { model = closed .model; records = ended .records ++ served .records ++ closed .records }
+
+-- a transaction that has done nothing is live no longer, and that is all
+abbrev pub ended : ℕ → Model → Model
+ended t m = withTxns (withoutTxn t (m .txns)) m

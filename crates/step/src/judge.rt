@@ -3,8 +3,11 @@ ghost use mathlib.Core.Path.{_≡_};
 ghost use Rattle.rules.specs.declared.Request.the-variants.{Write, Find, Create, Commit, Abort, Tick};
 ghost use Rattle.rules.specs.Requests.{frameOf, spaceRefusal};
 ghost use Rattle.rules.specs.Words.{view};
+ghost use Rattle.hints.specs.Hints.{Reliable};
 ghost use Rattle.step.specs.Judge.{bars, partyWaiting, txnRefusal, partyRefusal, late, noRoom};
 ghost use Rattle.step.specs.Judge.{roomRefusal};
+use hints::known::Hints;
+use hints::known::may_wait;
 use holds::live::Live;
 use holds::live::find_txn;
 use rules::FindRequest;
@@ -41,9 +44,13 @@ pub(crate) fn is_barring(w: LookUp, party: u8, leaving: TxnId) -> bool
 }
 
 // Whether the party has a waiting look-up that the frame does not withdraw.
-pub(crate) fn waits_already(space: &Words, party: u8, leaving: TxnId) -> bool
+pub(crate) fn waits_already(space: &Words, hints: &Hints, party: u8, leaving: TxnId) -> bool
+    requires { ⌜ Reliable (now hints) (view (now space)) ⌝ }
     ensures { λ r. ⌜ r ≡ partyWaiting party (leaving .0) (view (now (space .entry)) .waits) ⌝ }
 {
+    if !may_wait(hints, party) {
+        return false;
+    }
     let n = wait_count(space);
     let mut i: usize = 0;
     while i < n {
@@ -73,10 +80,18 @@ pub(crate) fn txn_refusal(space: &Words, inside: bool, party: u8, id: TxnId) -> 
 }
 
 // 6, 7 or 8, for such a frame, which may leave a transaction; 0: none of them applies.
-pub(crate) fn party_refusal(space: &Words, inside: bool, party: u8, leaving: TxnId, id: TxnId) -> u8
+pub(crate) fn party_refusal(
+    space: &Words,
+    hints: &Hints,
+    inside: bool,
+    party: u8,
+    leaving: TxnId,
+    id: TxnId,
+) -> u8
+    requires { ⌜ Reliable (now hints) (view (now space)) ⌝ }
     ensures { λ r. ⌜ r ≡ partyRefusal inside party (leaving .0) (id .0) (view (now (space .entry))) ⌝ }
 {
-    if waits_already(space, party, leaving) {
+    if waits_already(space, hints, party, leaving) {
         WAITING_REFUSED
     } else {
         txn_refusal(space, inside, party, id)
@@ -143,20 +158,22 @@ pub(crate) fn create_room(space: &Words, party: u8, lease: u32) -> u8
 }
 
 // For each kind of request the first of the refusals 6 to 13 that applies, or 0.
-pub(crate) fn write_refusal(space: &Words, w: WriteRequest) -> u8
+pub(crate) fn write_refusal(space: &Words, hints: &Hints, w: WriteRequest) -> u8
+    requires { ⌜ Reliable (now hints) (view (now space)) ⌝ }
     ensures { λ r. ⌜ r ≡ spaceRefusal (view (now (space .entry))) (frameOf (Write w)) ⌝ }
 {
-    let n = party_refusal(space, w.txn.0 != 0, w.party, TxnId(0), w.txn);
+    let n = party_refusal(space, hints, w.txn.0 != 0, w.party, TxnId(0), w.txn);
     if n != 0 {
         return n;
     }
     write_room(space, w)
 }
 
-pub(crate) fn find_refusal(space: &Words, l: FindRequest) -> u8
+pub(crate) fn find_refusal(space: &Words, hints: &Hints, l: FindRequest) -> u8
+    requires { ⌜ Reliable (now hints) (view (now space)) ⌝ }
     ensures { λ r. ⌜ r ≡ spaceRefusal (view (now (space .entry))) (frameOf (Find l)) ⌝ }
 {
-    let n = party_refusal(space, l.txn.0 != 0, l.party, TxnId(0), l.txn);
+    let n = party_refusal(space, hints, l.txn.0 != 0, l.party, TxnId(0), l.txn);
     if n != 0 {
         return n;
     }
@@ -167,32 +184,36 @@ pub(crate) fn find_refusal(space: &Words, l: FindRequest) -> u8
     }
 }
 
-pub(crate) fn create_refusal(space: &Words, party: u8, lease: u32) -> u8
+pub(crate) fn create_refusal(space: &Words, hints: &Hints, party: u8, lease: u32) -> u8
+    requires { ⌜ Reliable (now hints) (view (now space)) ⌝ }
     ensures { λ r. ⌜ r ≡ spaceRefusal (view (now (space .entry))) (frameOf (Create party lease)) ⌝ }
 {
-    let n = party_refusal(space, false, party, TxnId(0), TxnId(0));
+    let n = party_refusal(space, hints, false, party, TxnId(0), TxnId(0));
     if n != 0 {
         return n;
     }
     create_room(space, party, lease)
 }
 
-pub(crate) fn commit_refusal(space: &Words, party: u8, id: TxnId) -> u8
+pub(crate) fn commit_refusal(space: &Words, hints: &Hints, party: u8, id: TxnId) -> u8
+    requires { ⌜ Reliable (now hints) (view (now space)) ⌝ }
     ensures { λ r. ⌜ r ≡ spaceRefusal (view (now (space .entry))) (frameOf (Commit party id)) ⌝ }
 {
-    party_refusal(space, true, party, TxnId(0), id)
+    party_refusal(space, hints, true, party, TxnId(0), id)
 }
 
-pub(crate) fn abort_refusal(space: &Words, party: u8, id: TxnId) -> u8
+pub(crate) fn abort_refusal(space: &Words, hints: &Hints, party: u8, id: TxnId) -> u8
+    requires { ⌜ Reliable (now hints) (view (now space)) ⌝ }
     ensures { λ r. ⌜ r ≡ spaceRefusal (view (now (space .entry))) (frameOf (Abort party id)) ⌝ }
 {
-    party_refusal(space, true, party, id, id)
+    party_refusal(space, hints, true, party, id, id)
 }
 
-pub(crate) fn tick_refusal(space: &Words) -> u8
+pub(crate) fn tick_refusal(space: &Words, hints: &Hints) -> u8
+    requires { ⌜ Reliable (now hints) (view (now space)) ⌝ }
     ensures { λ r. ⌜ r ≡ spaceRefusal (view (now (space .entry))) (frameOf Tick) ⌝ }
 {
-    let n = party_refusal(space, false, 0, TxnId(0), TxnId(0));
+    let n = party_refusal(space, hints, false, 0, TxnId(0), TxnId(0));
     if n != 0 {
         return n;
     }

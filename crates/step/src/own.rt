@@ -3,6 +3,7 @@
 ghost use mathlib.Core.Path.{_≡_};
 ghost use Prim.Native.Nat.{_<_};
 ghost use Rattle.rules.specs.Numbers.{lastClock};
+ghost use Rattle.rules.specs.Records.{committed, aborted};
 ghost use Rattle.rules.specs.Requests.{frameOf, spaceRefusal};
 ghost use Rattle.rules.specs.Step.{ownPart, commitFrame, abortFrame};
 ghost use Rattle.rules.specs.Tick.{tick};
@@ -10,12 +11,14 @@ ghost use Rattle.rules.specs.Transactions.{create as createFrame};
 ghost use Rattle.rules.specs.Words.{view};
 ghost use Rattle.holds.specs.Sweep.{SameBefore};
 ghost use Rattle.step.specs.Does.{Carries};
+ghost use Rattle.step.specs.Ending.{ended};
 ghost use Rattle.step.specs.Judge.{ReadyFor};
 use crate::look_up::find;
 use crate::write::write;
 use codec::records::plain_record;
 use holds::endings::abort_txn;
 use holds::endings::commit_txn;
+use holds::live::remove_txn;
 use holds::txns::create_txn;
 use rules::Record;
 use rules::Request;
@@ -59,6 +62,23 @@ pub(crate) fn abort(space: &mut Words, party: u8, id: TxnId) -> Own
     let from = abort_txn(space, id);
     let answer = plain_record(KIND_ABORTED, party, id);
     Own { answer, from }
+}
+
+// A transaction that has done nothing ends: no entry changes, and nobody waits inside.
+pub(crate) fn commit_idle(space: &mut Words, party: u8, id: TxnId) -> Record
+    ensures { λ r. ⌜ (view (now (space .exit)) ≡ ended (id .0) (view (now (space .entry))))
+        × (r ≡ committed (frameOf (Request.Commit party id))) ⌝ }
+{
+    remove_txn(space, id);
+    plain_record(KIND_COMMITTED, party, id)
+}
+
+pub(crate) fn abort_idle(space: &mut Words, party: u8, id: TxnId) -> Record
+    ensures { λ r. ⌜ (view (now (space .exit)) ≡ ended (id .0) (view (now (space .entry))))
+        × (r ≡ aborted (frameOf (Request.Abort party id))) ⌝ }
+{
+    remove_txn(space, id);
+    plain_record(KIND_ABORTED, party, id)
 }
 
 // The clock advances; what ends with that, ends where the frame is finished.

@@ -8,8 +8,10 @@ ghost use Rattle.rules.specs.Allowed.{Stepped};
 ghost use Rattle.rules.specs.Numbers.{stepArea};
 ghost use Rattle.rules.specs.Records.{refused};
 ghost use Rattle.rules.specs.Requests.{Decodes};
+ghost use Rattle.rules.specs.Words.{view};
 ghost use Rattle.rules.specs.declared.Decoded.the-variants.{Asks};
 ghost use Rattle.rules.specs.declared.Request.the-variants.{Write, Find, Create, Commit, Abort, Tick};
+ghost use Rattle.hints.specs.Hints.{Reliable};
 ghost use Rattle.step.specs.Does.{Adds};
 use crate::answers::add_record;
 use crate::closing::close_in_vain;
@@ -24,16 +26,21 @@ use crate::judge::tick_refusal;
 use crate::judge::write_refusal;
 use crate::look_up::find;
 use crate::own::abort;
+use crate::own::abort_idle;
 use crate::own::commit;
+use crate::own::commit_idle;
 use crate::own::create;
 use crate::own::tick;
 use crate::write::write;
 use codec::records::refused_record;
+use hints::known::Hints;
+use hints::known::is_idle;
+use hints::known::least_end;
 use rules::FindRequest;
-use rules::Request;
 use rules::TxnId;
 use rules::WriteRequest;
 use words::rows::Words;
+use words::rows::clock;
 
 // What is returned is the count of records, and so much for each of a refusal's number.
 pub(crate) const NUMBER: u64 = 65536;
@@ -52,15 +59,17 @@ pub(crate) fn refuse(answers: &mut [u8], frame: &[u8], n: u8) -> u64
 // Service follows a write outside transactions.
 pub(crate) fn take_write(
     space: &mut Words,
+    hints: &Hints,
     frame: &[u8],
     answers: &mut [u8],
     w: WriteRequest,
 ) -> u64
-    requires { ⌜ Decodes (now frame) (Asks (Write w)) × (stepArea ≤ length (now answers)) ⌝ }
+    requires { ⌜ Decodes (now frame) (Asks (Write w)) × (stepArea ≤ length (now answers))
+        × Reliable (now hints) (view (now space)) ⌝ }
     ensures { λ r. ⌜ Stepped (now (space .entry)) (now (frame .entry)) (now (answers .entry))
         (now (space .exit)) r (now (answers .exit)) ⌝ }
 {
-    let n = write_refusal(space, w);
+    let n = write_refusal(space, hints, w);
     if n != 0 {
         return refuse(answers, frame, n);
     }
@@ -74,12 +83,19 @@ pub(crate) fn take_write(
 }
 
 // A take inside a transaction may be of the transaction's own private entry, for which others wait.
-pub(crate) fn take_find(space: &mut Words, frame: &[u8], answers: &mut [u8], l: FindRequest) -> u64
-    requires { ⌜ Decodes (now frame) (Asks (Find l)) × (stepArea ≤ length (now answers)) ⌝ }
+pub(crate) fn take_find(
+    space: &mut Words,
+    hints: &Hints,
+    frame: &[u8],
+    answers: &mut [u8],
+    l: FindRequest,
+) -> u64
+    requires { ⌜ Decodes (now frame) (Asks (Find l)) × (stepArea ≤ length (now answers))
+        × Reliable (now hints) (view (now space)) ⌝ }
     ensures { λ r. ⌜ Stepped (now (space .entry)) (now (frame .entry)) (now (answers .entry))
         (now (space .exit)) r (now (answers .exit)) ⌝ }
 {
-    let n = find_refusal(space, l);
+    let n = find_refusal(space, hints, l);
     if n != 0 {
         return refuse(answers, frame, n);
     }
@@ -93,16 +109,18 @@ pub(crate) fn take_find(space: &mut Words, frame: &[u8], answers: &mut [u8], l: 
 
 pub(crate) fn take_create(
     space: &mut Words,
+    hints: &Hints,
     frame: &[u8],
     answers: &mut [u8],
     party: u8,
     lease: u32,
 ) -> u64
-    requires { ⌜ Decodes (now frame) (Asks (Create party lease)) × (stepArea ≤ length (now answers)) ⌝ }
+    requires { ⌜ Decodes (now frame) (Asks (Create party lease)) × (stepArea ≤ length (now answers))
+        × Reliable (now hints) (view (now space)) ⌝ }
     ensures { λ r. ⌜ Stepped (now (space .entry)) (now (frame .entry)) (now (answers .entry))
         (now (space .exit)) r (now (answers .exit)) ⌝ }
 {
-    let n = create_refusal(space, party, lease);
+    let n = create_refusal(space, hints, party, lease);
     if n != 0 {
         return refuse(answers, frame, n);
     }
@@ -112,18 +130,24 @@ pub(crate) fn take_create(
 
 pub(crate) fn take_commit(
     space: &mut Words,
+    hints: &Hints,
     frame: &[u8],
     answers: &mut [u8],
     party: u8,
     id: TxnId,
 ) -> u64
-    requires { ⌜ Decodes (now frame) (Asks (Commit party id)) × (stepArea ≤ length (now answers)) ⌝ }
+    requires { ⌜ Decodes (now frame) (Asks (Commit party id)) × (stepArea ≤ length (now answers))
+        × Reliable (now hints) (view (now space)) ⌝ }
     ensures { λ r. ⌜ Stepped (now (space .entry)) (now (frame .entry)) (now (answers .entry))
         (now (space .exit)) r (now (answers .exit)) ⌝ }
 {
-    let n = commit_refusal(space, party, id);
+    let n = commit_refusal(space, hints, party, id);
     if n != 0 {
         return refuse(answers, frame, n);
+    }
+    if is_idle(hints, id) {
+        let answer = commit_idle(space, party, id);
+        return add_record(answers, 0, answer) as u64;
     }
     let own = commit(space, party, id);
     let answer = own.answer;
@@ -133,18 +157,24 @@ pub(crate) fn take_commit(
 
 pub(crate) fn take_abort(
     space: &mut Words,
+    hints: &Hints,
     frame: &[u8],
     answers: &mut [u8],
     party: u8,
     id: TxnId,
 ) -> u64
-    requires { ⌜ Decodes (now frame) (Asks (Abort party id)) × (stepArea ≤ length (now answers)) ⌝ }
+    requires { ⌜ Decodes (now frame) (Asks (Abort party id)) × (stepArea ≤ length (now answers))
+        × Reliable (now hints) (view (now space)) ⌝ }
     ensures { λ r. ⌜ Stepped (now (space .entry)) (now (frame .entry)) (now (answers .entry))
         (now (space .exit)) r (now (answers .exit)) ⌝ }
 {
-    let n = abort_refusal(space, party, id);
+    let n = abort_refusal(space, hints, party, id);
     if n != 0 {
         return refuse(answers, frame, n);
+    }
+    if is_idle(hints, id) {
+        let answer = abort_idle(space, party, id);
+        return add_record(answers, 0, answer) as u64;
     }
     let own = abort(space, party, id);
     let answer = own.answer;
@@ -152,32 +182,25 @@ pub(crate) fn take_abort(
     serve_and_close(space, answers, count, own.from) as u64
 }
 
-pub(crate) fn take_tick(space: &mut Words, frame: &[u8], answers: &mut [u8]) -> u64
-    requires { ⌜ Decodes (now frame) (Asks Tick) × (stepArea ≤ length (now answers)) ⌝ }
+pub(crate) fn take_tick(
+    space: &mut Words,
+    hints: &Hints,
+    frame: &[u8],
+    answers: &mut [u8],
+) -> u64
+    requires { ⌜ Decodes (now frame) (Asks Tick) × (stepArea ≤ length (now answers))
+        × Reliable (now hints) (view (now space)) ⌝ }
     ensures { λ r. ⌜ Stepped (now (space .entry)) (now (frame .entry)) (now (answers .entry))
         (now (space .exit)) r (now (answers .exit)) ⌝ }
 {
-    let n = tick_refusal(space);
+    let n = tick_refusal(space, hints);
     if n != 0 {
         return refuse(answers, frame, n);
     }
     let answer = tick(space);
     let count = add_record(answers, 0, answer);
-    finish_tick(space, answers, count) as u64
-}
-
-// A frame's request, by its kind.
-pub(crate) fn take_up(space: &mut Words, frame: &[u8], answers: &mut [u8], q: Request) -> u64
-    requires { ⌜ Decodes (now frame) (Asks q) × (stepArea ≤ length (now answers)) ⌝ }
-    ensures { λ r. ⌜ Stepped (now (space .entry)) (now (frame .entry)) (now (answers .entry))
-        (now (space .exit)) r (now (answers .exit)) ⌝ }
-{
-    match q {
-        Request::Write(w) => take_write(space, frame, answers, w),
-        Request::Find(l) => take_find(space, frame, answers, l),
-        Request::Create(party, lease) => take_create(space, frame, answers, party, lease),
-        Request::Commit(party, id) => take_commit(space, frame, answers, party, id),
-        Request::Abort(party, id) => take_abort(space, frame, answers, party, id),
-        Request::Tick => take_tick(space, frame, answers),
+    if clock(space) < least_end(hints) {
+        return count as u64;
     }
+    finish_tick(space, answers, count) as u64
 }

@@ -18,12 +18,14 @@ use Rattle.rules.proofs.AreaLaws.{area-length, area-then}
 use Rattle.rules.proofs.Capacity.{step-fits}
 use Rattle.sound.proofs.SoundProof.{sound-empty, sound-step}
 use Rattle.rules.proofs.ViewLaws.{view-bounded}
+use Rattle.hints.specs.Hints.{Reliable}
+use Rattle.step.specs.Does.{StaysReliable}
 use Rattle.tray.proofs.RunLaws.{Ran, ran-none, ran-more, ran-all, ran-stops}
 use Rattle.tray.specs.Pairs.{pairAt}
 use Rattle.tray.proofs.PairLaws.{framesOf, frames-length, frame-is}
 
--- k frames are done: n records stand in the area, and the space's words are ws
-pub record Running (tray a₀ ws a : List ℕ) (k n : ℕ) : Type 0 where
+-- k frames are done: n records stand in the area, the space's words are ws, and the hints hs are so
+pub record Running (tray a₀ ws hs a : List ℕ) (k n : ℕ) : Type 0 where
   pub records : List Record
   pub ran : Ran (take k (framesOf tray)) (length a₀) (view ws) records
   pub counts : n ≡ length records
@@ -31,10 +33,11 @@ pub record Running (tray a₀ ws a : List ℕ) (k n : ℕ) : Type 0 where
   pub room : recordSize * n ≤ length a₀
   pub few : n ≤ stepRecords * k
   pub sound : Sound (view ws)
+  pub reliable : Reliable hs (view ws)
 
-pub running-none : {tray a ws : List ℕ} → view ws ≡ empty → Running tray a ws a 0 0
+pub running-none : {tray a ws hs : List ℕ} → view ws ≡ empty → Reliable hs empty → Running tray a ws hs a 0 0
 unfolding areaAfter answerBytes
-running-none {a = a} e =
+running-none {a = a} {hs = hs} e h =
     record {
       records = [];
       ran = subst⁻¹ (λ m. Ran [] (length a) m []) e (ran-none (length a));
@@ -43,18 +46,20 @@ running-none {a = a} e =
       room = omega arith;
       few = omega arith;
       sound = subst⁻¹ Sound e sound-empty;
+      reliable = subst⁻¹ (Reliable hs) e h;
     }
 
-pub running-length : {tray a₀ ws a : List ℕ} {k n : ℕ} → Running tray a₀ ws a k n → length a ≡ length a₀
+pub running-length : {tray a₀ ws hs a : List ℕ} {k n : ℕ} → Running tray a₀ ws hs a k n → length a ≡ length a₀
 running-length {a₀ = a₀} r =
     ap length (r .area) ∙ area-length (r .records) a₀ (omega (arith, r .room, r .counts))
 
 -- one frame more, run in the part of the area behind the records
-pub running-more : {tray a₀ ws a ws′ a′ frame part part′ : List ℕ} {k n returned : ℕ} → Running tray a₀ ws a k n
+pub running-more : {tray a₀ ws hs a ws′ hs′ a′ frame part part′ : List ℕ} {k n returned : ℕ}
+    → Running tray a₀ ws hs a k n
     → k < frameCount tray → recordSize * n + stepArea ≤ length a₀ → frame ≡ frameAt tray (pairAt tray k)
-    → part ≡ drop (recordSize * n) a → Stepped ws frame part ws′ returned part′ → a′ ≡ take (recordSize * n) a ++ part′
-    → Running tray a₀ ws′ a′ (k + 1) (n + returned % 65536)
-running-more {tray} {a₀} {ws} {a} {ws′} {frame = frame} {part} {k = k} {n} {returned} r h room q p s e =
+    → part ≡ drop (recordSize * n) a → Stepped ws frame part ws′ returned part′ → StaysReliable ws ws′ hs′
+    → a′ ≡ take (recordSize * n) a ++ part′ → Running tray a₀ ws′ hs′ a′ (k + 1) (n + returned % 65536)
+running-more {tray} {a₀} {ws} {a = a} {ws′} {frame = frame} {part} {k = k} {n} {returned} r h room q p s known e =
     record {
       records = rs ++ x .records;
       ran = subst⁻¹ (λ l. Ran l (length a₀) (view ws′) (rs ++ x .records)) frames
@@ -73,6 +78,7 @@ running-more {tray} {a₀} {ws} {a} {ws′} {frame = frame} {part} {k = k} {n} {
       room = omega (arith, count, few);
       few = omega (arith, count, few, r .few);
       sound = subst⁻¹ Sound space (sound-step (view ws) frame (length part) (r .sound));
+      reliable = known (r .sound);
     }
   where
     rs : List Record
@@ -129,7 +135,7 @@ running-more {tray} {a₀} {ws} {a} {ws′} {frame = frame} {part} {k = k} {n} {
         next = omega arith
 
 -- the run is over: all frames are done
-pub running-all : {tray a₀ ws a : List ℕ} {n : ℕ} (r : Running tray a₀ ws a (frameCount tray) n)
+pub running-all : {tray a₀ ws hs a : List ℕ} {n : ℕ} (r : Running tray a₀ ws hs a (frameCount tray) n)
     → runFrames empty (length a₀) (framesOf tray)
     ≡ record { frames = frameCount tray; records = r .records; number = 0 }
 running-all {tray} {a₀} {ws} r =
@@ -141,7 +147,7 @@ running-all {tray} {a₀} {ws} r =
     whole = take-all (frameCount tray) (framesOf tray) (omega (arith, frames-length tray))
 
 -- it stops before a frame for which under 700 bytes are left
-pub running-stops : {tray a₀ ws a : List ℕ} {k n : ℕ} (r : Running tray a₀ ws a k n)
+pub running-stops : {tray a₀ ws hs a : List ℕ} {k n : ℕ} (r : Running tray a₀ ws hs a k n)
     → k < frameCount tray → length a₀ < recordSize * n + stepArea
     → runFrames empty (length a₀) (framesOf tray)
     ≡ record { frames = k; records = r .records; number = areaRefused }

@@ -70,12 +70,12 @@ module _ (tray : List ℕ) (fine : trayRefusal tray ≡ 0) where
   unfolding runTray runPairs
   runs size = ap (λ n. cond (leb n 0) (runPairs tray size) (stopped n)) fine
 
-  module _ {a₀ ws a : List ℕ} {k n returned : ℕ} (r : Running tray a₀ ws a k n) where
+  module _ {a₀ ws hs a : List ℕ} {k n returned : ℕ} (r : Running tray a₀ ws hs a k n) where
     -- all frames are done
     pub tray-done : k ≡ frameCount tray → returned ≡ k + 65536 * n + 4294967296 * 0 → TrayRan tray a₀ returned a
     unfolding hostNumber
     tray-done e q =
-        let whole : Running tray a₀ ws a (frameCount tray) n = rw e at r in
+        let whole : Running tray a₀ ws hs a (frameCount tray) n = rw e at r in
         ran-to tray a₀ a returned (record { frames = frameCount tray; records = whole .records; number = 0 })
         (runs (length a₀) ∙ running-all whole) (omega (arith, q, e, whole .counts)) (whole .area)
 

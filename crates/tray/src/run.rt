@@ -7,10 +7,12 @@ ghost use Rattle.rules.specs.Tray.{trayRefusal};
 use crate::pairs::pair_at;
 use crate::pairs::pair_count;
 use crate::pairs::refusal;
+use hints::known::HINTS;
+use hints::known::know_empty;
 use rules::numbers::AREA_REFUSED;
 use rules::numbers::RECORD_SIZE;
 use rules::numbers::STEP_AREA;
-use step::step_frame;
+use step::step_hinted;
 use words::rows::WORDS;
 use words::rows::set_empty;
 
@@ -22,7 +24,8 @@ fn packed(frames: u32, records: usize, number: u8) -> u64
     frames as u64 + 65536 * records as u64 + 4294967296 * number as u64
 }
 
-// Hands a tray's frames to an empty space, one after another.
+// Hands a tray's frames to an empty space, one after another. What is known of the space is known from the first frame
+// on.
 fn run_frames(tray: &[u8], answers: &mut [u8]) -> u64
     requires { ⌜ trayRefusal (now tray) ≡ 0 ⌝ }
     ensures { λ r. ⌜ TrayRan (now (tray .entry)) (now (answers .entry)) r (now (answers .exit)) ⌝ }
@@ -30,6 +33,8 @@ fn run_frames(tray: &[u8], answers: &mut [u8]) -> u64
     let count = pair_count(tray);
     let mut space = [0u32; WORDS];
     set_empty(&mut space);
+    let mut hints = [0u32; HINTS];
+    know_empty(&mut hints);
     let mut frames: u32 = 0;
     let mut records: usize = 0;
     while frames < count {
@@ -40,7 +45,7 @@ fn run_frames(tray: &[u8], answers: &mut [u8]) -> u64
         let pair = pair_at(tray, frames);
         let offset = pair.offset;
         let end = pair.end;
-        let answer = step_frame(&mut space, &tray[offset..end], &mut answers[at..]);
+        let answer = step_hinted(&mut space, &mut hints, &tray[offset..end], &mut answers[at..]);
         records += (answer % 65536) as usize;
         frames += 1;
     }

@@ -1,7 +1,9 @@
 -- `step::step::take_tick` meets its contract. Assumes nothing.
 use mathlib.Core.Path.{refl, sym, _∙_}
+use native.Mathlib.Omega.{arith}
 use borrow.Author.Needs.{needs}
 use Rattle.rules.specs.Step.{ownPart}
+use Rattle.step.proofs.IdleStepped.{stepped-tick}
 use Rattle.step.proofs.KindLaws.{tick-ends}
 use Rattle.step.proofs.PassedLaws.{tick-clock}
 use Rattle.step.proofs.SteppedLaws.{stepped-judged, stepped-done}
@@ -19,9 +21,20 @@ tick-requires : tie.Need-tick-requires
 tick-requires c κs = tick-clock _ (sym (c .before .before .tick-refusal .ensures) ∙ c .before .if1 .left)
 
 returns-2 : tie.Need-returns-2
-unfolding ownPart
 returns-2 c =
-    let own = c .before .before .before .before .before .before .before in
+    let now = c .before .before in
+    let own = now .before .before .before .before in
+    let carried = own .before .before in
+    let test = carried .before .before in
+    let start = test .before .before .before .before .before in
+    stepped-tick (start .args .space .now) (start .args .answers .now) (start .pre .1) (start .pre .2) (start .pre .0)
+    (sym (test .before .tick-refusal .ensures) ∙ test .if1 .left) (carried .tick .ensures)
+    (omega (arith, c .if2 .taken, now .clock .ensures, c .before .least-end .ensures)) (own .add-record .ensures)
+
+returns-3 : tie.Need-returns-3
+unfolding ownPart
+returns-3 c =
+    let own = c .before .before .before .before .before .before .before .before .before .before .before in
     let carried = own .before .before in
     let test = carried .before .before in
     let start = test .before .before .before .before .before in
@@ -33,4 +46,5 @@ take-tick-spec =
     tie.close
     (tie.spec
     (λ c κs. search needs) (λ c κs. search needs) (λ c. search needs) returns tick-requires (λ c κs. search needs)
-    (λ c κs. search needs) (λ c. search needs) returns-2)
+    (λ c κs. search needs) (λ c κs. search needs) (λ c. search needs) returns-2 (λ c κs. search needs) (λ c. search needs)
+    returns-3)

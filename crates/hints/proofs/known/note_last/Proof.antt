@@ -1,0 +1,35 @@
+-- `hints::known::note_last` meets its contract. Assumes nothing.
+use mathlib.Core.Path.{sym, ap, _∙_, subst⁻¹}
+use native.Mathlib.Omega.{arith}
+use borrow.Author.Needs.{needs}
+use Rattle.rules.specs.declared.LookUp.{LookUp}
+use Rattle.words.specs.Rows.{waitRow}
+use Rattle.words.proofs.Tables.{waits-read}
+use Rattle.hints.specs.Hints.{least, NotBefore, Flagged}
+use Rattle.hints.proofs.HintLaws.{weaker-same, weaker-then, sooner-still, row-last}
+use Rattle.hints.proofs.known.note_last.Statement.{statement}
+use Rattle.hints.proofs.known.note_last.Tie as tie
+
+returns : tie.Need-returns
+returns c = (weaker-same, λ vs w e.
+    let r = row-last (waits-read (c .before .before .args .space .now)) vs w e in
+    absurd (omega (arith, r .0, c .if1 .taken, c .before .wait-count .ensures)))
+
+returns-2 : tie.Need-returns-2
+returns-2 c =
+    let f = c .flag-party .ensures in
+    let l = c .before .before .lower .ensures in
+    let s = c .before .before .before .sooner .ensures in
+    let at = c .before .before .before .before .before in
+    let start = at .before .before .before in
+    (weaker-then (l .0) (f .0), λ vs w e.
+    let r = row-last (waits-read (start .args .space .now)) vs w e in
+    let q = r .1 ∙ ap (waitRow (start .args .space .now)) (omega (arith, at .before .before .wait-count .ensures)) ∙ sym (at .wait-at .ensures) in
+    subst⁻¹ (λ (v : LookUp). NotBefore (least (c .flag-party .last .0)) (v .deadline) × Flagged (c .flag-party .last .0) v) q
+    (sooner-still _ (omega (arith, f .2, l .1)) (s .1), f .1))
+
+pub note-last-spec : {M : Type 1} → statement M
+note-last-spec =
+    tie.close
+    (tie.spec (λ c κs. search needs) returns (λ c. search needs) (λ c κs. search needs) (λ c κs. search needs)
+    (λ c κs. search needs) (λ c κs. search needs) returns-2)

@@ -1,0 +1,42 @@
+-- `hints::renew::txns_end` meets its contract. The loop's invariant: no row passed ends before the tick. Assumes nothing.
+use Prim.Native.Nat.{_≤_, _-_}
+use native.Mathlib.Omega.{arith}
+use Rattle.rules.specs.declared.Txn.{Txn}
+use Rattle.words.specs.Rows.{txnRow}
+use Rattle.words.proofs.Tables.{txns-read}
+use Rattle.hints.specs.Hints.{NotBefore}
+use Rattle.hints.proofs.HintLaws.{Passed, passed-none, passed-more, passed-all, sooner-still}
+use Rattle.hints.proofs.renew.txns_end.Statement.{statement}
+use Rattle.hints.proofs.renew.txns_end.Tie as tie
+
+abbrev Inv-loop : tie.InvT-loop
+Inv-loop space tick n least₀ i₀ least i =
+    (i ≤ n) × (least ≤ tick) × Passed (λ (t : Txn). NotBefore least (t .end)) (txnRow space) i
+
+abbrev μ-loop : tie.MeasureT-loop
+μ-loop space tick n least₀ i₀ least i = n - i
+
+loop-holds : tie.Need-loop-holds Inv-loop μ-loop
+loop-holds c = (omega arith, omega arith, passed-none)
+
+loop-again : tie.Need-loop-again Inv-loop μ-loop
+loop-again c =
+    let i = c .before .before .before .loop .inv in
+    let s = c .sooner .ensures in
+    let more = passed-more (i .2) (λ y p. sooner-still _ (s .0) p) (c .before .txn-at .ensures) (s .1) in
+    (omega arith, omega (arith, s .0, i .1), more)
+
+returns : tie.Need-returns Inv-loop μ-loop
+returns c =
+    let i = c .before .loop .inv in
+    let all =
+    passed-all (txns-read (c .before .before .before .args .space .now)) (i .2)
+    (λ l. omega (arith, l, c .loop-test .left, c .before .before .txn-count .ensures .0)) in
+    (i .1, all)
+
+pub txns-end-spec : {M : Type 1} → statement M
+txns-end-spec =
+    tie.close
+    (tie.spec
+    Inv-loop μ-loop (λ c κs. tt) loop-holds (λ c κs. omega arith) (λ c κs. tt) (λ c. omega arith) (λ c. omega arith)
+    loop-again returns)

@@ -1,0 +1,2 @@
+-- What is known of a space beside its words.
+pub mod Hints

@@ -1,0 +1,103 @@
+// Hints made anew, by a look at every row.
+ghost use mathlib.Core.Path.{_≡_};
+ghost use Prim.Native.Nat.{_≤_};
+ghost use Rattle.rules.specs.Lists.{All};
+ghost use Rattle.rules.specs.Words.{view};
+ghost use Rattle.hints.specs.Hints.{least, acted, NotBefore, EndsFrom, Flagged, Anew, Renewed};
+use crate::known::Hints;
+use crate::known::flag_party;
+use crate::known::least_end;
+use crate::known::set_least;
+use crate::known::sooner;
+use rules::numbers::FOREVER;
+use words::rows::Words;
+use words::rows::clock;
+use words::rows::entry_at;
+use words::rows::entry_count;
+use words::rows::txn_at;
+use words::rows::txn_count;
+use words::rows::wait_at;
+use words::rows::wait_count;
+
+// The least end of all entries' leases.
+pub(crate) fn entries_end(space: &Words) -> u32
+    ensures { λ r. ⌜ All (λ e. NotBefore r (e .end)) (view (now (space .entry)) .entries) ⌝ }
+{
+    let n = entry_count(space);
+    let mut least = FOREVER;
+    let mut i: usize = 0;
+    while i < n {
+        let e = entry_at(space, i);
+        let end = e.end;
+        least = sooner(least, end);
+        i += 1;
+    }
+    least
+}
+
+// The least of a tick and of all transactions' leases.
+pub(crate) fn txns_end(space: &Words, tick: u32) -> u32
+    ensures { λ r. ⌜ (r ≤ tick) × All (λ t. NotBefore r (t .end)) (view (now (space .entry)) .txns) ⌝ }
+{
+    let n = txn_count(space);
+    let mut least = tick;
+    let mut i: usize = 0;
+    while i < n {
+        let t = txn_at(space, i);
+        let end = t.end;
+        least = sooner(least, end);
+        i += 1;
+    }
+    least
+}
+
+// The least of a tick and of all deadlines.
+pub(crate) fn waits_end(space: &Words, tick: u32) -> u32
+    ensures { λ r. ⌜ (r ≤ tick) × All (λ w. NotBefore r (w .deadline)) (view (now (space .entry)) .waits) ⌝ }
+{
+    let n = wait_count(space);
+    let mut least = tick;
+    let mut i: usize = 0;
+    while i < n {
+        let w = wait_at(space, i);
+        let end = w.deadline;
+        least = sooner(least, end);
+        i += 1;
+    }
+    least
+}
+
+// A flag for everyone who waits.
+pub(crate) fn flag_waiting(space: &Words, hints: &mut Hints)
+    ensures { λ _. ⌜ All (Flagged (now (hints .exit))) (view (now (space .entry)) .waits)
+        × (least (now (hints .exit)) ≡ least (now (hints .entry)))
+        × (acted (now (hints .exit)) ≡ acted (now (hints .entry))) ⌝ }
+{
+    let n = wait_count(space);
+    let mut i: usize = 0;
+    while i < n {
+        let w = wait_at(space, i);
+        flag_party(hints, w.party);
+        i += 1;
+    }
+}
+
+// Ends and flags as they are now.
+pub(crate) fn renew(space: &Words, hints: &mut Hints)
+    ensures { λ _. ⌜ Anew (now (hints .entry)) (view (now (space .entry))) (now (hints .exit)) ⌝ }
+{
+    let a = entries_end(space);
+    let b = txns_end(space, a);
+    let c = waits_end(space, b);
+    set_least(hints, c);
+    flag_waiting(space, hints);
+}
+
+// They are made anew once the clock has reached their tick.
+pub fn renew_reached(space: &Words, hints: &mut Hints)
+    ensures { λ _. ⌜ Renewed (now (hints .entry)) (view (now (space .entry))) (now (hints .exit)) ⌝ }
+{
+    if least_end(hints) <= clock(space) {
+        renew(space, hints);
+    }
+}
