@@ -1,6 +1,6 @@
 -- What the decoder answers: the refusal, or the request that a frame in order stands for.
 use Prim.Native.Nat.{ℕ, _≤_, _<_}
-use mathlib.Core.Bool.{Bool, true, false, not, _&&_, _||_, or-true, and-false}
+use mathlib.Core.Bool.{true, false, not, _&&_, _||_, or-true, and-false}
 use mathlib.Core.Logic.{_⊎_, inl, inr}
 use mathlib.Core.Option.{some}
 use mathlib.Core.Path.{_≡_, refl, sym, ap, _∙_}
@@ -16,7 +16,6 @@ use Rattle.rules.specs.declared.Decoded.the-variants.{Asks, Refused}
 use Rattle.rules.specs.Frame.{Frame, decode, byteAt, numberAt, fieldsAt, layoutOf, frameLength, hasTemplate, namesNoTxn}
 use Rattle.rules.specs.Frame.{layouts, isOperation, isTake, isIfExists}
 use Rattle.rules.specs.Refusals.{formRows, noOperation, wrongLength, badTemplate, malformed, wrongParty}
-use Rattle.rules.specs.Records.{noFields}
 use Rattle.rules.specs.Requests.{plainFrame, frameOf, formRefusal, Decodes}
 use Rattle.rules.proofs.BoolLaws.{or-left, or-right, and-false-right}
 use Rattle.rules.proofs.LayoutLaws.{lookUp-op}

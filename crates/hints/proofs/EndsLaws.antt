@@ -1,10 +1,10 @@
 -- What ends after a step ended before, or is new; and who waits waited before, or stands last.
 use Prim.Native.Nat.{ℕ}
-use mathlib.Core.Bool.{Bool, true, false, not, cond, true≢false}
+use mathlib.Core.Bool.{Bool, true, false, cond, true≢false}
 use mathlib.Core.Logic.{_⊎_, inl, inr, ⊎-elim}
 use mathlib.Core.Option.{Option, none, some}
-use mathlib.Core.Path.{_≡_, refl, sym, ap, _∙_, subst, subst⁻¹}
-use mathlib.Core.List.{List, [], _∷_, _++_, List·Memᴰ, List·Memᴰ·append-cases, List·Memᴰ·eq-of-singleton}
+use mathlib.Core.Path.{_≡_, refl, sym, ap, _∙_, subst⁻¹}
+use mathlib.Core.List.{List, [], _∷_, _++_, List·Memᴰ·append-cases, List·Memᴰ·eq-of-singleton}
 use borrow.Author.Tests.{ne-eqb}
 use Rattle.rules.specs.declared.Entry.{Entry}
 use Rattle.rules.specs.declared.LookUp.{LookUp}
@@ -14,10 +14,10 @@ use Rattle.rules.specs.Time.{until}
 use Rattle.rules.specs.State.{Model}
 use Rattle.rules.specs.Holds.{oldest}
 use Rattle.rules.specs.Frame.{Frame, decode, isWrite, isLookUp, isCreate, isTick}
-use Rattle.rules.specs.Done.{Carried, Done, after}
+use Rattle.rules.specs.Done.{Carried, Done}
 use Rattle.rules.specs.Write.{newEntry}
 use Rattle.rules.specs.LookUp.{lookUpOf, givesNothing, answer, answerFound, answerNothing, answerWaiting, lookUp}
-use Rattle.rules.specs.Closing.{isOver, closeWaits}
+use Rattle.rules.specs.Closing.{closeWaits}
 use Rattle.rules.specs.Step.{Outcome, step, carriedOut, accepted, refusedWith}
 use Rattle.rules.specs.Refusals.{refusal}
 use Rattle.rules.specs.Sound.{Consistent, Sound}
@@ -27,7 +27,7 @@ use Rattle.rules.proofs.ListLaws.{mem-filter, filter-append}
 use Rattle.sound.proofs.HoldLaws.{equal-or}
 use Rattle.sound.proofs.OwnPartLaws.{carried-lookUp, step-accepted}
 use Rattle.sound.proofs.Events.{Heard, Event, Events, over, then, heard}
-use Rattle.sound.proofs.Becomes.{newTxn, kept-all, waits-all, txns-all, clock-moves}
+use Rattle.sound.proofs.Becomes.{kept-all, waits-all, txns-all, clock-moves}
 use Rattle.sound.proofs.ConsistentProof.{consistent-event}
 use Rattle.sound.proofs.EventsProof.{step-events}
 
@@ -74,10 +74,10 @@ module _ (W : LookUp → Type 0) where
   of-left : (p : LookUp → Bool) (xs : List LookUp) (l : LookUp) → All W xs
       → ((vs : List LookUp) (w : LookUp) → filterb p (xs ++ (l ∷ [])) ≡ vs ++ (w ∷ []) → W w)
       → All W (filterb p (xs ++ (l ∷ [])))
-  of-left p xs l h last w i = 
+  of-left p xs l h last w i =
       let r = mem-filter p (xs ++ (l ∷ [])) i in
       ⊎-elim (h w) (λ j. let q = List·Memᴰ·eq-of-singleton j in
-      last (filterb p xs) w (filter-append p xs (l ∷ []) ∙ ap (λ ys. filterb p xs ++ ys) 
+      last (filterb p xs) w (filter-append p xs (l ∷ []) ∙ ap (λ ys. filterb p xs ++ ys)
       (ap (λ b. cond b (l ∷ []) []) (sym (ap p q) ∙ r .1) ∙ ap (λ y. y ∷ []) (sym q)))) (List·Memᴰ·append-cases xs (r .0))
 
   after-lookUp : (m : Model) (f : Frame) (o : Option Entry) → All W (m .waits)

@@ -1,6 +1,5 @@
 -- A hint written, and what is then said.
 use Prim.Native.Nat.{ℕ, zero, suc, _+_, _-_, _%_, _≤_, _<_}
-use mathlib.Core.Bool.{false}
 use mathlib.Core.Logic.{⊎-elim}
 use mathlib.Core.Path.{_≡_, refl, sym, ap, _∙_, subst, subst⁻¹}
 use mathlib.Core.List.{List, [], _∷_, _++_}
@@ -15,7 +14,7 @@ use Rattle.rules.specs.declared.Until.the-variants.{Tick, Forever}
 use Rattle.rules.specs.Lists.{All}
 use Rattle.rules.specs.Numbers.{forever}
 use Rattle.rules.specs.Time.{until, reached}
-use Rattle.rules.specs.Words.{upTo}
+use Rattle.rules.specs.Words.{untilWord, upTo}
 use Rattle.rules.proofs.BoolLaws.{cond-cases}
 use Rattle.words.proofs.SearchLaws.{Rows}
 use Rattle.sound.proofs.AllLaws.{all-none, all-snoc}
@@ -41,6 +40,10 @@ tick-not-before n t h c l = lt-leb t c (omega arith)
 pub never-before : (n : ℕ) → NotBefore n Forever
 unfolding reached
 never-before n c l = refl
+
+pub word-not-before : {n : ℕ} (end : Until) → n ≤ untilWord end → NotBefore n end
+word-not-before {n} (Tick t) h = tick-not-before n t h
+word-not-before {n} Forever h = never-before n
 
 -- nor is the end of a lease, before the lease is over
 pub until-not-before : (n clock lease : ℕ) → n ≤ clock + lease → NotBefore n (until clock lease)

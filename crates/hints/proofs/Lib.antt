@@ -3,4 +3,3 @@ pub mod HintLaws
 pub mod IdleLaws
 pub mod EndsLaws
 pub mod ReliableLaws
-

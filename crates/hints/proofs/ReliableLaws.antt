@@ -1,5 +1,5 @@
 -- Hints stay reliable through a step, if they follow what it brings.
-use Prim.Native.Nat.{ℕ, _≤_, _<_}
+use Prim.Native.Nat.{ℕ}
 use mathlib.Core.Bool.{true}
 use mathlib.Core.Logic.{inl, inr}
 use mathlib.Core.Path.{_≡_, subst⁻¹}
@@ -10,8 +10,7 @@ use Rattle.rules.specs.State.{Model}
 use Rattle.rules.specs.Frame.{Frame, decode, isWrite, isLookUp, isCreate}
 use Rattle.rules.specs.Step.{step}
 use Rattle.rules.specs.Sound.{Sound}
-use Rattle.hints.specs.Hints.{least, acted, NotBefore, Flagged, Weaker, Knows, IdleAbove}
-use Rattle.hints.specs.Hints.{Reliable, Renewed}
+use Rattle.hints.specs.Hints.{least, acted, NotBefore, Flagged, Weaker, Knows, IdleAbove, Reliable, Renewed}
 use Rattle.hints.proofs.EndsLaws.{entries-end, txns-end, waits-last}
 use Rattle.hints.proofs.IdleLaws.{ActsUpTo, idle-step}
 

@@ -1,21 +1,19 @@
 // Hints: asked, and kept as frames bring new leases, look-ups and transactions. They may say less than is so, never more.
 ghost use mathlib.Core.Bool.{true, false};
-ghost use mathlib.Core.List.{[], _∷_, _++_};
 ghost use mathlib.Core.Path.{_≡_};
 ghost use Prim.Native.Nat.{_≤_, _<_};
-ghost use lib.ListN.{length, set};
+ghost use lib.ListN.{length};
 ghost use Rattle.rules.specs.Numbers.{forever};
 ghost use Rattle.rules.specs.State.{empty};
 ghost use Rattle.rules.specs.Time.{until};
 ghost use Rattle.rules.specs.Words.{view};
-ghost use Rattle.hints.specs.Hints.{leastAt, least, acted, flag, hintWords};
-ghost use Rattle.hints.specs.Hints.{NotBefore, Flagged, Reliable, Weaker, Knows};
+ghost use Rattle.hints.specs.Hints.{hintWords, least, acted, flag, NotBefore, Weaker, Knows, Reliable};
 use rules::TxnId;
-use rules::Until;
 use rules::numbers::FOREVER;
 use words::rows::Words;
 use words::rows::wait_at;
 use words::rows::wait_count;
+use words::rows::wait_end;
 
 pub const HINTS: usize = FLAGS_AT + FLAGS;
 
@@ -74,14 +72,10 @@ pub fn may_wait(hints: &Hints, party: u8) -> bool
     hints[FLAGS_AT + party as usize % FLAGS] != 0
 }
 
-// The sooner of a tick and an end.
-pub(crate) fn sooner(tick: u32, end: Until) -> u32
-    ensures { λ r. ⌜ (r ≤ tick) × NotBefore r end ⌝ }
+pub(crate) fn sooner(a: u32, b: u32) -> u32
+    ensures { λ r. ⌜ (r ≤ a) × (r ≤ b) ⌝ }
 {
-    match end {
-        Until::Tick(t) => if t < tick { t } else { tick },
-        Until::Forever => tick,
-    }
+    if b < a { b } else { a }
 }
 
 // Something new ends at the tick, or later.
@@ -162,8 +156,8 @@ pub fn note_last(space: &Words, hints: &mut Hints)
     if n == 0 {
         return;
     }
-    let w = wait_at(space, n - 1);
-    let deadline = w.deadline;
-    lower(hints, sooner(FOREVER, deadline));
+    let i = n - 1;
+    let w = wait_at(space, i);
+    lower(hints, wait_end(space, i));
     flag_party(hints, w.party);
 }

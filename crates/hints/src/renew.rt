@@ -3,7 +3,7 @@ ghost use mathlib.Core.Path.{_≡_};
 ghost use Prim.Native.Nat.{_≤_};
 ghost use Rattle.rules.specs.Lists.{All};
 ghost use Rattle.rules.specs.Words.{view};
-ghost use Rattle.hints.specs.Hints.{least, acted, NotBefore, EndsFrom, Flagged, Anew, Renewed};
+ghost use Rattle.hints.specs.Hints.{least, acted, NotBefore, Flagged, Anew, Renewed};
 use crate::known::Hints;
 use crate::known::flag_party;
 use crate::known::least_end;
@@ -12,12 +12,13 @@ use crate::known::sooner;
 use rules::numbers::FOREVER;
 use words::rows::Words;
 use words::rows::clock;
-use words::rows::entry_at;
 use words::rows::entry_count;
-use words::rows::txn_at;
+use words::rows::entry_end;
 use words::rows::txn_count;
+use words::rows::txn_end;
 use words::rows::wait_at;
 use words::rows::wait_count;
+use words::rows::wait_end;
 
 // The least end of all entries' leases.
 pub(crate) fn entries_end(space: &Words) -> u32
@@ -27,9 +28,7 @@ pub(crate) fn entries_end(space: &Words) -> u32
     let mut least = FOREVER;
     let mut i: usize = 0;
     while i < n {
-        let e = entry_at(space, i);
-        let end = e.end;
-        least = sooner(least, end);
+        least = sooner(least, entry_end(space, i));
         i += 1;
     }
     least
@@ -43,9 +42,7 @@ pub(crate) fn txns_end(space: &Words, tick: u32) -> u32
     let mut least = tick;
     let mut i: usize = 0;
     while i < n {
-        let t = txn_at(space, i);
-        let end = t.end;
-        least = sooner(least, end);
+        least = sooner(least, txn_end(space, i));
         i += 1;
     }
     least
@@ -59,9 +56,7 @@ pub(crate) fn waits_end(space: &Words, tick: u32) -> u32
     let mut least = tick;
     let mut i: usize = 0;
     while i < n {
-        let w = wait_at(space, i);
-        let end = w.deadline;
-        least = sooner(least, end);
+        least = sooner(least, wait_end(space, i));
         i += 1;
     }
     least

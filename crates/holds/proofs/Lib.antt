@@ -4,3 +4,4 @@ pub mod FindLaws
 pub mod HandLaws
 pub mod ConflictLaws
 pub mod SweepLaws
+pub mod SlotLaws

@@ -1,6 +1,6 @@
 -- A pass over the entries, row by row.
 use Prim.Native.Nat.{ℕ, zero, suc, _+_, _≤_, _<_}
-use mathlib.Core.Bool.{Bool, true, false, cond, not}
+use mathlib.Core.Bool.{true, false, cond, not}
 use mathlib.Core.Logic.{⊎-elim}
 use mathlib.Core.Path.{_≡_, refl, sym, ap, ap₂, _∙_, subst}
 use mathlib.Core.List.{List, [], _∷_, _++_, map, map-append}
@@ -10,27 +10,26 @@ use lib.Dec.{eqb}
 use lib.ListN.{length, set, take, drop, take-append-drop}
 use lib.Seq.{take-all, take-append-le}
 use Rattle.rules.specs.declared.Entry.{Entry}
-use Rattle.rules.specs.declared.EntryId.{EntryId}
 use Rattle.rules.specs.declared.TxnId.{TxnId}
-use Rattle.rules.proofs.BoolLaws.{cond-cases}
 use Rattle.rules.specs.Template.{bit}
 use Rattle.rules.specs.Holds.{dropReader}
 use Rattle.rules.specs.Transactions.{privateTo, takenBy}
-use Rattle.holds.specs.declared.sweep.Sweep.{Sweep}
-use Rattle.holds.specs.declared.sweep.Sweep.the-variants.{Expire, Commit, Abort}
 use Rattle.rules.specs.Lists.{filterb}
-use Rattle.rules.proofs.ListLaws.{filter-append}
-use Rattle.rules.specs.Words.{upTo, row, entryOf, entryWords, entryCount, entryCountAt, entries, view}
+use Rattle.rules.specs.Words.{upTo, row, entryOf, entryWords, entryCount, entryCountAt, entries, view, entriesAt}
+use Rattle.rules.specs.Words.{entryWidth, spaceWords}
 use Rattle.rules.specs.Numbers.{maxEntries}
 use Rattle.rules.specs.State.{holding}
+use Rattle.rules.proofs.BoolLaws.{cond-cases}
+use Rattle.rules.proofs.ListLaws.{filter-append}
+use Rattle.holds.specs.declared.sweep.Sweep.{Sweep}
+use Rattle.holds.specs.declared.sweep.Sweep.the-variants.{Expire, Commit, Abort}
 use Rattle.words.specs.Rows.{entryRow, byteValues}
 use Rattle.holds.specs.Live.{noSlot}
-use Rattle.holds.specs.Sweep.{dropAt, releasedAt, keeps, changes, KeptAt, Still}
-use Rattle.holds.specs.Sweep.{FreeBefore, swept, sweepModel, SameBefore}
+use Rattle.holds.specs.Sweep.{dropAt, releasedAt, keeps, changes, KeptAt, Still, FreeBefore, swept, sweepModel}
+use Rattle.holds.specs.Sweep.{SameBefore}
 use Rattle.words.proofs.UpToLaws.{length-upTo, take-upTo}
 use Rattle.words.proofs.CompactLaws.{Compacting, compact-start, compact-same, compact-put, compact-done}
 use Rattle.words.proofs.Tables.{entryTable, view-entries, Storable, held-fits, entry-back}
-use Rattle.rules.specs.Words.{entriesAt, entryWidth, spaceWords}
 
 -- a change leaves all but the holders, so the row can hold it
 abbrev asHeld : Entry → Entry → Entry

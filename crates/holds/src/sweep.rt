@@ -10,6 +10,7 @@ ghost use mathlib.Core.Bool.{true, cond};
 ghost use lib.Dec.{eqb};
 ghost use Rattle.rules.specs.Transactions.{noTxn};
 ghost use Rattle.holds.specs.Sweep.{releasedAt, keeps, changes, slotIn};
+ghost use Rattle.holds.specs.declared.sweep.Sweep.the-variants.{Expire};
 ghost use Rattle.holds.specs.Sweep.{KeptAt, FreeOf, FreeBefore, Still, sweepModel, SameBefore};
 use crate::holds::drop_reader;
 use crate::holds::has_bit;
@@ -139,13 +140,30 @@ pub(crate) fn first_held(space: &Words, t: TxnId, p: u8, count: usize) -> usize
     count
 }
 
+// The first of the rows whose entry's lease has ended at the clock, or else their count.
+pub(crate) fn first_over(space: &Words, clock: u32, count: usize) -> usize
+    requires { ⌜ count ≤ maxEntries ⌝ }
+    ensures { λ r. ⌜ (r ≤ count) × Still (Expire clock) (now (space .entry)) r ⌝ }
+{
+    let mut i: usize = 0;
+    while i < count {
+        let e = entry_at(space, i);
+        let end = e.end;
+        if reached_at(clock, end) {
+            return i;
+        }
+        i += 1;
+    }
+    count
+}
+
 // A row before which the pass leaves every row as it is.
 pub(crate) fn first_touched(space: &Words, s: Sweep, count: usize) -> usize
     requires { ⌜ (slotIn s ≤ noSlot) × (count ≤ maxEntries) ⌝ }
     ensures { λ r. ⌜ (r ≤ count) × Still s (now (space .entry)) r ⌝ }
 {
     match s {
-        Sweep::Expire(_) => 0,
+        Sweep::Expire(clock) => first_over(space, clock, count),
         Sweep::Commit(t, p) => first_held(space, t, p, count),
         Sweep::Abort(t, p) => first_held(space, t, p, count),
     }

@@ -4,11 +4,14 @@ ghost use Prim.Native.Nat.{_<_};
 ghost use lib.Dec.{eqb};
 ghost use Rattle.rules.specs.declared.Request.the-variants.{Create};
 ghost use Rattle.rules.specs.Lists.{anyb};
+ghost use Rattle.rules.specs.Template.{bit};
 ghost use Rattle.rules.specs.Requests.{frameOf};
 ghost use Rattle.rules.specs.Transactions.{freeSlot, create};
 ghost use Rattle.rules.specs.Words.{view};
 ghost use Rattle.holds.specs.Live.{noSlot};
 ghost use Rattle.holds.specs.Txns.{Creatable};
+use crate::holds::add_reader;
+use crate::holds::has_bit;
 use crate::live::NO_SLOT;
 use rules::Txn;
 use rules::TxnId;
@@ -21,29 +24,29 @@ use words::rows::txn_at;
 use words::rows::txn_count;
 use words::time::end_of;
 
-// Whether a live transaction has the slot.
-pub(crate) fn has_slot(space: &Words, p: u8) -> bool
-    ensures { λ r. ⌜ r ≡ anyb (λ t. eqb (t .slot) p) (view (now (space .entry)) .txns) ⌝ }
+// The slots of the live transactions, as bits.
+pub(crate) fn used_slots(space: &Words) -> u8
+    ensures { λ r. ⌜ ((p : _) → bit p r ≡ anyb (λ t. eqb (t .slot) p) (view (now (space .entry)) .txns)) ⌝ }
 {
     let n = txn_count(space);
+    let mut used: u8 = 0;
     let mut i: usize = 0;
     while i < n {
         let t = txn_at(space, i);
-        if t.slot == p {
-            return true;
-        }
+        used = add_reader(used, t.slot);
         i += 1;
     }
-    false
+    used
 }
 
 // The first of the eight slots that no live transaction has; 0 where there is none.
 pub(crate) fn free_slot(space: &Words) -> u8
     ensures { λ r. ⌜ (r ≡ freeSlot (view (now (space .entry)) .txns)) × (r < noSlot) ⌝ }
 {
+    let used = used_slots(space);
     let mut p: u8 = 0;
     while p < NO_SLOT {
-        if !has_slot(space, p) {
+        if !has_bit(used, p) {
             return p;
         }
         p += 1;

@@ -1,6 +1,6 @@
 -- What a frame ends with, part by part.
 use Prim.Native.Nat.{ℕ, _+_, _*_, _≤_, _-_}
-use mathlib.Core.Bool.{Bool, true, false, true≢false, not, cond, _||_}
+use mathlib.Core.Bool.{Bool, true, false, not, cond}
 use mathlib.Core.Logic.{⊎-elim}
 use mathlib.Core.Path.{_≡_, refl, sym, ap, ap₂, _∙_, subst, subst⁻¹, subst₂}
 use mathlib.Core.List.{List, _++_, List·Memᴰ, [], _∷_, Memᴰ·append-left, append-nil}
@@ -26,10 +26,9 @@ use Rattle.rules.proofs.Capacity.{lapsed-fits}
 use Rattle.rules.proofs.ListLaws.{filter-pass, count-mem}
 use Rattle.rules.proofs.SoundLaws.{service-ahead, none-existing, own-ahead}
 use Rattle.rules.proofs.ViewLaws.{view-bounded}
-use Rattle.step.specs.Ending.{Ending, Quiet, Nothings, Service, Both, Tick}
+use Rattle.step.specs.Ending.{Ending, Quiet, Nothings, Service, Both, Tick, inTick, served, closing, EndsAs}
+use Rattle.step.specs.Ending.{endedBy, someIfExists, closedInVain, closedBy, finishedBy, firstFree}
 use Rattle.step.specs.Does.{Does}
-use Rattle.step.specs.Ending.{inTick, served, closing, EndsAs, endedBy, someIfExists, closedInVain, closedBy}
-use Rattle.step.specs.Ending.{finishedBy, firstFree}
 use Rattle.step.proofs.AddsLaws.{does-then}
 use Rattle.sound.proofs.Events.{Admitted}
 use Rattle.sound.proofs.OwnPartLaws.{part-at}

@@ -1,16 +1,15 @@
 -- Hints follow each kind of frame, so that they stay reliable.
 use Prim.Native.Nat.{ℕ, _≤_}
 use mathlib.Core.Bool.{true, false, true≢false}
-use mathlib.Core.Path.{_≡_, refl, sym, ap, _∙_, subst, subst⁻¹}
+use mathlib.Core.Path.{_≡_, refl, sym, _∙_, subst, subst⁻¹}
 use mathlib.Core.List.{List}
 use native.Mathlib.Omega.{arith}
 use lib.ListN.{length}
 use Rattle.rules.specs.declared.FindRequest.{FindRequest}
 use Rattle.rules.specs.declared.WriteRequest.{WriteRequest}
 use Rattle.rules.specs.declared.Request.{Request}
-use Rattle.rules.specs.declared.Request.the-variants.{Write, Find, Create, Commit, Abort, Tick}
+use Rattle.rules.specs.declared.Request.the-variants.{Write, Find, Create}
 use Rattle.rules.specs.declared.Decoded.the-variants.{Asks}
-use Rattle.rules.specs.declared.TxnId.{TxnId}
 use Rattle.rules.specs.Time.{until}
 use Rattle.rules.specs.State.{Model}
 use Rattle.rules.specs.Frame.{Frame, decode, isWrite, isLookUp, isCreate}

@@ -9,7 +9,7 @@ use lib.Dec.{eqb}
 use Rattle.rules.specs.declared.Entry.{Entry}
 use Rattle.rules.specs.declared.LookUp.{LookUp}
 use Rattle.rules.specs.declared.Txn.{Txn}
-use Rattle.rules.specs.Lists.{All, filterb}
+use Rattle.rules.specs.Lists.{All}
 use Rattle.rules.specs.State.{Model, withEntries, withWaits, withClock}
 use Rattle.rules.specs.Template.{matches}
 use Rattle.rules.specs.Holds.{liveTxn, dropReader, dropReaderOf, readByOther, available, conflicts, othersIf}
@@ -21,7 +21,7 @@ use Rattle.rules.specs.Service.{service}
 use Rattle.rules.specs.Tick.{lapsed, endedTxns, abortAll, dropEnded}
 use Rattle.rules.specs.Closing.{closeWaits}
 use Rattle.rules.specs.Time.{reached}
-use Rattle.rules.specs.Transactions.{privateTo, takenBy, released, withoutTxn, commit, abort}
+use Rattle.rules.specs.Transactions.{privateTo, takenBy, released, commit, abort}
 use Rattle.rules.specs.Sound.{Sound, NoneFor, Hopeful}
 use Rattle.rules.proofs.ListLaws.{any-filter, all-false, filter-pass, map-same, any-same}
 use Rattle.rules.proofs.SoundLaws.{all-hopeful}

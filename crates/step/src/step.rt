@@ -182,12 +182,7 @@ pub(crate) fn take_abort(
     serve_and_close(space, answers, count, own.from) as u64
 }
 
-pub(crate) fn take_tick(
-    space: &mut Words,
-    hints: &Hints,
-    frame: &[u8],
-    answers: &mut [u8],
-) -> u64
+pub(crate) fn take_tick(space: &mut Words, hints: &Hints, frame: &[u8], answers: &mut [u8]) -> u64
     requires { ⌜ Decodes (now frame) (Asks Tick) × (stepArea ≤ length (now answers))
         × Reliable (now hints) (view (now space)) ⌝ }
     ensures { λ r. ⌜ Stepped (now (space .entry)) (now (frame .entry)) (now (answers .entry))

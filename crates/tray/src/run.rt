@@ -45,7 +45,12 @@ fn run_frames(tray: &[u8], answers: &mut [u8]) -> u64
         let pair = pair_at(tray, frames);
         let offset = pair.offset;
         let end = pair.end;
-        let answer = step_hinted(&mut space, &mut hints, &tray[offset..end], &mut answers[at..]);
+        let answer = step_hinted(
+            &mut space,
+            &mut hints,
+            &tray[offset..end],
+            &mut answers[at..],
+        );
         records += (answer % 65536) as usize;
         frames += 1;
     }

@@ -138,7 +138,7 @@ field-word ws i k h =
 
 -- ---- what a row can hold is read back
 -- an end that was read from a word is written as that word
-until-back : (n : ℕ) → untilWord (untilOf n) ≡ n
+pub until-back : (n : ℕ) → untilWord (untilOf n) ≡ n
 unfolding untilOf
 until-back n = cond-cases (λ u. untilWord u ≡ n) (eqb n forever) (λ e. sym (eqb-true n forever e)) (λ e. refl)
 

@@ -269,6 +269,14 @@ pub fn entry_id(space: &Words, i: usize) -> u32
     space[ENTRIES_AT + ENTRY_WIDTH * i]
 }
 
+// The end of the lease of the entry in row i, as a word: FOREVER is later than every tick.
+pub fn entry_end(space: &Words, i: usize) -> u32
+    requires { ⌜ i < maxEntries ⌝ }
+    ensures { λ r. ⌜ r ≡ untilWord (entryRow (now (space .entry)) i .end) ⌝ }
+{
+    space[ENTRIES_AT + ENTRY_WIDTH * i + 5]
+}
+
 // The field of the entry in row i at a column, counted from 0.
 pub fn field_at(space: &Words, i: usize, column: usize) -> u32
     requires { ⌜ (i < maxEntries) × (column < 4) ⌝ }
@@ -364,6 +372,14 @@ pub fn add_txn(space: &mut Words, t: Txn)
     set_txn_count(space, n + 1);
 }
 
+// The end of the lease of the transaction in row i, as a word: FOREVER is later than every tick.
+pub fn txn_end(space: &Words, i: usize) -> u32
+    requires { ⌜ i < maxTxns ⌝ }
+    ensures { λ r. ⌜ r ≡ untilWord (txnRow (now (space .entry)) i .end) ⌝ }
+{
+    space[TXNS_AT + TXN_WIDTH * i + 2]
+}
+
 pub fn move_txn(space: &mut Words, from: usize, to: usize)
     requires { ⌜ (from < maxTxns) × (to ≤ from) ⌝ }
     ensures { λ _. ⌜ now (space .exit) ≡ moveTxn (now (space .entry)) from to ⌝ }
@@ -428,6 +444,14 @@ pub fn wait_at(space: &Words, i: usize) -> LookUp
 }
 
 // The template of the look-up in row i.
+// The end of the time of the look-up in row i, as a word: FOREVER is later than every tick.
+pub fn wait_end(space: &Words, i: usize) -> u32
+    requires { ⌜ i < maxWaits ⌝ }
+    ensures { λ r. ⌜ r ≡ untilWord (waitRow (now (space .entry)) i .deadline) ⌝ }
+{
+    space[WAITS_AT + WAIT_WIDTH * i + 8]
+}
+
 pub fn wait_mask(space: &Words, i: usize) -> u8
     requires { ⌜ i < maxWaits ⌝ }
     ensures { λ r. ⌜ r ≡ waitRow (now (space .entry)) i .mask ⌝ }

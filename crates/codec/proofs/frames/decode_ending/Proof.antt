@@ -1,13 +1,12 @@
 -- `codec::frames::decode_ending` meets its contract. Assumes nothing.
-use mathlib.Core.Path.{refl, sym, _∙_}
+use mathlib.Core.Path.{sym, _∙_}
 use native.Mathlib.Omega.{arith}
 use borrow.Author.Needs.{needs}
-use Rattle.rules.specs.Numbers.{opCommit, opAbort}
+use Rattle.codec.proofs.frames.decode_ending.Tie as tie
 use Rattle.rules.specs.Frame.{frameLength, layoutOf}
 use Rattle.codec.proofs.FormLaws.{ending-length, other-length, ending-head}
 use Rattle.codec.proofs.RequestLaws.{refused, commit-asks, abort-asks}
 use Rattle.codec.proofs.frames.decode_ending.Statement.{statement}
-use Rattle.codec.proofs.frames.decode_ending.Tie as tie
 
 returns : tie.Need-returns
 returns c =

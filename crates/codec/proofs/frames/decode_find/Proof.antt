@@ -1,13 +1,12 @@
 -- `codec::frames::decode_find` meets its contract. Assumes nothing.
-use mathlib.Core.Path.{refl, sym, _∙_}
+use mathlib.Core.Path.{sym, _∙_}
 use native.Mathlib.Omega.{arith}
 use borrow.Author.Needs.{needs}
-use Rattle.rules.specs.Numbers.{opRead, opTakeIfExists}
+use Rattle.codec.proofs.frames.decode_find.Tie as tie
 use Rattle.rules.specs.Frame.{frameLength, layoutOf}
 use Rattle.codec.proofs.FormLaws.{find-length, other-length, find-head}
 use Rattle.codec.proofs.RequestLaws.{refused, find-asks}
 use Rattle.codec.proofs.frames.decode_find.Statement.{statement}
-use Rattle.codec.proofs.frames.decode_find.Tie as tie
 
 returns : tie.Need-returns
 returns c =

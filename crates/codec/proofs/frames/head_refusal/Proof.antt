@@ -1,10 +1,7 @@
 -- `codec::frames::head_refusal` meets its contract. Assumes nothing.
 use borrow.Author.Needs.{needs}
-use Rattle.codec.proofs.frames.head_refusal.Statement.{statement}
 use Rattle.codec.proofs.frames.head_refusal.Tie as tie
-use Rattle.codec.proofs.frames.head_refusal.Reads as reads
-use Rattle.codec.proofs.frames.head_refusal.Lts as lts
-use Rattle.codec.proofs.frames.is_wrong_party.Reads as is-wrong-party-reads
+use Rattle.codec.proofs.frames.head_refusal.Statement.{statement}
 
 -- src/frames.rt:76:9
 returns : tie.Need-returns

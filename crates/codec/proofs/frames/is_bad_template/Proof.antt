@@ -1,9 +1,8 @@
 -- `codec::frames::is_bad_template` meets its contract. Assumes nothing.
-use mathlib.Core.Path.{refl}
-use Rattle.rules.specs.Template.{bit}
 use borrow.Author.Needs.{needs}
-use Rattle.codec.proofs.frames.is_bad_template.Statement.{statement}
 use Rattle.codec.proofs.frames.is_bad_template.Tie as tie
+use Rattle.rules.specs.Template.{bit}
+use Rattle.codec.proofs.frames.is_bad_template.Statement.{statement}
 
 returns : tie.Need-returns
 unfolding bit

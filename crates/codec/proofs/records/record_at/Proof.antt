@@ -1,11 +1,10 @@
 -- `codec::records::record_at` meets its contract. Assumes nothing.
 use mathlib.Core.Path.{sym, _∙_}
-use native.Mathlib.Omega.{arith}
 use borrow.Author.Needs.{needs}
+use Rattle.codec.proofs.records.record_at.Tie as tie
 use Rattle.rules.specs.Records.{recordAt}
 use Rattle.codec.proofs.FormLaws.{record-past}
 use Rattle.codec.proofs.records.record_at.Statement.{statement}
-use Rattle.codec.proofs.records.record_at.Tie as tie
 
 returns : tie.Need-returns
 returns c = c .plain-record .ensures ∙ sym (record-past _ _ (c .before .if1 .taken))

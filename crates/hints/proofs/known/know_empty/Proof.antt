@@ -1,10 +1,8 @@
 -- `hints::known::know_empty` meets its contract. Assumes nothing.
-use mathlib.Core.Path.{refl}
-use native.Mathlib.Omega.{arith}
 use borrow.Author.Needs.{needs}
+use Rattle.hints.proofs.known.know_empty.Tie as tie
 use Rattle.sound.proofs.AllLaws.{all-none}
 use Rattle.hints.proofs.known.know_empty.Statement.{statement}
-use Rattle.hints.proofs.known.know_empty.Tie as tie
 
 returns : tie.Need-returns
 returns c =

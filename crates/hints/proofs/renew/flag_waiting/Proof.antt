@@ -1,14 +1,14 @@
 -- `hints::renew::flag_waiting` meets its contract. The loop's invariant: everyone passed has a flag. Assumes nothing.
 use Prim.Native.Nat.{_≤_, _-_}
-use mathlib.Core.Path.{_≡_, refl, _∙_, subst}
+use mathlib.Core.Path.{_≡_, refl, _∙_}
 use native.Mathlib.Omega.{arith}
+use Rattle.hints.proofs.renew.flag_waiting.Tie as tie
 use Rattle.rules.specs.declared.LookUp.{LookUp}
 use Rattle.words.specs.Rows.{waitRow}
 use Rattle.words.proofs.Tables.{waits-read}
 use Rattle.hints.specs.Hints.{least, acted, Flagged}
 use Rattle.hints.proofs.HintLaws.{Passed, passed-none, passed-more, passed-all}
 use Rattle.hints.proofs.renew.flag_waiting.Statement.{statement}
-use Rattle.hints.proofs.renew.flag_waiting.Tie as tie
 
 abbrev Inv-loop : tie.InvT-loop
 Inv-loop space hints₀ n i₀ hints i =
@@ -26,8 +26,7 @@ loop-holds c = (omega arith, passed-none, refl, refl)
 loop-again : tie.Need-loop-again Inv-loop μ-loop
 loop-again c =
     let i = c .before .before .before .before .loop .inv in
-    let f = c .flag-party .ensures in
-    (
+    let f = c .flag-party .ensures in (
       omega arith,
       passed-more (i .1) (λ (w : LookUp) p. f .0 .stays (w .party) p) (c .before .before .wait-at .ensures) (f .1),
       f .2 ∙ i .2,

@@ -1,11 +1,12 @@
 -- `hints::renew::waits_end` meets its contract. The loop's invariant: no row passed ends before the tick. Assumes nothing.
 use Prim.Native.Nat.{_≤_, _-_}
+use mathlib.Core.Path.{refl}
 use native.Mathlib.Omega.{arith}
 use Rattle.rules.specs.declared.LookUp.{LookUp}
 use Rattle.words.specs.Rows.{waitRow}
 use Rattle.words.proofs.Tables.{waits-read}
 use Rattle.hints.specs.Hints.{NotBefore}
-use Rattle.hints.proofs.HintLaws.{Passed, passed-none, passed-more, passed-all, sooner-still}
+use Rattle.hints.proofs.HintLaws.{Passed, passed-none, passed-more, passed-all, sooner-still, word-not-before}
 use Rattle.hints.proofs.renew.waits_end.Statement.{statement}
 use Rattle.hints.proofs.renew.waits_end.Tie as tie
 
@@ -21,9 +22,12 @@ loop-holds c = (omega arith, omega arith, passed-none)
 
 loop-again : tie.Need-loop-again Inv-loop μ-loop
 loop-again c =
-    let i = c .before .before .before .loop .inv in
+    let l = c .before .before .before .loop in
+    let i = l .inv in
     let s = c .sooner .ensures in
-    let more = passed-more (i .2) (λ y p. sooner-still _ (s .0) p) (c .before .wait-at .ensures) (s .1) in
+    let x = waitRow (c .before .before .before .before .before .args .space .now) (l .i) in
+    let ends = word-not-before {n = c .sooner .result} (x .deadline) (omega (arith, s .1, c .before .wait-end .ensures)) in
+    let more = passed-more (i .2) (λ y p. sooner-still _ (s .0) p) refl ends in
     (omega arith, omega (arith, s .0, i .1), more)
 
 returns : tie.Need-returns Inv-loop μ-loop

@@ -1,9 +1,10 @@
 -- `holds::find::any_conflict` meets its contract. Invariant: none of the entries passed conflicts. Assumes
 -- nothing.
 use Prim.Native.Nat.{_-_}
-use mathlib.Core.Path.{refl, sym, ap, _∙_}
+use mathlib.Core.Path.{sym, ap, _∙_}
 use native.Mathlib.Omega.{arith}
 use borrow.Author.Needs.{needs}
+use Rattle.holds.proofs.find.any_conflict.Tie as tie
 use Rattle.rules.specs.Holds.{conflicts}
 use Rattle.rules.specs.Words.{view}
 use Rattle.words.specs.Rows.{entryRow}
@@ -11,7 +12,6 @@ use Rattle.words.proofs.SearchLaws.{Searching, search-start, search-any, search
 use Rattle.words.proofs.Tables.{entries-read}
 use Rattle.holds.proofs.FindLaws.{search-on, search-past, only-conflicting}
 use Rattle.holds.proofs.find.any_conflict.Statement.{statement}
-use Rattle.holds.proofs.find.any_conflict.Tie as tie
 
 abbrev Inv-loop : tie.InvT-loop
 Inv-loop space w n asked i₀ i = Searching (conflicts (view space .txns) w) (entryRow space) i

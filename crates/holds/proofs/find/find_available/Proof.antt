@@ -1,9 +1,10 @@
 -- `holds::find::find_available` meets its contract. Invariant: none of the entries passed is available. Assumes
 -- nothing.
 use Prim.Native.Nat.{_-_}
-use mathlib.Core.Path.{refl, sym, ap, _∙_}
+use mathlib.Core.Path.{sym, ap, _∙_}
 use native.Mathlib.Omega.{arith}
 use borrow.Author.Needs.{needs}
+use Rattle.holds.proofs.find.find_available.Tie as tie
 use Rattle.rules.specs.Holds.{available}
 use Rattle.rules.specs.Words.{view}
 use Rattle.words.specs.Rows.{entryRow}
@@ -11,7 +12,6 @@ use Rattle.words.proofs.SearchLaws.{Searching, search-start, search-found, sear
 use Rattle.words.proofs.Tables.{entries-read}
 use Rattle.holds.proofs.FindLaws.{search-on, search-past, only-available}
 use Rattle.holds.proofs.find.find_available.Statement.{statement}
-use Rattle.holds.proofs.find.find_available.Tie as tie
 
 abbrev Inv-loop : tie.InvT-loop
 Inv-loop space w n asked i₀ i = Searching (available (view space .txns) w) (entryRow space) i

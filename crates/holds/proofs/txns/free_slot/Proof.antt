@@ -24,22 +24,25 @@ slots : Rows (0 ∷ 1 ∷ 2 ∷ 3 ∷ 4 ∷ 5 ∷ 6 ∷ 7 ∷ []) slot maxTxns
 slots = record { is = refl }
 
 abbrev Inv-loop : tie.InvT-loop
-Inv-loop space p₀ p = (p ≤ maxTxns) × Searching (isFree (view space .txns)) slot p
+Inv-loop space used p₀ p = (p ≤ maxTxns) × Searching (isFree (view space .txns)) slot p
 
 abbrev μ-loop : tie.MeasureT-loop
-μ-loop space p₀ p = maxTxns - p
+μ-loop space used p₀ p = maxTxns - p
 
 returns : tie.Need-returns Inv-loop μ-loop
 unfolding freeSlot
 returns c =
     let l = c .before .before .before .loop in
-    let test = ap not (sym (c .before .has-slot .ensures)) ∙ c .if1 .taken in
+    let used = c .before .before .before .before .used-slots .ensures in
+    let test = ap not (sym (used _) ∙ sym (c .before .has-bit .ensures)) ∙ c .if1 .taken in
     (sym (ap orZero (search-found slots (l .inv .1) (omega arith) refl test)), omega arith)
 
 loop-again : tie.Need-loop-again Inv-loop μ-loop
 loop-again c =
     let l = c .before .before .before .loop in
-    (omega arith, search-more (l .inv .1) refl (ap not (sym (c .before .has-slot .ensures)) ∙ c .if1 .left))
+    let used = c .before .before .before .before .used-slots .ensures in
+    let test = ap not (sym (used _) ∙ sym (c .before .has-bit .ensures)) ∙ c .if1 .left in
+    (omega arith, search-more (l .inv .1) refl test)
 
 returns-2 : tie.Need-returns-2 Inv-loop μ-loop
 unfolding freeSlot
@@ -48,5 +51,6 @@ returns-2 c = (sym (ap orZero (search-none slots (c .before .loop .inv .1) (omeg
 pub free-slot-spec : {M : Type 1} → statement M
 free-slot-spec =
     tie.close
-    (tie.spec Inv-loop μ-loop (λ c. (omega arith, search-start)) (λ c κs. tt) returns (λ c. omega arith)
+    (tie.spec
+    Inv-loop μ-loop (λ c κs. tt) (λ c. (omega arith, search-start)) (λ c κs. omega arith) returns (λ c. omega arith)
     (λ c. omega arith) loop-again returns-2)

@@ -11,8 +11,7 @@ returns : tie.Need-returns
 returns c =
     let taken = c .before .before in
     let start = taken .before .before .before .before .before .before in
-    let q = Abort (start .args .party) (start .args .id) in
-    (
+    let q = Abort (start .args .party) (start .args .id) in (
       taken .take-abort .ensures,
       stays-reliable (start .pre .0) (taken .take-abort .ensures) (start .pre .2) (follows-same (frameOf q) refl refl refl),
     )

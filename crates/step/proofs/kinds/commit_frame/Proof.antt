@@ -11,8 +11,7 @@ returns : tie.Need-returns
 returns c =
     let taken = c .before .before in
     let start = taken .before .before .before .before .before .before in
-    let q = Commit (start .args .party) (start .args .id) in
-    (
+    let q = Commit (start .args .party) (start .args .id) in (
       taken .take-commit .ensures,
       stays-reliable (start .pre .0) (taken .take-commit .ensures) (start .pre .2) (follows-same (frameOf q) refl refl refl),
     )

@@ -15,8 +15,7 @@ returns : tie.Need-returns
 returns c =
     let taken = c .before .before in
     let lease = taken .before .before .before .before in
-    let start = lease .before .before .before .before .before .before in
-    (
+    let start = lease .before .before .before .before .before .before in (
       taken .take-create .ensures,
       stays-reliable (start .pre .0) (taken .take-create .ensures) (start .pre .2)
           (follows-create (start .args .party) (start .args .lease) (lease .before .clock .ensures) (lease .note-lease .ensures)),

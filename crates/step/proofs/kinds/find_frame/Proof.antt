@@ -15,8 +15,7 @@ returns : tie.Need-returns
 returns c =
     let taken = c .before .before .before .before .before in
     let acted = taken .before .before .before .before in
-    let start = acted .before .before .before .before .before in
-    (
+    let start = acted .before .before .before .before .before in (
       taken .take-find .ensures,
       stays-reliable (start .pre .0) (taken .take-find .ensures) (start .pre .2)
           (follows-find (start .args .l) (acted .note-acted .ensures) (c .note-last .ensures)),

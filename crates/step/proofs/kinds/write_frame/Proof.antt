@@ -19,8 +19,7 @@ returns c =
     let taken = c .before .before in
     let acted = taken .before .before .before .before in
     let stored = acted .before .before in
-    let start = stored .before .before .before .before .before .before .before in
-    (
+    let start = stored .before .before .before .before .before .before .before in (
       taken .take-write .ensures,
       stays-reliable (start .pre .0) (taken .take-write .ensures) (start .pre .2)
           (follows-write (start .args .w) (stored .before .clock .ensures) (stored .note-stored .ensures)
