@@ -111,7 +111,8 @@ module _ (bs : List ℕ) (op : ℕ) (is : (op ≡ byteAt bs 0) × (opWrite ≤ o
   right-length : (bad : Bool) → length bs ≡ frameLength op
       → malformed (decode bs) ≡ (not (eqb (byteAt bs 3) 0) || bad) → formRefusal bs ≡ headRefusal bs op bad
   unfolding wrongParty decode
-  right-length bad h form = form-is bs op is {party = noParty op (byteAt bs 1)} (eq-eqb (length bs) (frameLength op) h) form (rw (is .0))
+  right-length bad h form = form-is bs op is {party = noParty op (byteAt bs 1)}
+      (eq-eqb (length bs) (frameLength op) h) form (rw (is .0))
 
   pub find-head : opRead ≤ op → op ≤ opTakeIfExists → length bs ≡ frameLength op
       → formRefusal bs ≡ headRefusal bs op (ltb 15 (byteAt bs 2) || badTemplate (byteAt bs 2) (fieldsAt bs 12))

@@ -78,7 +78,8 @@ module _ (W : LookUp → Type 0) where
       let r = mem-filter p (xs ++ (l ∷ [])) i in
       ⊎-elim (h w) (λ j. let q = List·Memᴰ·eq-of-singleton j in
       last (filterb p xs) w (filter-append p xs (l ∷ []) ∙ ap (λ ys. filterb p xs ++ ys)
-      (ap (λ b. cond b (l ∷ []) []) (sym (ap p q) ∙ r .1) ∙ ap (λ y. y ∷ []) (sym q)))) (List·Memᴰ·append-cases xs (r .0))
+      (ap (λ b. cond b (l ∷ []) []) (sym (ap p q) ∙ r .1) ∙ ap (λ y. y ∷ []) (sym q))))
+      (List·Memᴰ·append-cases xs (r .0))
 
   after-lookUp : (m : Model) (f : Frame) (o : Option Entry) → All W (m .waits)
       → let c = answer m (lookUpOf m f) (f .leaseOrTimeout) o .model in
@@ -121,7 +122,8 @@ module _ (m : Model) (bs : List ℕ) (area : ℕ) (s : Sound m) where
     unfolding lookUp accepted
     looked l e =
         subst⁻¹ (λ (o : Model). Last o → All W (o .waits))
-        (ap (λ (x : Outcome). x .model) (step-accepted m bs area e) ∙ ap (λ (d : Done). d .model) (carried-lookUp m f l))
+        (ap (λ (x : Outcome). x .model) (step-accepted m bs area e)
+        ∙ ap (λ (d : Done). d .model) (carried-lookUp m f l))
         (after-lookUp W m f (oldest (m .txns) (lookUpOf m f) (m .entries)) h)
 
     unasked : (refusal m bs area ≡ 0 → ⊥) → n ≡ m

@@ -70,8 +70,7 @@ module _ (hs : List ℕ) (long : length hs ≡ hintWords) (v : ℕ) where
     record {
       falls = omega (arith, least-set);
       stays = λ p g e. g (sym (flag-kept leastAt p (omega arith)) ∙ e);
-      grows = let same : acted (set hs leastAt v) ≡ acted hs = getD-set-other hs leastAt actedAt v 0 (λ e. omega arith) in
-          omega arith;
+      grows = omega (arith, getD-set-other hs leastAt actedAt v 0 (λ e. omega arith));
     },
     least-set,
   )
@@ -79,8 +78,7 @@ module _ (hs : List ℕ) (long : length hs ≡ hintWords) (v : ℕ) where
   pub acted-grows : acted hs ≤ v → Weaker hs (set hs actedAt v) × (v ≤ acted (set hs actedAt v))
   acted-grows h = (
     record {
-      falls = let same : least (set hs actedAt v) ≡ least hs = getD-set-other hs actedAt leastAt v 0 (λ e. omega arith) in
-          omega arith;
+      falls = omega (arith, getD-set-other hs actedAt leastAt v 0 (λ e. omega arith));
       stays = λ p g e. g (sym (flag-kept actedAt p (omega arith)) ∙ e);
       grows = omega (arith, acted-set);
     },
@@ -97,7 +95,8 @@ module _ (hs : List ℕ) (long : length hs ≡ hintWords) (p : ℕ) where
 
   flag-other : (q : ℕ) → (flag hs q ≡ 0 → ⊥) → flag flagged q ≡ 0 → ⊥
   flag-other q h e =
-      ⊎-elim (λ (s : q % flags ≡ p % flags). let one = ap (λ k. getD flagged (flagsAt + k) 0) s ∙ flag-set in omega arith)
+      ⊎-elim
+      (λ (s : q % flags ≡ p % flags). let one = ap (λ k. getD flagged (flagsAt + k) 0) s ∙ flag-set in omega arith)
       (λ d. h (sym (getD-set-other hs (flagsAt + p % flags) (flagsAt + q % flags) 1 0 (λ s. d (omega arith))) ∙ e))
       (equal-or (q % flags) (p % flags))
 
@@ -106,7 +105,8 @@ module _ (hs : List ℕ) (long : length hs ≡ hintWords) (p : ℕ) where
   flag-stands =
       let l : least flagged ≡ least hs = getD-set-other hs (flagsAt + p % flags) leastAt 1 0 (λ e. omega arith) in
       let a : acted flagged ≡ acted hs = getD-set-other hs (flagsAt + p % flags) actedAt 1 0 (λ e. omega arith) in
-      (record { falls = omega arith; stays = flag-other; grows = omega arith }, λ e. let one = flag-set in omega arith, l, a)
+      let stands : flag flagged p ≡ 0 → ⊥ = λ e. let one = flag-set in omega arith in
+      (record { falls = omega arith; stays = flag-other; grows = omega arith }, stands, l, a)
 
 -- flags that all stand
 abbrev full : ℕ → List ℕ
@@ -158,7 +158,8 @@ last-same {A} (z ∷ xs) (v ∷ ys) x y e = last-same xs ys x y (tail-same e)
     tail-same : {us vs : List A} → z ∷ us ≡ v ∷ vs → us ≡ vs
     tail-same q = cc
 
-pub row-last : {A : Type 0} {xs : List A} {f : ℕ → A} {n : ℕ} → Rows xs f n → (vs : List A) (x : A) → xs ≡ vs ++ (x ∷ [])
+pub row-last : {A : Type 0} {xs : List A} {f : ℕ → A} {n : ℕ} → Rows xs f n → (vs : List A) (x : A)
+    → xs ≡ vs ++ (x ∷ [])
     → (0 < n) × (x ≡ f (n - 1))
 row-last {f = f} {n = zero} r vs x e = absurd (omega (arith, ap length (sym (r .is) ∙ e), length-append vs (x ∷ [])))
 row-last {f = f} {n = suc k} r vs x e = (

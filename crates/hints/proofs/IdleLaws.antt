@@ -113,7 +113,8 @@ module _ {f : Frame} {m : Model} (s : Consistent m) (a : Admitted f m) (c : isCr
             record {
               unwritten = λ (q : e .«private_to» .0 ≡ m .nextTxn). let l = ok-below s (h .owner) in omega arith;
               untaken = λ (q : e .«taken_by» .0 ≡ m .nextTxn). let l = ok-below s (h .taker) in omega arith;
-              unread = not-so _ (λ b. let x = h .readers _ b in slot-free (m .txns) (a .slot-left c) (x .0) (x .1) (x .2));
+              unread = not-so _ (λ b. let x = h .readers _ b in slot-free (m .txns) (a .slot-left c) (x .0) (x .1)
+                  (x .2));
             };
         outside = λ w i (q : w .txn .0 ≡ m .nextTxn).
             let l = ok-below s (⊎-elim inl (λ x. inr (x .0, x .1, x .2)) (s .owned w i)) in omega arith;
@@ -123,7 +124,8 @@ module _ {k : ℕ} {f : Frame} (acts : ActsUpTo k f) where
   idle-event : {m n : Model} {hs : List Heard} → Event f m hs n → Consistent m → IdleAbove k m → IdleAbove k n
   idle-event {m} {n} e s h t i above = go t (origin t i) above
     where
-      origin : All (λ x. List·Memᴰ x (m .txns) ⊎ ((x ≡ newTxn m f) × (isCreate (f .op) ≡ true) × Admitted f m)) (n .txns)
+      origin : All (λ x. List·Memᴰ x (m .txns) ⊎ ((x ≡ newTxn m f) × (isCreate (f .op) ≡ true) × Admitted f m))
+          (n .txns)
       origin = txns-all _ e (λ c a. inr (refl, c, a)) (λ x j. inl j)
 
       go : (x : Txn) → List·Memᴰ x (m .txns) ⊎ ((x ≡ newTxn m f) × (isCreate (f .op) ≡ true) × Admitted f m)

@@ -1,4 +1,5 @@
-// Hints: asked, and kept as frames bring new leases, look-ups and transactions. They may say less than is so, never more.
+// Hints: asked, and kept as frames bring new leases, look-ups and transactions. They may say less than is so, never
+// more.
 ghost use mathlib.Core.Bool.{true, false};
 ghost use mathlib.Core.Path.{_≡_};
 ghost use Prim.Native.Nat.{_≤_, _<_};

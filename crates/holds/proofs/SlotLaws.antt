@@ -33,7 +33,8 @@ added-bit p q used =
     ⊎-elim
     (λ e. let s = eqb-true q p e in
     ap (λ k. bit p (addReader k used)) s ∙ added p used ∙ sym (ap (λ b. bit p used || b) e ∙ or-true (bit p used)))
-    (λ e. added-other p q used (λ s. eqb-false q p e (sym s)) ∙ sym (ap (λ b. bit p used || b) e ∙ or-false (bit p used)))
+    (λ e. added-other p q used (λ s. eqb-false q p e (sym s))
+    ∙ sym (ap (λ b. bit p used || b) e ∙ or-false (bit p used)))
     (bool-cases (eqb q p))
 
 pub used-more : {f : ℕ → Txn} {used used′ i : ℕ} {t : Txn} → Used f used i → t ≡ f i → (t .slot < noSlot)
@@ -42,7 +43,8 @@ used-more {f} {used} {used′} {i} {t} u e l q =
     record {
       bits = λ p.
           rw (add-one i)
-          (ap (bit p) (q ∙ ap (λ b. cond b used (addReader (t .slot) used)) (ne-eqb (t .slot) noSlot (λ s. omega arith)))
+          (ap (bit p) (q ∙ ap (λ b. cond b used (addReader (t .slot) used))
+          (ne-eqb (t .slot) noSlot (λ s. omega arith)))
           ∙ added-bit p (t .slot) used
           ∙ ap₂ (λ a (x : Txn). a || eqb (x .slot) p) (u .bits p) e
           ∙ sym (any-append (λ (x : Txn). eqb (x .slot) p) (upTo f i) (f i ∷ [])

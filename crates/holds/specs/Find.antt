@@ -37,4 +37,5 @@ pub record Passes (q : Entry → Bool) (ws : List ℕ) (k i : ℕ) : Type 0 wher
 
 -- so of any template that asks so
 abbrev pub PassesAsked : Asked → List ℕ → ℕ → ℕ → Type 0
-PassesAsked a ws k i = (mask : ℕ) (want : Fields) → Asks a mask want → Passes (λ e. matches mask want (e .fields)) ws k i
+PassesAsked a ws k i = (mask : ℕ) (want : Fields) → Asks a mask want
+    → Passes (λ e. matches mask want (e .fields)) ws k i

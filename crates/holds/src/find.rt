@@ -30,7 +30,8 @@ pub enum Match {
     None,
 }
 
-// What a template asks first: the field at a column, counted from 0, and its value; at the column NONE it asks for none.
+// What a template asks first: the field at a column, counted from 0, and its value; at the column NONE it asks for
+// none.
 pub struct Asked {
     column: usize,
     want: u32,

@@ -43,13 +43,15 @@ module _ {m n : Model} {hs hs′ : List ℕ} where
       record {
         weaker = weaker-then (a .0) (b .0);
         acts = record { writes = λ _. b .1; looks = λ _. b .1 };
-        entry = λ _ z. sooner-still _ (b .0 .falls) (subst (λ c. NotBefore (least hs₁) (until c (w .lease))) q (a .1 z));
+        entry = λ _ z. sooner-still _ (b .0 .falls) (subst (λ c. NotBefore (least hs₁) (until c (w .lease))) q
+            (a .1 z));
         txn = λ t. absurd (true≢false (sym t));
         wait = λ t. absurd (true≢false (sym t));
       }
 
   -- a transaction that is noted, and then who waits last
-  pub follows-find : {hs₁ : List ℕ} (l : FindRequest) → Weaker hs hs₁ × (l .txn .0 ≤ acted hs₁) → Weaker hs₁ hs′ × Knows hs′ (n .waits)
+  pub follows-find : {hs₁ : List ℕ} (l : FindRequest) → Weaker hs hs₁ × (l .txn .0 ≤ acted hs₁) → Weaker hs₁ hs′
+      × Knows hs′ (n .waits)
       → Follows (frameOf (Find l)) m n hs hs′
   follows-find l a b =
       let in-txn : l .txn .0 ≤ acted hs′ = omega (arith, a .1, b .0 .grows) in

@@ -1,4 +1,5 @@
--- Service from a row on is the rules' service, where no entry before it is available to anyone who waits; and where none
+-- Service from a row on is the rules' service, where no entry before it is available to anyone who waits; and where
+-- none
 -- is at all, service does nothing.
 use Prim.Native.Nat.{ℕ, suc, _+_, _≤_, _<_}
 use mathlib.Core.Bool.{Bool, true, false, not, cond}
@@ -121,7 +122,8 @@ module _ (ts : List Txn) (xs : List Entry) where
   others : {n : ℕ} {e : Entry} (ys : List Entry) → Numbered n (xs ++ ys) → List·Memᴰ e ys
       → All (λ x. isEntry e x ≡ false) xs
   others {n} {e} ys h i x j =
-      ne-eqb (x .id .0) (e .id .0) (λ q. let l = ascend-across (λ (y : Entry). y .id .0) xs ys (h .0) j i in omega arith)
+      ne-eqb (x .id .0) (e .id .0) (λ q. let l = ascend-across (λ (y : Entry). y .id .0) xs ys (h .0) j i in omega
+      arith)
 
   serve-behind : {n : ℕ} (ys : List Entry) (ws : List LookUp) → Numbered n (xs ++ ys)
       → All (λ w. All (λ e. available ts w e ≡ false) xs) ws

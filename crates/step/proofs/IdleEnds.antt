@@ -38,7 +38,8 @@ module _ (f : Frame) (m : Model) where
   either true d h = h refl
   either false d h = refl
 
-  quiet-finish : (isTick (f .op) ≡ true → lapsed m ≡ quiet m) → NoneFor m → closeWaits m ≡ quiet m → finish f m ≡ quiet m
+  quiet-finish : (isTick (f .op) ≡ true → lapsed m ≡ quiet m) → NoneFor m → closeWaits m ≡ quiet m
+      → finish f m ≡ quiet m
   unfolding finish
   quiet-finish t h c =
       ap ends (either (isTick (f .op)) (lapsed m) t)
@@ -99,7 +100,8 @@ module _ (m : Model) (s : Sound m) (x : Txn) (i : List·Memᴰ x (m .txns)) (idl
   commit-idle =
       ap (λ es. withEntries es after)
       (ap (map (released (m .txns) (x .id .0)))
-      (filter-pass (λ e. not (takenBy (x .id .0) e)) (m .entries) (λ e j. ap not (ne-eqb _ _ (idle .apart e j .untaken))))
+      (filter-pass (λ e. not (takenBy (x .id .0) e)) (m .entries)
+      (λ e j. ap not (ne-eqb _ _ (idle .apart e j .untaken))))
       ∙ map-same (released (m .txns) (x .id .0)) (m .entries) untouched)
 
   pub abort-idle : abort (x .id .0) m ≡ after
@@ -107,21 +109,25 @@ module _ (m : Model) (s : Sound m) (x : Txn) (i : List·Memᴰ x (m .txns)) (idl
   abort-idle =
       ap₂ (λ es ws. withEntries es (withWaits ws after))
       (ap (map (released (m .txns) (x .id .0)))
-      (filter-pass (λ e. not (privateTo (x .id .0) e)) (m .entries) (λ e j. ap not (ne-eqb _ _ (idle .apart e j .unwritten))))
+      (filter-pass (λ e. not (privateTo (x .id .0) e)) (m .entries)
+      (λ e j. ap not (ne-eqb _ _ (idle .apart e j .unwritten))))
       ∙ map-same (released (m .txns) (x .id .0)) (m .entries) untouched)
-      (filter-pass (λ (w : LookUp). not (eqb (w .txn .0) (x .id .0))) (m .waits) (λ w j. ap not (ne-eqb _ _ (idle .outside w j))))
+      (filter-pass (λ (w : LookUp). not (eqb (w .txn .0) (x .id .0))) (m .waits)
+      (λ w j. ap not (ne-eqb _ _ (idle .outside w j))))
 
   same-live : All (λ w. liveTxn (w .txn .0) (after .txns) ≡ liveTxn (w .txn .0) (m .txns)) (m .waits)
   same-live w j = live-without (x .id .0) (w .txn .0) (idle .outside w j) (m .txns)
 
   none-for : NoneFor after
   none-for w j =
-      any-same (available (after .txns) w) (available (m .txns) w) (available-same (after .txns) (m .txns) w (same-live w j))
+      any-same (available (after .txns) w) (available (m .txns) w)
+      (available-same (after .txns) (m .txns) w (same-live w j))
       (m .entries) ∙ s .none-for w j
 
   hopeful : Hopeful after
   hopeful w j t =
-      any-same (conflicts (after .txns) w) (conflicts (m .txns) w) (conflicts-same (after .txns) (m .txns) w (same-live w j))
+      any-same (conflicts (after .txns) w) (conflicts (m .txns) w)
+      (conflicts-same (after .txns) (m .txns) w (same-live w j))
       (m .entries) ∙ s .hopeful w j t
 
   pub end-idle : (f : Frame) → isTick (f .op) ≡ false → finish f after ≡ quiet after

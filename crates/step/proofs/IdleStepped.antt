@@ -35,13 +35,15 @@ use Rattle.step.proofs.SteppedLaws.{asked, asked-frame, stepped-sound}
 
 module _ (ws area : List ℕ) {hs : List ℕ} (h : stepArea ≤ length area) (r : Reliable hs (view ws)) where
   -- ---- a tick before anything ends
-  pub stepped-tick : {bs ws₁ a₁ : List ℕ} {own : Record} {n : ℕ} → Decodes bs (Asks Tick) → spaceRefusal (view ws) (frameOf Tick) ≡ 0 → Carries (tick (view ws)) ws₁ own
+  pub stepped-tick : {bs ws₁ a₁ : List ℕ} {own : Record} {n : ℕ} → Decodes bs (Asks Tick)
+      → spaceRefusal (view ws) (frameOf Tick) ≡ 0 → Carries (tick (view ws)) ws₁ own
       → view ws₁ .clock < least hs → Adds (own ∷ []) area a₁ 0 n → Stepped ws bs area ws₁ n a₁
   unfolding ownPart tick
   stepped-tick {ws₁ = ws₁} d e c l a =
       let l′ : view ws .clock + 1 < least hs = subst (λ (o : Model). o .clock < least hs) (c .model) l in
       stepped-sound h d (quiet (view ws₁)) e (λ _. c) a
-      (λ s. ap quiet (c .model) ∙ sym (tick-idle (view ws) (least hs) (view ws .clock + 1) (r .ends) l′ (frameOf Tick) s))
+      (λ s. ap quiet (c .model) ∙ sym (tick-idle (view ws) (least hs) (view ws .clock + 1) (r .ends) l′ (frameOf Tick)
+      s))
       (does-nothing _ _ _)
 
   -- ---- a transaction that has done nothing ends
@@ -49,7 +51,8 @@ module _ (ws area : List ℕ) {hs : List ℕ} (h : stepArea ≤ length area) (r 
     live-of : endsTxn (frameOf q .op) ≡ true → LiveOf (frameOf q .txn) (frameOf q .party) (view ws .txns)
     live-of t =
         subst⁻¹ (λ f. Admitted f (view ws)) (asked-frame d)
-        (admitted (view ws) bs (length area) (clear (view ws) bs (length area) (asked (view ws) bs (length area) h d ∙ e))) .ends t
+        (admitted (view ws) bs (length area) (clear (view ws) bs (length area)
+        (asked (view ws) bs (length area) h d ∙ e))) .ends t
 
     -- it is live, and what the hints say of it is so
     idle-of : endsTxn (frameOf q .op) ≡ true → (acted hs < frameOf q .txn) × (acted hs < forever) → Sound (view ws)
@@ -58,16 +61,19 @@ module _ (ws area : List ℕ) {hs : List ℕ} (h : stepArea ≤ length area) (r 
         let x = live-of t in (x .0, x .1, x .2, r .idle (l .1) (x .0) (x .1) (omega (arith, l .0, x .2)))
 
     -- where its end, by the rules, is this, and the frame is no tick
-    stepped-ended : {ws₁ a₁ : List ℕ} {own : Record} {n : ℕ} (end : ℕ → Model → Model) → endsTxn (frameOf q .op) ≡ true → isTick (frameOf q .op) ≡ false
+    stepped-ended : {ws₁ a₁ : List ℕ} {own : Record} {n : ℕ} (end : ℕ → Model → Model)
+        → endsTxn (frameOf q .op) ≡ true → isTick (frameOf q .op) ≡ false
         → ownPart (view ws) (frameOf q) .model ≡ end (frameOf q .txn) (view ws)
-        → ((x : Txn) → List·Memᴰ x (view ws .txns) → Idle (view ws) x → Sound (view ws) → end (x .id .0) (view ws) ≡ ended (x .id .0) (view ws))
+        → ((x : Txn) → List·Memᴰ x (view ws .txns) → Idle (view ws) x → Sound (view ws)
+        → end (x .id .0) (view ws) ≡ ended (x .id .0) (view ws))
         → (acted hs < frameOf q .txn) × (acted hs < forever) → view ws₁ ≡ ended (frameOf q .txn) (view ws)
         → own ≡ ownPart (view ws) (frameOf q) .own → Adds (own ∷ []) area a₁ 0 n → Stepped ws bs area ws₁ n a₁
     stepped-ended {ws₁} end t z o ends l v w a =
         let t′ : Sound (view ws) → end (frameOf q .txn) (view ws) ≡ ended (frameOf q .txn) (view ws) =
         λ s. let x = idle-of t l s in
         subst (λ u. end u (view ws) ≡ ended u (view ws)) (x .2) (ends (x .0) (x .1) (x .3) s) in
-        let own-is : Sound (view ws) → ownPart (view ws) (frameOf q) .model ≡ ended (frameOf q .txn) (view ws) = λ s. o ∙ t′ s in
+        let own-is : Sound (view ws) → ownPart (view ws) (frameOf q) .model ≡ ended (frameOf q .txn) (view ws) =
+        λ s. o ∙ t′ s in
         stepped-sound h d (quiet (view ws₁)) e (λ s. record { model = v ∙ sym (own-is s); own = w }) a
         (λ s. let x = idle-of t l s in
         ap quiet v
@@ -75,7 +81,8 @@ module _ (ws area : List ℕ) {hs : List ℕ} (h : stepArea ≤ length area) (r 
         (end-idle (view ws) s (x .0) (x .1) (x .3) (frameOf q) z))
         ∙ ap (finish (frameOf q)) (sym (own-is s))) (does-nothing _ _ _)
 
-  module _ {bs ws₁ a₁ : List ℕ} {own : Record} {n party : ℕ} {id : TxnId} (l : (acted hs < id .0) × (acted hs < forever)) (v : view ws₁ ≡ ended (id .0) (view ws)) where
+  module _ {bs ws₁ a₁ : List ℕ} {own : Record} {n party : ℕ} {id : TxnId}
+      (l : (acted hs < id .0) × (acted hs < forever)) (v : view ws₁ ≡ ended (id .0) (view ws)) where
     pub stepped-commit : Decodes bs (Asks (Commit party id)) → spaceRefusal (view ws) (frameOf (Commit party id)) ≡ 0
         → own ≡ committed (frameOf (Commit party id)) → Adds (own ∷ []) area a₁ 0 n → Stepped ws bs area ws₁ n a₁
     unfolding ownPart commitFrame layoutOf

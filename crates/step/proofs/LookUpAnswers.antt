@@ -43,7 +43,8 @@ module _ (ws ws′ : List ℕ) (f : Frame) (w : LookUp) (q : w ≡ lookUpOf (vie
   unfolding lookUp
   none-found {r} n h = carries-as ws′ r (rw (sym q, n)) h
 
-  pub one-found : {e : Entry} {r : Record} → oldest (m .txns) w (m .entries) ≡ some e → view ws′ ≡ answerFound m w e .model
+  pub one-found : {e : Entry} {r : Record} → oldest (m .txns) w (m .entries) ≡ some e
+      → view ws′ ≡ answerFound m w e .model
       → r ≡ found w e → Carries (lookUp m f) ws′ r
   unfolding lookUp answer answerFound
   one-found n v e = record { model = rw (sym q, n) v; own = rw (sym q, n) e }

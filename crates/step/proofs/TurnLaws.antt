@@ -68,7 +68,12 @@ module _ {A : Type 0} (q : A → Bool) (f : ℕ → A) (n : ℕ) where
 from-row : {A : Type 0} {k : ℕ} {q : A → Bool} {f : ℕ → A} {n : ℕ} {xs : List A} → Rows xs f n → {i : ℕ}
     → SearchingFrom k q f i → {x : A} → k ≤ i → i < n → x ≡ f i → q x ≡ true → i ≡ k + ahead q (drop k xs)
 from-row {k = k} {q = q} {f = f} {n = n} r {i} s h l e t =
-    omega (arith, ap (λ xs. ahead q (drop k xs)) (r .is), ahead-of q f n (i - k) k i (omega arith) l s (ap q (sym e) ∙ t))
+    omega (
+      arith,
+      ap (λ xs. ahead q (drop k xs)) (r .is),
+      ahead-of q f n (i - k) k i (omega arith) l s
+          (ap q (sym e) ∙ t),
+    )
 
 -- the search goes on to row j
 abbrev Goes : Asked → List ℕ → ℕ → ℕ → Type 0
@@ -160,7 +165,8 @@ module _ {from : ℕ} {ws₀ ws a₀ a : List ℕ} {count done i n : ℕ} (t : T
           long = v .1;
           records = t .records ++ (found w e ∷ []);
           serving =
-              subst (λ m. Serving from (view ws₀) m (i + 1) n (t .records ++ (found w e ∷ []))) (sym (v .0 ∙ ap (λ x. handedAt w e x (view ws)) (p .1)))
+              subst (λ m. Serving from (view ws₀) m (i + 1) n (t .records ++ (found w e ∷ [])))
+              (sym (v .0 ∙ ap (λ x. handedAt w e x (view ws)) (p .1)))
               (serving-found (t .serving) this-wait (p .0));
           adds = adds-then room (t .adds) (subst (λ x. Adds (x ∷ []) a a′ done done′) o d);
         }

@@ -59,7 +59,8 @@ pub record EndsAs (f : Frame) (e : Ending) : Type 0 where
 abbrev pub endedBy : Ending → Model → Done
 endedBy e m = cond (inTick e) (lapsed m) (quiet m)
 
--- the row from which on service looks, where the own part left the entries before row k as they were, and n transactions
+-- the row from which on service looks, where the own part left the entries before row k as they were, and n
+-- transactions
 -- have ended
 abbrev pub firstFree : Ending → ℕ → ℕ → ℕ
 firstFree Quiet k n = maxEntries

@@ -45,7 +45,8 @@ pub(crate) fn create(space: &mut Words, party: u8, lease: u32) -> Record
 
 pub(crate) fn commit(space: &mut Words, party: u8, id: TxnId) -> Own
     ensures { λ r. ⌜ Carries (commitFrame (view (now (space .entry))) (frameOf (Request.Commit party id)))
-        (now (space .exit)) (r .answer) × SameBefore (r .from) (view (now (space .entry))) (view (now (space .exit))) ⌝ }
+        (now (space .exit)) (r .answer)
+        × SameBefore (r .from) (view (now (space .entry))) (view (now (space .exit))) ⌝ }
 {
     let from = commit_txn(space, id);
     let answer = plain_record(KIND_COMMITTED, party, id);
@@ -54,7 +55,8 @@ pub(crate) fn commit(space: &mut Words, party: u8, id: TxnId) -> Own
 
 pub(crate) fn abort(space: &mut Words, party: u8, id: TxnId) -> Own
     ensures { λ r. ⌜ Carries (abortFrame (view (now (space .entry))) (frameOf (Request.Abort party id)))
-        (now (space .exit)) (r .answer) × SameBefore (r .from) (view (now (space .entry))) (view (now (space .exit))) ⌝ }
+        (now (space .exit)) (r .answer)
+        × SameBefore (r .from) (view (now (space .entry))) (view (now (space .exit))) ⌝ }
 {
     let from = abort_txn(space, id);
     let answer = plain_record(KIND_ABORTED, party, id);

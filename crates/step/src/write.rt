@@ -43,7 +43,8 @@ pub(crate) fn new_entry(space: &Words, w: WriteRequest) -> Entry
 // The number is used up, and the entry stored unless the lease is 0.
 pub(crate) fn write(space: &mut Words, w: WriteRequest) -> Own
     requires { ⌜ spaceRefusal (view (now space)) (frameOf (Write w)) ≡ 0 ⌝ }
-    ensures { λ r. ⌜ Carries (writeFrame (view (now (space .entry))) (frameOf (Write w))) (now (space .exit)) (r .answer)
+    ensures { λ r. ⌜ Carries (writeFrame (view (now (space .entry))) (frameOf (Write w)))
+        (now (space .exit)) (r .answer)
         × SameBefore (r .from) (view (now (space .entry))) (view (now (space .exit))) ⌝ }
 {
     let from = entry_count(space);

@@ -9,7 +9,8 @@ use native.Mathlib.Nat.{add-zero, mul-suc, mul-le-mul-left}
 use borrow.Author.Tests.{ltb-true, leb-true, eqb-false, not-true}
 use lib.Dec.{ltb, leb, eqb}
 use lib.ListN.{length, getD, take, drop, set, length-set, length-take, length-drop, take-append-drop}
-use lib.Seq.{getD-set-same, getD-set-other, getD-take, getD-drop, drop-at, take-at, take-add, length-take-le, ext-getD, sets}
+use lib.Seq.{getD-set-same, getD-set-other, getD-take, getD-drop, drop-at, take-at, take-add, length-take-le, ext-getD}
+use lib.Seq.{sets}
 use lib.Seq.{sets-eq, length-sets}
 use Rattle.rules.specs.Words.{row}
 use Rattle.words.specs.Rows.{moveWords}
@@ -28,13 +29,10 @@ pub lent-row : (b w k : ℕ) (ws : List ℕ) → take (b + w * k + w - (b + w * 
 unfolding row
 lent-row b w k ws = let e : b + w * k + w - (b + w * k) ≡ w = omega arith in ap (λ n. take n (drop (b + w * k) ws)) e
 
--- its words, and the first
+-- its words
 pub row-word : (b w k j : ℕ) (ws : List ℕ) → j < w → getD (row b w ws k) j 0 ≡ getD ws (b + w * k + j) 0
 unfolding row
 row-word b w k j ws h = getD-take w (drop (b + w * k) ws) j 0 h ∙ getD-drop (b + w * k) ws j 0
-
-pub row-first : (b w k : ℕ) (ws : List ℕ) → 0 < w → getD (row b w ws k) 0 0 ≡ getD ws (b + w * k) 0
-row-first b w k ws h = row-word b w k 0 ws h ∙ ap (λ j. getD ws j 0) (add-zero (b + w * k))
 
 -- a row that is put is read back
 pub row-put : (b w k : ℕ) (ws r : List ℕ) → length r ≡ w → b + w * k + w ≤ length ws

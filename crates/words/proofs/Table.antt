@@ -231,7 +231,8 @@ module _ {A : Type 0} (t : Table A) where
         (omega (arith, row-within (t .width) (t .base) (suc k) (t .most) (omega arith))) in
         ap (t .read) (ext-getD 0 _ _ (a ∙ sym b) (λ j d. word-up k j p r (omega arith)))
 
-    pub removed : {ws₁ ws₂ : List ℕ} → ws₁ ≡ up → ws₂ ≡ set ws₁ (t .countAt) (c - 1) → Turned ws₂ ws (without i (all ws))
+    pub removed : {ws₁ ws₂ : List ℕ} → ws₁ ≡ up → ws₂ ≡ set ws₁ (t .countAt) (c - 1)
+        → Turned ws₂ ws (without i (all ws))
     removed e f =
         subst (λ v. Turned v ws (without i (all ws))) (sym (f ∙ ap (λ v. set v (t .countAt) (c - 1)) e))
         (record {

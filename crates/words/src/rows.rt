@@ -10,7 +10,8 @@ ghost use Rattle.rules.specs.Numbers.{maxEntries, maxTxns, maxWaits};
 ghost use Rattle.rules.specs.State.{empty, withEntries, withTxns, withWaits, withClock, withNextEntry, withNextTxn};
 ghost use Rattle.rules.specs.Words.{untilOf, untilWord, entryCount, txnCount, waitCount, view, spaceWords};
 ghost use Rattle.rules.specs.Words.{entryCountAt, txnCountAt, waitCountAt};
-ghost use Rattle.words.specs.Rows.{entryRow, txnRow, waitRow, fieldAt, putEntry, moveWords, moveTxn, moveWait, without};
+ghost use Rattle.words.specs.Rows.{entryRow, txnRow, waitRow, fieldAt, putEntry, moveWords, moveTxn};
+ghost use Rattle.words.specs.Rows.{moveWait, without};
 ghost use Rattle.words.specs.Rows.{FitsWord, emptyWords};
 use rules::Entry;
 use rules::EntryId;
@@ -259,14 +260,6 @@ pub fn entry_at(space: &Words, i: usize) -> Entry
         taken_by: TxnId(r[7]),
         readers: (r[8] % BYTE_VALUES) as u8,
     }
-}
-
-// The number of the entry in row i: the one word that a search by number reads.
-pub fn entry_id(space: &Words, i: usize) -> u32
-    requires { ⌜ i < maxEntries ⌝ }
-    ensures { λ r. ⌜ r ≡ entryRow (now (space .entry)) i .id .0 ⌝ }
-{
-    space[ENTRIES_AT + ENTRY_WIDTH * i]
 }
 
 // The end of the lease of the entry in row i, as a word: FOREVER is later than every tick.

@@ -7,7 +7,16 @@ returns : tie.Need-returns
 returns c = let image = c .before in
     let side = image .before in
     let kind = side .before in
-    rw (kind .whole-number .ensures, side .whole-number2 .ensures, image .whole-number3 .ensures, c .whole-number4 .ensures)
+    rw (
+      kind .whole-number .ensures,
+      side .whole-number2 .ensures,
+      image .whole-number3 .ensures,
+      c .whole-number4 .ensures,
+    )
 
 pub whole-fields-spec : {M : Type 1} → statement M
-whole-fields-spec = tie.close (tie.spec (λ c κs. search needs) (λ c. search needs) (λ c κs. search needs) (λ c. search needs) (λ c κs. search needs) (λ c. search needs) (λ c κs. search needs) returns)
+whole-fields-spec =
+    tie.close
+    (tie.spec
+    (λ c κs. search needs) (λ c. search needs) (λ c κs. search needs) (λ c. search needs) (λ c κs. search needs)
+    (λ c. search needs) (λ c κs. search needs) returns)

@@ -20,7 +20,8 @@ returns-2 c =
     let n = c .before .before .before .before in
     let e = n .before .before .before .pre in
     refused _ _ (c .before .head-refusal .ensures ∙ rw (c .before .before .whole-number .ensures)
-    (sym (create-head _ opCreate (sym e, omega arith, omega arith) refl (n .if1 .left ∙ n .before .length-of .ensures))))
+    (sym (create-head _ opCreate (sym e, omega arith, omega arith) refl
+    (n .if1 .left ∙ n .before .length-of .ensures))))
     (c .if2 .taken)
 
 returns-3 : tie.Need-returns-3
@@ -30,7 +31,8 @@ returns-3 c =
     let e = n .before .before .before .pre in
     rw (c .whole-number2 .ensures)
     (create-asks _ (create-head _ opCreate (sym e, omega arith, omega arith) refl
-    (n .if1 .left ∙ n .before .length-of .ensures) ∙ sym (rw (head .before .whole-number .ensures) at (head .head-refusal .ensures))
+    (n .if1 .left ∙ n .before .length-of .ensures)
+    ∙ sym (rw (head .before .whole-number .ensures) at (head .head-refusal .ensures))
     ∙ c .before .before .if2 .left) e)
 
 pub decode-create-spec : {M : Type 1} → statement M

@@ -19,7 +19,8 @@ returns-2 : tie.Need-returns-2
 returns-2 c =
     let n = c .before .before .before in
     let e = n .before .before .before .pre in
-    refused _ _ (c .before .head-refusal .ensures ∙ sym (plain-head _ opWrite (sym e, omega arith, omega arith) refl refl
+    refused _ _ (c .before .head-refusal .ensures
+    ∙ sym (plain-head _ opWrite (sym e, omega arith, omega arith) refl refl
     (n .if1 .left ∙ n .before .length-of .ensures))) (c .if2 .taken)
 
 returns-3 : tie.Need-returns-3
@@ -29,7 +30,8 @@ returns-3 c =
     let e = n .before .before .before .pre in
     rw (txn .whole-number .ensures, c .whole-number2 .ensures, c .before .before .whole-fields .ensures)
     (write-asks _ (plain-head _ opWrite (sym e, omega arith, omega arith) refl refl
-    (n .if1 .left ∙ n .before .length-of .ensures) ∙ sym (txn .before .before .head-refusal .ensures) ∙ txn .before .if2 .left) e)
+    (n .if1 .left ∙ n .before .length-of .ensures) ∙ sym (txn .before .before .head-refusal .ensures)
+    ∙ txn .before .if2 .left) e)
 
 pub decode-write-spec : {M : Type 1} → statement M
 unfolding frameLength layoutOf

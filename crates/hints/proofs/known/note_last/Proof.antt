@@ -29,9 +29,22 @@ returns-2 c =
       weaker-then (l .0) (f .0),
       λ vs w e.
           let r = row-last (waits-read (start .args .space .now)) vs w e in
-          let q = r .1 ∙ ap (waitRow (start .args .space .now)) (omega (arith, at .before .before .wait-count .ensures)) ∙ sym (at .wait-at .ensures) in
-          subst⁻¹ (λ (v : LookUp). NotBefore (least (c .flag-party .last .0)) (v .deadline) × Flagged (c .flag-party .last .0) v) q
-          (word-not-before _ (omega (arith, f .2, l .1, s, ap (λ (v : LookUp). untilWord (v .deadline)) (at .wait-at .ensures))), f .1),
+          let hs = c .flag-party .last .0 in
+          let q =
+          r .1
+          ∙ ap (waitRow (start .args .space .now)) (omega (arith, at .before .before .wait-count .ensures))
+          ∙ sym (at .wait-at .ensures) in
+          subst⁻¹ (λ (v : LookUp). NotBefore (least hs) (v .deadline) × Flagged hs v) q (
+            word-not-before _ (omega (
+              arith,
+              f .2,
+              l .1,
+              s,
+              ap (λ (v : LookUp). untilWord (v .deadline))
+                  (at .wait-at .ensures),
+            )),
+            f .1,
+          ),
     )
 
 pub note-last-spec : {M : Type 1} → statement M

@@ -1,4 +1,5 @@
--- `hints::renew::txns_end` meets its contract. The loop's invariant: no row passed ends before the tick. Assumes nothing.
+-- `hints::renew::txns_end` meets its contract. The loop's invariant: no row passed ends before the tick. Assumes
+-- nothing.
 use Prim.Native.Nat.{_≤_, _-_}
 use mathlib.Core.Path.{refl}
 use native.Mathlib.Omega.{arith}

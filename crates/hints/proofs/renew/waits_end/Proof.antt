@@ -1,4 +1,5 @@
--- `hints::renew::waits_end` meets its contract. The loop's invariant: no row passed ends before the tick. Assumes nothing.
+-- `hints::renew::waits_end` meets its contract. The loop's invariant: no row passed ends before the tick. Assumes
+-- nothing.
 use Prim.Native.Nat.{_≤_, _-_}
 use mathlib.Core.Path.{refl}
 use native.Mathlib.Omega.{arith}
@@ -26,7 +27,8 @@ loop-again c =
     let i = l .inv in
     let s = c .sooner .ensures in
     let x = waitRow (c .before .before .before .before .before .args .space .now) (l .i) in
-    let ends = word-not-before {n = c .sooner .result} (x .deadline) (omega (arith, s .1, c .before .wait-end .ensures)) in
+    let ends = word-not-before {n = c .sooner .result} (x .deadline)
+    (omega (arith, s .1, c .before .wait-end .ensures)) in
     let more = passed-more (i .2) (λ y p. sooner-still _ (s .0) p) refl ends in
     (omega arith, omega (arith, s .0, i .1), more)
 

@@ -22,7 +22,8 @@ abbrev μ-loop : tie.MeasureT-loop
 loop-holds : tie.Need-loop-holds Inv-loop μ-loop
 loop-holds c =
     let a = c .before .before .before .args in
-    search-on _ (a .w .mask) (a .w .fields) (c .before .asked-of .ensures) (conflicts (view (a .space .now) .txns) (a .w))
+    search-on _ (a .w .mask) (a .w .fields) (c .before .asked-of .ensures)
+    (conflicts (view (a .space .now) .txns) (a .w))
     (only-conflicting (view (a .space .now) .txns) (a .w)) search-start (c .next-row .ensures .1)
 
 returns : tie.Need-returns Inv-loop μ-loop
@@ -39,7 +40,8 @@ loop-again c =
     let a = l .before .before .before .before .args in
     let test = sym (seen .is-conflicting .ensures) ∙ c .before .if1 .left in
     search-past _ (a .w .mask) (a .w .fields) (l .before .before .asked-of .ensures)
-    (conflicts (view (a .space .now) .txns) (a .w)) (only-conflicting (view (a .space .now) .txns) (a .w)) (l .loop .inv)
+    (conflicts (view (a .space .now) .txns) (a .w)) (only-conflicting (view (a .space .now) .txns) (a .w))
+    (l .loop .inv)
     (ap (conflicts (view (a .space .now) .txns) (a .w)) (sym (seen .before .entry-at .ensures)) ∙ test)
     (c .next-row2 .ensures .1)
 
@@ -54,5 +56,7 @@ returns-2 c =
 pub any-conflict-spec : {M : Type 1} → statement M
 any-conflict-spec =
     tie.close
-    (tie.spec Inv-loop μ-loop (λ c κs. search needs) (λ c κs. search needs) (λ c κs. omega arith) loop-holds
-    (λ c κs. omega arith) (λ c κs. search needs) returns (λ c. omega arith) (λ c κs. omega arith) loop-less loop-again returns-2)
+    (tie.spec
+    Inv-loop μ-loop (λ c κs. search needs) (λ c κs. search needs) (λ c κs. omega arith) loop-holds
+    (λ c κs. omega arith) (λ c κs. search needs) returns (λ c. omega arith) (λ c κs. omega arith) loop-less loop-again
+    returns-2)

@@ -22,7 +22,8 @@ abbrev μ-loop : tie.MeasureT-loop
 loop-holds : tie.Need-loop-holds Inv-loop μ-loop
 loop-holds c =
     let a = c .before .before .before .args in
-    search-on _ (a .w .mask) (a .w .fields) (c .before .asked-of .ensures) (available (view (a .space .now) .txns) (a .w))
+    search-on _ (a .w .mask) (a .w .fields) (c .before .asked-of .ensures)
+    (available (view (a .space .now) .txns) (a .w))
     (only-available (view (a .space .now) .txns) (a .w)) search-start (c .next-row .ensures .1)
 
 returns : tie.Need-returns Inv-loop μ-loop
@@ -31,7 +32,8 @@ returns c =
     let test = sym (c .before .is-available .ensures) ∙ c .if1 .taken in
     let is = c .before .before .entry-at .ensures in
     let count = l .before .before .before .entry-count .ensures .0 in (
-      sym (search-found (entries-read (l .before .before .before .before .args .space .now)) (l .loop .inv) (omega arith) is
+      sym (search-found (entries-read (l .before .before .before .before .args .space .now)) (l .loop .inv)
+          (omega arith) is
           test),
       (omega (arith, count), is),
     )
@@ -52,11 +54,16 @@ loop-less c = omega (arith, c .next-row2 .ensures .0)
 
 returns-2 : tie.Need-returns-2 Inv-loop μ-loop
 returns-2 c =
-    let l = c .before in
-    (sym (search-none (entries-read (l .before .before .before .before .args .space .now)) (l .loop .inv) (omega arith)), tt)
+    let l = c .before in (
+      sym (search-none (entries-read (l .before .before .before .before .args .space .now)) (l .loop .inv)
+          (omega arith)),
+      tt,
+    )
 
 pub find-available-spec : {M : Type 1} → statement M
 find-available-spec =
     tie.close
-    (tie.spec Inv-loop μ-loop (λ c κs. search needs) (λ c κs. search needs) (λ c κs. omega arith) loop-holds
-    (λ c κs. omega arith) (λ c κs. search needs) returns (λ c. omega arith) (λ c κs. omega arith) loop-less loop-again returns-2)
+    (tie.spec
+    Inv-loop μ-loop (λ c κs. search needs) (λ c κs. search needs) (λ c κs. omega arith) loop-holds
+    (λ c κs. omega arith) (λ c κs. search needs) returns (λ c. omega arith) (λ c κs. omega arith) loop-less loop-again
+    returns-2)

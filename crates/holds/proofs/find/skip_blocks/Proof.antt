@@ -16,8 +16,11 @@ abbrev μ-loop : tie.MeasureT-loop
 
 loop-again : tie.Need-loop-again Inv-loop μ-loop
 loop-again c =
-    let r = c .before .row-in-block .ensures in
-    (omega arith, passes-on (passes-on (c .before .before .before .loop .inv .1) (r .1)) (passes-none (omega (arith, r .0))))
+    let r = c .before .row-in-block .ensures in (
+      omega arith,
+      passes-on (passes-on (c .before .before .before .loop .inv .1) (r .1))
+          (passes-none (omega (arith, r .0))),
+    )
 
 pub skip-blocks-spec : {M : Type 1} → statement M
 skip-blocks-spec =

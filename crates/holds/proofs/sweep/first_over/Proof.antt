@@ -34,7 +34,8 @@ loop-again c =
     let a = c .before .before .before .before .before .args in
     let l = c .before .before .before .before .loop in
     let ended = sym (c .before .reached-at .ensures) ∙ c .if1 .left in
-    let kept = ap not (ap (λ (e : Entry). reached (a .clock) (e .end)) (sym (c .before .before .entry-at .ensures)) ∙ ended) in
+    let kept = ap not (ap (λ (e : Entry). reached (a .clock) (e .end)) (sym (c .before .before .entry-at .ensures))
+    ∙ ended) in
     (omega arith, one-more (a .space .now) (a .clock) (l .i) (l .inv .1) kept)
 
 returns-2 : tie.Need-returns-2 Inv-loop μ-loop

@@ -49,7 +49,8 @@ returns c =
     let count = begin .before .before .entry-count .ensures in
     let first = begin .first-touched .ensures in
     let done =
-    sweep-done (a .s) (c .before .before .before .loop .inv .1) (count .1) (omega arith) (c .set-entry-count .ensures) in
+    sweep-done (a .s) (c .before .before .before .loop .inv .1) (count .1) (omega arith) (c .set-entry-count .ensures)
+    in
     let r = begin .first-touched .result in
     let same = same-before (a .s) (a .space .now) r (omega (arith, first .0, count .0)) (first .1) in
     (done .0, done .1, subst⁻¹ (SameBefore r (view (a .space .now))) (done .0) same)
@@ -57,6 +58,7 @@ returns c =
 pub pass-over-spec : {M : Type 1} → statement M
 pass-over-spec =
     tie.close
-    (tie.spec Inv-loop μ-loop (λ c κs. tt) (λ c κs. (c .before .before .before .pre, omega arith)) loop-holds (λ c κs. omega arith) (λ c κs. tt)
-    keep-entry-requires (λ c. omega arith) (λ c. omega arith) (λ c. omega arith) loop-again
-    (λ c κs. omega (arith, c .before .before .loop .inv .1 .behind)) returns)
+    (tie.spec
+    Inv-loop μ-loop (λ c κs. tt) (λ c κs. (c .before .before .before .pre, omega arith)) loop-holds
+    (λ c κs. omega arith) (λ c κs. tt) keep-entry-requires (λ c. omega arith) (λ c. omega arith) (λ c. omega arith)
+    loop-again (λ c κs. omega (arith, c .before .before .loop .inv .1 .behind)) returns)

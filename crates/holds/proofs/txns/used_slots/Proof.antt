@@ -46,5 +46,5 @@ pub used-slots-spec : {M : Type 1} → statement M
 used-slots-spec =
     tie.close
     (tie.spec
-    Inv-loop μ-loop (λ c κs. tt) (λ c. (omega arith, used-none)) (λ c κs. omega arith) add-reader-requires (λ c. omega arith)
-    (λ c. omega arith) loop-again returns)
+    Inv-loop μ-loop (λ c κs. tt) (λ c. (omega arith, used-none)) (λ c κs. omega arith) add-reader-requires
+    (λ c. omega arith) (λ c. omega arith) loop-again returns)

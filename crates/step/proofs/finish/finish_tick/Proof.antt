@@ -50,5 +50,6 @@ returns c =
 pub finish-tick-spec : {M : Type 1} → statement M
 finish-tick-spec =
     tie.close
-    (tie.spec (λ c κs. search needs) (λ c. omega (arith, c .before .before .before .before .lapse .ensures .adds .counts))
+    (tie.spec
+    (λ c κs. search needs) (λ c. omega (arith, c .before .before .before .before .lapse .ensures .adds .counts))
     serve-ended-requires close-waits-requires (λ c. search needs) returns)

@@ -22,4 +22,5 @@ returns c =
 pub serve-spec : {M : Type 1} → statement M
 serve-spec =
     tie.close
-    (tie.spec (λ c κs. tt) returns (λ c κs. search needs) (λ c. search needs) (λ c. c .before .before .serve-waits .ensures))
+    (tie.spec
+    (λ c κs. tt) returns (λ c κs. search needs) (λ c. search needs) (λ c. c .before .before .serve-waits .ensures))

@@ -28,7 +28,8 @@ returns c =
     let closed = c .before .before in
     let served = closed .before .before .before .before .before in
     let start = served .before .before .before .before in
-    finish-parts (start .args .space .now) Both (start .args .from) (omega (arith, start .pre)) (does-nothing _ _ _) refl
+    finish-parts (start .args .space .now) Both (start .args .from) (omega (arith, start .pre)) (does-nothing _ _ _)
+    refl
     (served .serve .ensures) (closed .close-in-vain .ensures)
 
 pub serve-and-close-spec : {M : Type 1} → statement M

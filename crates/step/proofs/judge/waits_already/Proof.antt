@@ -21,7 +21,8 @@ abbrev μ-loop : tie.MeasureT-loop
 returns : tie.Need-returns Inv-loop μ-loop
 returns c =
     let start = c .before .before in
-    sym (unflagged-waits (start .args .party) (start .args .leaving .0) (start .pre) (c .before .may-wait .ensures (not-true _ (c .if1 .taken))))
+    sym (unflagged-waits (start .args .party) (start .args .leaving .0) (start .pre)
+    (c .before .may-wait .ensures (not-true _ (c .if1 .taken))))
 
 loop-holds : tie.Need-loop-holds Inv-loop μ-loop
 loop-holds c = (omega arith, search-start)
@@ -29,7 +30,8 @@ loop-holds c = (omega arith, search-start)
 returns-2 : tie.Need-returns-2 Inv-loop μ-loop
 returns-2 c =
     let loop = c .before .before .before .before in
-    sym (search-any (waits-read (loop .before .before .before .before .args .space .now)) (loop .loop .inv .1) (omega arith)
+    sym (search-any (waits-read (loop .before .before .before .before .args .space .now)) (loop .loop .inv .1)
+    (omega arith)
     (c .before .before .wait-at .ensures) (sym (c .before .is-barring .ensures) ∙ c .if2 .taken))
 
 loop-again : tie.Need-loop-again Inv-loop μ-loop
@@ -41,7 +43,8 @@ loop-again c = (
 
 returns-3 : tie.Need-returns-3 Inv-loop μ-loop
 returns-3 c =
-    sym (search-no (waits-read (c .before .before .before .before .before .args .space .now)) (c .before .loop .inv .1) (omega arith))
+    sym (search-no (waits-read (c .before .before .before .before .before .args .space .now))
+    (c .before .loop .inv .1) (omega arith))
 
 pub waits-already-spec : {M : Type 1} → statement M
 waits-already-spec =

@@ -13,7 +13,8 @@ returns c =
     let start = taken .before .before .before .before .before .before in
     let q = Abort (start .args .party) (start .args .id) in (
       taken .take-abort .ensures,
-      stays-reliable (start .pre .0) (taken .take-abort .ensures) (start .pre .2) (follows-same (frameOf q) refl refl refl),
+      stays-reliable (start .pre .0) (taken .take-abort .ensures) (start .pre .2)
+          (follows-same (frameOf q) refl refl refl),
     )
 
 pub abort-frame-spec : {M : Type 1} → statement M

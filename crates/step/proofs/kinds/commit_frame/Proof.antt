@@ -13,7 +13,8 @@ returns c =
     let start = taken .before .before .before .before .before .before in
     let q = Commit (start .args .party) (start .args .id) in (
       taken .take-commit .ensures,
-      stays-reliable (start .pre .0) (taken .take-commit .ensures) (start .pre .2) (follows-same (frameOf q) refl refl refl),
+      stays-reliable (start .pre .0) (taken .take-commit .ensures) (start .pre .2)
+          (follows-same (frameOf q) refl refl refl),
     )
 
 pub commit-frame-spec : {M : Type 1} → statement M

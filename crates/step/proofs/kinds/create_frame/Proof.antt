@@ -18,8 +18,12 @@ returns c =
     let start = lease .before .before .before .before .before .before in (
       taken .take-create .ensures,
       stays-reliable (start .pre .0) (taken .take-create .ensures) (start .pre .2)
-          (follows-create (start .args .party) (start .args .lease) (lease .before .clock .ensures) (lease .note-lease .ensures)),
+          (follows-create (start .args .party) (start .args .lease) (lease .before .clock .ensures)
+          (lease .note-lease .ensures)),
     )
 
 pub create-frame-spec : {M : Type 1} → statement M
-create-frame-spec = tie.close (tie.spec (λ c κs. search needs) (λ c κs. search needs) take-create-requires (λ c. search needs) returns)
+create-frame-spec =
+    tie.close
+    (tie.spec
+    (λ c κs. search needs) (λ c κs. search needs) take-create-requires (λ c. search needs) returns)

@@ -22,4 +22,7 @@ returns c =
     )
 
 pub find-frame-spec : {M : Type 1} → statement M
-find-frame-spec = tie.close (tie.spec (λ c κs. search needs) take-find-requires (λ c κs. search needs) (λ c. search needs) returns)
+find-frame-spec =
+    tie.close
+    (tie.spec
+    (λ c κs. search needs) take-find-requires (λ c κs. search needs) (λ c. search needs) returns)

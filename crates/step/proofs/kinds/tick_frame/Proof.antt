@@ -13,7 +13,8 @@ returns c =
     let taken = c .before .before .before .before .before in
     let start = taken .before .before .before .before .before .before in
     let stays =
-    stays-reliable (start .pre .0) (taken .take-tick .ensures) (start .pre .2) (follows-same (frameOf Tick) refl refl refl) in
+    stays-reliable (start .pre .0) (taken .take-tick .ensures) (start .pre .2)
+    (follows-same (frameOf Tick) refl refl refl) in
     (taken .take-tick .ensures, λ s. renewed-reliable (c .renew-reached .ensures) (stays s))
 
 pub tick-frame-spec : {M : Type 1} → statement M

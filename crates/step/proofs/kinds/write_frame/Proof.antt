@@ -28,4 +28,7 @@ returns c =
 
 pub write-frame-spec : {M : Type 1} → statement M
 write-frame-spec =
-    tie.close (tie.spec (λ c κs. search needs) (λ c κs. search needs) (λ c κs. search needs) take-write-requires (λ c. search needs) returns)
+    tie.close
+    (tie.spec
+    (λ c κs. search needs) (λ c κs. search needs) (λ c κs. search needs) take-write-requires (λ c. search needs)
+    returns)

@@ -9,7 +9,8 @@ use Rattle.rules.specs.Numbers.{recordSize}
 use Rattle.rules.specs.Words.{waitCount}
 use Rattle.words.proofs.SearchLaws.{from-start}
 use Rattle.step.proofs.TurnLaws.{Turns, turns-none, turns-still, turn-length, turn-room, turn-found}
-use Rattle.step.proofs.TurnLaws.{turn-waits, turns-done, Looking, looking-on, looking-more, looking-found, looking-none}
+use Rattle.step.proofs.TurnLaws.{turn-waits, turns-done, Looking, looking-on, looking-more, looking-found}
+use Rattle.step.proofs.TurnLaws.{looking-none}
 use Rattle.step.proofs.service.serve_waits.Statement.{statement}
 use Rattle.step.proofs.service.serve_waits.Tie as tie
 
@@ -111,7 +112,8 @@ returns : tie.Need-returns Inv-loop μ-loop Inv-waiting μ-waiting
 returns c = turns-done (c .before .before .before .waiting .inv .1) (omega arith) (c .set-wait-count .ensures)
 
 -- once its record stands
-abbrev search : tie.After-slice-known2 Inv-loop μ-loop Inv-waiting μ-waiting → tie.At-loop Inv-loop μ-loop Inv-waiting μ-waiting
+abbrev search : tie.After-slice-known2 Inv-loop μ-loop Inv-waiting μ-waiting
+    → tie.At-loop Inv-loop μ-loop Inv-waiting μ-waiting
 search c =
     c .before .before .before .before .before .before .before .before .before .before .before .before .before .before
     .before

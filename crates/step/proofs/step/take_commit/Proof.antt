@@ -24,7 +24,8 @@ returns-2 c =
     let start = test .before .before .before .before .before in
     stepped-commit (start .args .space .now) (start .args .answers .now) (start .pre .1) (start .pre .2)
     (idle .before .is-idle .ensures (idle .if2 .taken)) (carried .commit-idle .ensures .0) (start .pre .0)
-    (sym (test .before .commit-refusal .ensures) ∙ test .if1 .left) (carried .commit-idle .ensures .1) (own .add-record .ensures)
+    (sym (test .before .commit-refusal .ensures) ∙ test .if1 .left) (carried .commit-idle .ensures .1)
+    (own .add-record .ensures)
 
 returns-3 : tie.Need-returns-3
 unfolding ownPart

@@ -43,8 +43,10 @@ returns-2 c =
     let start = test .before .before .before .before .before in
     let l = start .args .l in
     let ws = carried .find .last .0 in
-    stepped-done (start .pre .1) (start .pre .0) 0 (sym (test .before .find-refusal .ensures) ∙ test .if1 .left)
-    (λ ready. carries-as _ _ (own-find _ l) (carried .find .ensures (ready (looks-up (l .takes) (l .«if_exists»)))), refl)
+    stepped-done (start .pre .1) (start .pre .0) 0 (sym (test .before .find-refusal .ensures) ∙ test .if1 .left) (
+      λ ready. carries-as _ _ (own-find _ l) (carried .find .ensures (ready (looks-up (l .takes) (l .«if_exists»)))),
+      refl,
+    )
     (own .add-record .ensures) Nothings (find-ends l Nothings refl refl (sym (inside .if2 .taken)))
     (does-as (sym (nothings-end 0 (view ws) (view-bounded ws .entries-fit))) (closed .close-in-vain .ensures))
 
@@ -56,8 +58,10 @@ returns-3 c =
     let start = test .before .before .before .before .before in
     let l = start .args .l in
     let ws = carried .find .last .0 in
-    stepped-done (start .pre .1) (start .pre .0) 0 (sym (test .before .find-refusal .ensures) ∙ test .if1 .left)
-    (λ ready. carries-as _ _ (own-find _ l) (carried .find .ensures (ready (looks-up (l .takes) (l .«if_exists»)))), refl)
+    stepped-done (start .pre .1) (start .pre .0) 0 (sym (test .before .find-refusal .ensures) ∙ test .if1 .left) (
+      λ ready. carries-as _ _ (own-find _ l) (carried .find .ensures (ready (looks-up (l .takes) (l .«if_exists»)))),
+      refl,
+    )
     (own .add-record .ensures) Quiet (find-ends l Quiet refl refl (sym (c .if2 .left)))
     (does-as (sym (quiet-ends 0 (view ws) (view-bounded ws .entries-fit))) (does-nothing _ _ _))
 

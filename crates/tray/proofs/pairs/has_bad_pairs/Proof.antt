@@ -6,7 +6,8 @@ use native.Mathlib.Omega.{arith}
 use lib.ListN.{length}
 use Rattle.rules.specs.Numbers.{maxFrames}
 use Rattle.rules.specs.Tray.{frameCount}
-use Rattle.tray.proofs.PairsJudged.{few-frames, pair-there, Judging, judging-none, begins-early, runs-past, judging-more}
+use Rattle.tray.proofs.PairsJudged.{few-frames, pair-there, Judging, judging-none, begins-early, runs-past}
+use Rattle.tray.proofs.PairsJudged.{judging-more}
 use Rattle.tray.proofs.PairsJudged.{judging-all}
 use Rattle.tray.proofs.pairs.has_bad_pairs.Statement.{statement}
 use Rattle.tray.proofs.pairs.has_bad_pairs.Tie as tie

@@ -29,8 +29,14 @@ loop-holds c =
     let counted = c .before .before .before .before in
     let start = counted .before .before .before in
     let few = few-frames _ (passes (start .args .tray .now) (start .pre) .0) in
-    let count = counted .pair-count .ensures in
-    (running-none (c .before .before .set-empty .ensures .0) (c .know-empty .ensures), count, omega (arith, count, few), omega arith, refl)
+    let count = counted .pair-count .ensures in (
+      running-none (c .before .before .set-empty .ensures .0) (c .know-empty .ensures),
+      count,
+      omega
+          (arith, count, few),
+      omega arith,
+      refl,
+    )
 
 packed-requires : tie.Need-packed-requires Inv-loop μ-loop
 packed-requires c κs = omega (arith, c .before .before .loop .inv .0 .few)
@@ -91,7 +97,8 @@ pub run-frames-spec : {M : Type 1} → statement M
 run-frames-spec =
     tie.close
     (tie.spec
-    Inv-loop μ-loop (λ c κs. tt) (λ c κs. tt) (λ c κs. tt) loop-holds (λ c. omega arith) (λ c. omega arith) packed-requires
-    (λ c. search needs) returns pair-at-requires (λ c. omega arith) (λ c. omega arith) part-step-hinted-end
-    (λ c. omega arith) (λ c. omega arith) (λ c. omega arith) step-hinted-requires (λ c. omega arith) (λ c. omega arith)
-    (λ c. omega arith) loop-again packed-requires-2 (λ c. search needs) returns-2)
+    Inv-loop μ-loop (λ c κs. tt) (λ c κs. tt) (λ c κs. tt) loop-holds (λ c. omega arith) (λ c. omega arith)
+    packed-requires (λ c. search needs) returns pair-at-requires (λ c. omega arith) (λ c. omega arith)
+    part-step-hinted-end (λ c. omega arith) (λ c. omega arith) (λ c. omega arith) step-hinted-requires
+    (λ c. omega arith) (λ c. omega arith) (λ c. omega arith) loop-again packed-requires-2 (λ c. search needs)
+    returns-2)
