@@ -7,14 +7,22 @@ set -euo pipefail
 cd "$(dirname "$0")/.."
 . host/build.sh
 
-what=times runs=7 form=()
+usage() {
+    sed -n '3,5s/^# *//p' host/bench.sh
+    exit 2
+}
+
+what=times runs='' form=()
 for word in "$@"; do
     case $word in
         --markdown) form=("$word") ;;
         count) what=$word ;;
+        *[!0-9]* | 0) usage ;;
         *) runs=$word ;;
     esac
 done
+[ "$what" = times ] || [ -z "$runs" ] || usage
+runs=${runs:-7}
 
 build_behind() { # PADDING: the program with so many bytes before its code
     CARGO_TARGET_DIR=$out/behind-$1 BENCH_PADDING=$1 build_rust harness --bin bench

@@ -73,6 +73,7 @@ pub fn may_wait(hints: &Hints, party: u8) -> bool
     hints[FLAGS_AT + party as usize % FLAGS] != 0
 }
 
+// Of two ticks the sooner: not after either.
 pub(crate) fn sooner(a: u32, b: u32) -> u32
     ensures { λ r. ⌜ (r ≤ a) × (r ≤ b) ⌝ }
 {
@@ -138,7 +139,7 @@ pub(crate) fn flag_party(hints: &mut Hints, party: u8)
     hints[FLAGS_AT + party as usize % FLAGS] = 1;
 }
 
-// Nobody waits, and nothing ends before the tick.
+// Ends by the tick, and no flag: those who wait are flagged next.
 pub(crate) fn set_least(hints: &mut Hints, tick: u32)
     ensures { λ _. ⌜ (least (now (hints .exit)) ≡ tick) × (acted (now (hints .exit)) ≡ acted (now (hints .entry))) ⌝ }
 {

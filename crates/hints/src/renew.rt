@@ -20,7 +20,7 @@ use words::rows::wait_at;
 use words::rows::wait_count;
 use words::rows::wait_end;
 
-// The least end of all entries' leases.
+// A tick before which no entry's lease ends: the least of all.
 pub(crate) fn entries_end(space: &Words) -> u32
     ensures { λ r. ⌜ All (λ e. NotBefore r (e .end)) (view (now (space .entry)) .entries) ⌝ }
 {
@@ -34,7 +34,7 @@ pub(crate) fn entries_end(space: &Words) -> u32
     least
 }
 
-// The least of a tick and of all transactions' leases.
+// And no transaction's, up to a tick.
 pub(crate) fn txns_end(space: &Words, tick: u32) -> u32
     ensures { λ r. ⌜ (r ≤ tick) × All (λ t. NotBefore r (t .end)) (view (now (space .entry)) .txns) ⌝ }
 {
@@ -48,7 +48,7 @@ pub(crate) fn txns_end(space: &Words, tick: u32) -> u32
     least
 }
 
-// The least of a tick and of all deadlines.
+// Nor is anyone's deadline reached before it.
 pub(crate) fn waits_end(space: &Words, tick: u32) -> u32
     ensures { λ r. ⌜ (r ≤ tick) × All (λ w. NotBefore r (w .deadline)) (view (now (space .entry)) .waits) ⌝ }
 {
