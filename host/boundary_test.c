@@ -1,6 +1,6 @@
 /* Document 01's sample tray through the C boundary, byte by byte, and its printed lines to standard output; null
  * pointers; what each function leaves in its buffers; the headers' builders, names and layout of the words; the lengths
- * of frames; the oldest entry first. */
+ * of frames; the oldest entry first; blanks. */
 #include <stdlib.h>
 #include "lines.h"
 #include "space_frames.h"
@@ -84,6 +84,8 @@ static void build_frames(void)
     check(space_frame_write(frame, 1, mark, 5, 0) == 28 && memcmp(frame, sample + 28, 28) == 0, "a write's frame");
     check(space_frame_look_up(frame, SPACE_OP_TAKE, 2, SPACE_MASK_KIND, mark, 0, 0) == 28 &&
           memcmp(frame, sample + 56, 28) == 0, "a take's frame, with fields that are not asked for");
+    check(space_frame_write_blanks(frame, 1, SPACE_MASK_PLACE, mark, 5, 0) == 28 && frame[2] == 8 &&
+          memcmp(frame + 3, sample + 31, 21) == 0 && all(frame + 24, 4, 0), "a write's frame, its place blank");
     check(space_frame_tick(frame) == 4 && memcmp(frame, sample + 84, 4) == 0, "a tick's frame");
     check(space_frame_create(frame, 3, 258) == 12 &&
           memcmp(frame, (uint8_t[]){6, 3, 0, 0, 0, 0, 0, 0, 2, 1, 0, 0}, 12) == 0, "a create's frame");
@@ -139,11 +141,12 @@ static void read_words(void)
 {
     space_empty(space);
     step(space_frame_tick(frame));
-    for (uint32_t lease = 5; lease <= 7; lease++)
-        step(space_frame_write(frame, 1, mark, lease, 0));                  /* entries 1 to 3, ends 6 to 8 */
+    step(space_frame_write(frame, 1, mark, 5, 0));                          /* entry 1, ends at 6 */
+    step(space_frame_write_blanks(frame, 1, SPACE_MASK_KIND | SPACE_MASK_IMAGE, mark, 6, 0)); /* entry 2, ends at 7 */
+    step(space_frame_write(frame, 1, mark, 7, 0));                          /* entry 3, ends at 8 */
     step(space_frame_create(frame, 2, 9));                                  /* transaction 1, ends at 10 */
     step(space_frame_create(frame, 3, SPACE_FOREVER));                      /* transaction 2 */
-    step(space_frame_write(frame, 3, mark, SPACE_FOREVER, 2));              /* entry 4, private to 2 */
+    step(space_frame_write_blanks(frame, 3, SPACE_MASK_IMAGE, mark, SPACE_FOREVER, 2)); /* entry 4, private to 2 */
     step(space_frame_look_up(frame, SPACE_OP_TAKE, 2, 0, mark, 0, 1));      /* entry 1 */
     step(space_frame_look_up(frame, SPACE_OP_READ, 3, 0, mark, 0, 2));      /* entry 2 */
     step(space_frame_look_up(frame, SPACE_OP_TAKE_IF_EXISTS, 4, SPACE_MASK_SIDE | SPACE_MASK_PLACE, mark, 3, 0));
@@ -160,9 +163,12 @@ static void read_words(void)
     check(row_is(SPACE_WAITING_AT, SPACE_WAITING_WORDS, 0,
                  (uint32_t[]){5, SPACE_OP_TAKE, SPACE_MASK_SIDE, 0, 2, 0, 0, 0, 4}), "the waiting look-up's row");
     check(row_is(SPACE_ENTRIES_AT, SPACE_ENTRY_WORDS, 0, (uint32_t[]){1, 7, 1, 40, 9, 6, 0, 1, 0}) &&
-          row_is(SPACE_ENTRIES_AT, SPACE_ENTRY_WORDS, 1, (uint32_t[]){2, 7, 1, 40, 9, 7, 0, 0, 2}) &&
-          row_is(SPACE_ENTRIES_AT, SPACE_ENTRY_WORDS, 2, (uint32_t[]){4, 7, 1, 40, 9, SPACE_FOREVER, 2, 0, 0}),
+          row_is(SPACE_ENTRIES_AT, SPACE_ENTRY_WORDS, 1, (uint32_t[]){2, 0, 1, 0, 9, 7, 0, 0, 2 + 256 * 5}) &&
+          row_is(SPACE_ENTRIES_AT, SPACE_ENTRY_WORDS, 2, (uint32_t[]){4, 7, 1, 0, 9, SPACE_FOREVER, 2, 0, 256 * 4}),
           "the entries' rows");
+    const uint32_t *second = space + SPACE_ENTRIES_AT + SPACE_ENTRY_WORDS;
+    check(space_entry_readers(second) == 2 && space_entry_blanks(second) == (SPACE_MASK_KIND | SPACE_MASK_IMAGE),
+          "readers and blanks by name");
     check(SPACE_WORDS == 758, "the words of a space");
 }
 
@@ -207,6 +213,76 @@ static void serve_oldest(void)
     }
 }
 
+/* A write's frame with this mask; one field is 1, or none if there is no such, and the others 0. */
+static size_t put_write(uint8_t mask, int field, uint32_t lease)
+{
+    size_t length = space_frame_write(frame, 1, (uint32_t[4]){0}, lease, 0);
+    frame[2] = mask;
+    if (field < 4)
+        frame[SPACE_FRAME_AT_FIELDS + 4 * field] = 1;
+    return length;
+}
+
+/* Every mask of a write, with every field filled in turn and with none, stored or not; and of the frames that have no
+ * blanks. */
+static void judge_masks(void)
+{
+    for (unsigned mask = 0; mask < 256; mask++) {
+        for (int field = 0; field <= 4; field++)
+            for (uint32_t lease = 0; lease < 2; lease++) {
+                space_empty(space);
+                uint32_t wanted_number = mask > 15 || mask >> field & 1 ? SPACE_REFUSAL_BAD_FORM : 0;
+                struct space_record record = step(put_write((uint8_t)mask, field, lease));
+                check(record.refusal == wanted_number, "4, by a write's mask");
+                check(record.blanks == 0, "no blanks in a written or a refused");
+                uint32_t stored = wanted_number ? 0 : lease;
+                check(space[SPACE_WORD_ENTRY_COUNT] == stored, "stored, if it has a lease");
+                check(!stored || space_entry_blanks(space + SPACE_ENTRIES_AT) == mask, "the mask is the blanks");
+            }
+        for (uint8_t operation = SPACE_OP_CREATE; operation <= SPACE_OP_TICK; operation++) {
+            size_t length = space_frame(frame, operation, operation == SPACE_OP_TICK ? 0 : 1);
+            frame[2] = (uint8_t)mask;
+            check((step(length).refusal == SPACE_REFUSAL_BAD_FORM) == (mask != 0), "4, by another frame's mask");
+        }
+    }
+}
+
+/* All blanks against all templates that ask 0: found exactly if no blank is asked for, with the blanks in byte 3. */
+static void find_blanks(void)
+{
+    static const uint32_t zeros[4];
+    for (uint8_t blanks = 0; blanks < 16; blanks++)
+        for (uint8_t mask = 0; mask < 16; mask++)
+            for (uint8_t operation = SPACE_OP_READ; operation <= SPACE_OP_TAKE_IF_EXISTS; operation++) {
+                space_empty(space);
+                step(space_frame_write_blanks(frame, 1, blanks, zeros, 1, 0));
+                struct space_record record = step(space_frame_look_up(frame, operation, 2, mask, zeros, 0, 0));
+                int matches = (blanks & mask) == 0;
+                check(record.kind == (matches ? SPACE_RECORD_FOUND : SPACE_RECORD_NOTHING), "a blank never matches 0");
+                check(record.blanks == (matches ? blanks : 0), "a found's blanks");
+            }
+}
+
+/* Blanks through a take that is put back and a commit, to look-ups that wait: one asks 0 of the blank and waits on. */
+static void serve_blanks(void)
+{
+    const uint32_t asked[4] = {7, 0, 0, 0};
+    space_empty(space);
+    step(space_frame_create(frame, 1, SPACE_FOREVER));                      /* transaction 1 */
+    step(space_frame_write_blanks(frame, 1, SPACE_MASK_PLACE, mark, SPACE_FOREVER, 1));
+    step(space_frame_look_up(frame, SPACE_OP_TAKE, 2, SPACE_MASK_KIND | SPACE_MASK_PLACE, asked, SPACE_FOREVER, 0));
+    step(space_frame_look_up(frame, SPACE_OP_READ, 3, SPACE_MASK_KIND, asked, SPACE_FOREVER, 0));
+    uint64_t returned = space_step(space, frame, space_frame_commit(frame, 1, 1), answers, SPACE_STEP_BYTES);
+    struct space_record record = space_record_at(answers, 1);
+    check(returned == 2 && record.party == 3, "committed; who asks 0 of the blank waits on");
+    check(record.blanks == SPACE_MASK_PLACE && record.fields[3] == 0, "the blanks after a commit");
+    step(space_frame_create(frame, 1, SPACE_FOREVER));                      /* transaction 2 */
+    check(found(SPACE_OP_TAKE, 1, 2) == 1, "taken inside a transaction");
+    returned = space_step(space, frame, space_frame_abort(frame, 1, 2), answers, SPACE_STEP_BYTES);
+    check(returned == 1 && found(SPACE_OP_READ, 3, 0) == 1, "put back, for who does not ask");
+    check(space_record_at(answers, 0).blanks == SPACE_MASK_PLACE, "the blanks after an abort");
+}
+
 /* Words that frames did not make are read as host/space.h tells. */
 static void step_on_odd_words(void)
 {
@@ -214,7 +290,7 @@ static void step_on_odd_words(void)
     static uint8_t odd_answers[SPACE_STEP_BYTES];
     space_empty(space);
     for (int i = 0; i < SPACE_MAX_ENTRIES; i++)
-        step(space_frame_write(frame, 1, mark, SPACE_FOREVER, 0));
+        step(space_frame_write_blanks(frame, 1, SPACE_MASK_IMAGE, mark, SPACE_FOREVER, 0));
     step(space_frame_create(frame, 2, SPACE_FOREVER));
     step(space_frame_look_up(frame, SPACE_OP_READ, 2, 0, mark, 0, 1));
     for (uint8_t party = 4; party >= 3; party--) /* parties 4, 3: read, take */
@@ -230,7 +306,7 @@ static void step_on_odd_words(void)
         odd[SPACE_WAITING_AT + SPACE_WAITING_WORDS * row + SPACE_WAITING_MASK] += 256;
     }
     for (uint32_t row = 0; row < SPACE_MAX_ENTRIES; row++)
-        odd[SPACE_ENTRIES_AT + SPACE_ENTRY_WORDS * row + SPACE_ENTRY_READERS] += 256;
+        odd[SPACE_ENTRIES_AT + SPACE_ENTRY_WORDS * row + SPACE_ENTRY_READERS] += 65536; /* blanks modulo 256 */
     for (int i = 0; i < 6; i++) {
         size_t length = i == 0   ? space_frame_write(frame, 1, mark, 1, 0)         /* 11 */
                         : i == 1 ? space_frame_write(frame, 3, mark, 1, 0)         /* 6 */
@@ -303,6 +379,9 @@ int main(void)
     read_words();
     find_oldest();
     serve_oldest();
+    judge_masks();
+    find_blanks();
+    serve_blanks();
     step_on_odd_words();
     step_where_none_can_wait();
     use_zeroed_words();

@@ -47,11 +47,12 @@ static void release(uint8_t *memory)
         free(memory);
 }
 
-/* A frame of any operation, its fields but the kind 0. */
+/* A frame of any operation, its fields but the kind 0; in a write some of these are blank. */
 static size_t put_frame(uint8_t *frame, int operation, int party, uint32_t transaction, uint32_t duration)
 {
     int is_look_up = operation >= SPACE_OP_READ && operation <= SPACE_OP_TAKE_IF_EXISTS;
-    uint8_t whole[SPACE_MAX_FRAME_BYTES] = {(uint8_t)operation, (uint8_t)party, is_look_up ? SPACE_MASK_KIND : 0, 0};
+    uint8_t blanks = operation == SPACE_OP_WRITE ? (uint8_t)(2 * below(8)) : 0;
+    uint8_t whole[SPACE_MAX_FRAME_BYTES] = {(uint8_t)operation, (uint8_t)party, is_look_up ? SPACE_MASK_KIND : blanks};
     size_t length = space_frame_bytes((uint8_t)operation);
     space_put_word(whole + SPACE_FRAME_AT_TRANSACTION, transaction);
     space_put_word(whole + SPACE_FRAME_AT_DURATION, duration);
@@ -108,18 +109,30 @@ static void fail(const char *what, uint64_t returned)
     exit(1);
 }
 
-/* Every record is fully written: valgrind reports a test on a byte that is not. */
-static void read_records(const uint8_t *answers, uint32_t records)
+/* Of the four fields of a found, those that are blank are 0; no other record has blanks. */
+static int blanks_fit(struct space_record record)
+{
+    int fit = record.blanks < 16 && (record.kind == SPACE_RECORD_FOUND || record.blanks == 0);
+    for (int i = 0; i < 4; i++)
+        fit &= record.fields[i] == 0 || !(record.blanks >> i & 1);
+    return fit;
+}
+
+/* Every record is fully written: valgrind reports a test on a byte that is not. `odd`: on words that frames did not
+ * make, where any byte may be an entry's blanks. */
+static void read_records(const uint8_t *answers, uint32_t records, int odd)
 {
     uint32_t with_words = 0;
     for (uint32_t i = 0; i < records; i++) {
         const uint8_t *record = answers + SPACE_RECORD_BYTES * i;
-        int refused = record[0] == SPACE_RECORD_REFUSED;
-        uint32_t any = 0;
+        int refused = record[0] == SPACE_RECORD_REFUSED, found = record[0] == SPACE_RECORD_FOUND;
+        uint32_t any = record[SPACE_RECORD_AT_BLANKS];
         for (int at = 4; at < SPACE_RECORD_BYTES; at += 4)
             any |= space_get_word(record + at);
-        if (record[0] == 0 || (record[0] > SPACE_RECORD_TICKED && !refused) || record[3] != 0)
+        if (record[0] == 0 || (record[0] > SPACE_RECORD_TICKED && !refused))
             fail("a record", i);
+        if (!(odd && found) && !blanks_fit(space_record_at(answers, i)))
+            fail("a record's blanks", i);
         if ((record[2] != 0) != refused || (refused && any != 0))
             fail("a refused record", i);
         with_words += any != 0;
@@ -143,7 +156,7 @@ static void run_one_tray(void)
         fail("counts", returned);
     if (number > SPACE_REFUSAL_AREA_TOO_SMALL && number != SPACE_REFUSAL_BAD_TRAY && number != SPACE_REFUSAL_BAD_PAIR)
         fail("number", returned);
-    read_records(answers, records);
+    read_records(answers, records, 0);
     for (size_t i = SPACE_RECORD_BYTES * (size_t)records; fenced && i < answers_len; i++)
         if (answers[i] != 0x5a)
             fail("a byte after the last record", returned);
@@ -169,7 +182,7 @@ static void run_longest_step(void)
                                     : put_frame(frame, SPACE_OP_TICK, 0, 0, 0);
         uint8_t *answers = buffer(2, SPACE_STEP_BYTES);
         returned = space_step(fresh, frame, frame_len, answers, SPACE_STEP_BYTES);
-        read_records(answers, space_step_records(returned));
+        read_records(answers, space_step_records(returned), 0);
         release(answers);
     }
     if (returned != SPACE_MAX_STEP_RECORDS)
@@ -179,10 +192,10 @@ static void run_longest_step(void)
 static void run_steps(void)
 {
     uint32_t *space = (uint32_t *)(void *)buffer(0, 4 * SPACE_WORDS);
+    int odd = !below(3); /* words that frames did not make */
     space_empty(space);
-    if (!below(3)) /* words that frames did not make */
-        for (int i = 0; i < SPACE_WORDS; i++)
-            space[i] = below(2) ? below(20) : odd_number();
+    for (int i = 0; odd && i < SPACE_WORDS; i++)
+        space[i] = below(2) ? below(20) : odd_number();
     for (int i = 0; i < 100; i++) {
         uint8_t made[SPACE_MAX_FRAME_BYTES];
         size_t frame_len = make_frame(made);
@@ -193,7 +206,7 @@ static void run_steps(void)
         if (space_step_records(returned) > SPACE_MAX_STEP_RECORDS ||
             space_step_number(returned) > SPACE_REFUSAL_NUMBERS_USED_UP)
             fail("a step", returned);
-        read_records(answers, space_step_records(returned));
+        read_records(answers, space_step_records(returned), odd);
         release(frame);
         release(answers);
     }

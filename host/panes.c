@@ -77,16 +77,17 @@ static void send(struct pane *sender, const uint8_t *frame, size_t length)
     }
 }
 
-/* Sets a mark in every seventh round, with a lease of three ticks. */
+/* Sets a mark in every seventh round, with a lease of three ticks. The first has no place yet. */
 static void set_marks(struct pane *pane)
 {
     uint8_t frame[SPACE_MAX_FRAME_BYTES];
     const uint32_t fields[4] = {MARK, 1, 40 + (uint32_t)round_number, 9};
+    uint8_t blanks = round_number == 1 ? SPACE_MASK_PLACE : 0;
     if (round_number % 7 == 1)
-        send(pane, frame, space_frame_write(frame, pane->party, fields, 3, 0));
+        send(pane, frame, space_frame_write_blanks(frame, pane->party, blanks, fields, 3, 0));
 }
 
-/* Takes the oldest mark and writes a finding for it, both in one transaction of four ticks. */
+/* Takes the oldest mark and writes a finding for it, with the same blanks, both in one transaction of four ticks. */
 static void report(struct pane *pane)
 {
     uint8_t frame[SPACE_MAX_FRAME_BYTES];
@@ -99,7 +100,8 @@ static void report(struct pane *pane)
         length = space_frame_look_up(frame, SPACE_OP_TAKE, pane->party, SPACE_MASK_KIND, mark, 1, pane->transaction);
     else if (pane->last.kind == SPACE_RECORD_FOUND) {
         memcpy(finding + 1, pane->last.fields + 1, 3 * sizeof finding[0]);
-        length = space_frame_write(frame, pane->party, finding, SPACE_FOREVER, pane->transaction);
+        length = space_frame_write_blanks(frame, pane->party, pane->last.blanks, finding, SPACE_FOREVER,
+                                          pane->transaction);
     } else if (pane->last.kind == SPACE_RECORD_WRITTEN)
         length = space_frame_commit(frame, pane->party, pane->transaction);
     else /* nothing: start over */

@@ -6,7 +6,7 @@
 #include <stdio.h>
 #include "space_frames.h"
 
-/* "found in transaction 1, entry 1: kind 7, side 1, image 40, place 9" */
+/* "found in transaction 1, entry 1: kind 7, side 1, image 40, place 9", or "place blank" */
 static inline void print_record(struct space_record record)
 {
     const char *to_transaction = record.kind < SPACE_RECORD_CREATED     ? " in"
@@ -19,8 +19,13 @@ static inline void print_record(struct space_record record)
         printf("%s transaction %" PRIu32, to_transaction, record.transaction);
     if (record.entry)
         printf(", entry %" PRIu32, record.entry);
-    for (int i = 0; record.kind == SPACE_RECORD_FOUND && i < 4; i++)
-        printf("%s %s %" PRIu32, i ? "," : ":", space_field_name(i), record.fields[i]);
+    for (int i = 0; record.kind == SPACE_RECORD_FOUND && i < 4; i++) {
+        printf("%s %s ", i ? "," : ":", space_field_name(i));
+        if (record.blanks >> i & 1)
+            printf("blank");
+        else
+            printf("%" PRIu32, record.fields[i]);
+    }
     printf("\n");
 }
 

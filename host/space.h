@@ -17,8 +17,8 @@ extern "C" {
 /* Raised with each change of what a host sees: functions, frames, records, numbers, limits, the layout of the words.
  * 2: of several available entries the one with the lowest number is found. 3: no refusal has the number 14.
  * 4: an abort of the transaction in which its party's look-up waits is carried out. 5: a waiting IfExists look-up with
- * no conflicting entry left gets nothing at once. */
-#define SPACE_VERSION 5
+ * no conflicting entry left gets nothing at once. 6: a write's mask tells blank fields, so does byte 3 of a found. */
+#define SPACE_VERSION 6
 
 #define SPACE_MAX_ENTRIES 64         /* entries stored at most */
 #define SPACE_MAX_TRANSACTIONS 8     /* transactions live at most */
@@ -61,13 +61,17 @@ enum space_operation {
 #define SPACE_TRAY_COUNT_BYTES 4
 #define SPACE_TRAY_PAIR_BYTES 8
 
-/* Mask bits of a template. */
+/* Mask bits. In a look-up: the fields to which the template gives a value; the others must be 0. In a write: the fields
+ * that are blank; these must be 0. In other frames the mask is 0. A template's value, be it 0, never matches a blank; a
+ * field without one matches blanks and values alike. */
 #define SPACE_MASK_KIND 1
 #define SPACE_MASK_SIDE 2
 #define SPACE_MASK_IMAGE 4
 #define SPACE_MASK_PLACE 8
 
-/* Record: byte 0 kind, 1 party, 2 refusal number, 3 zero, then words at these offsets. */
+/* Record: byte 0 kind, 1 party, 2 refusal number, 3 the blanks of the entry found (0 in every other kind), then words
+ * at these offsets. */
+#define SPACE_RECORD_AT_BLANKS 3
 #define SPACE_RECORD_AT_TRANSACTION 4
 #define SPACE_RECORD_AT_ENTRY 8
 #define SPACE_RECORD_AT_FIELDS 12
@@ -117,15 +121,16 @@ enum space_refusal {
 #define SPACE_WORD_TRANSACTION_COUNT 4
 #define SPACE_WORD_WAITING_COUNT 5
 
-/* Stored entries, by number. */
+/* Stored entries, by number. Readers: bit s for a read hold of the transaction in slot s. Blanks: mask bits. */
 #define SPACE_ENTRIES_AT 6
 #define SPACE_ENTRY_NUMBER 0
 #define SPACE_ENTRY_FIELDS 1         /* kind, side, image, place */
 #define SPACE_ENTRY_END 5
 #define SPACE_ENTRY_PRIVATE_TO 6     /* transaction; 0: committed */
 #define SPACE_ENTRY_TAKEN_BY 7       /* transaction with a take hold; 0: none */
-#define SPACE_ENTRY_READERS 8        /* bit s: the transaction in slot s has a read hold */
+#define SPACE_ENTRY_READERS 8        /* readers + SPACE_BLANKS_UNIT * blanks */
 #define SPACE_ENTRY_WORDS 9
+#define SPACE_BLANKS_UNIT 256
 
 /* Live transactions, by number. */
 #define SPACE_TRANSACTIONS_AT (SPACE_ENTRIES_AT + SPACE_ENTRY_WORDS * SPACE_MAX_ENTRIES)
@@ -161,12 +166,12 @@ void space_empty(uint32_t space[SPACE_WORDS]);
  * for number 1 (answers_len under 700). Bytes of `answers` after the last record keep their contents. `frame` is only
  * read.
  * On words made in any other way the call ends and keeps to its buffers, and a refused frame is answered in the same
- * way. The words are read as tables: counts above the limits as the limits, a party, a mask and readers modulo 256, a
- * slot modulo 8, a waiting look-up's operation that is not 2 to 5 as 2. A frame that is carried out gives what the
- * rules give for these tables if they are sound, as all are that frames make: entries and transactions stand by number,
- * below the next numbers; what holds an entry is live; who waits is a party of 1 to 16, once, outside transactions or
- * in a live one of its own; no lease and no deadline is over; nobody waits who has an available entry, or, of the
- * IfExists kinds, who has no conflicting one (`Sound`, crates/rules/specs/Sound.antt). */
+ * way. The words are read as tables: counts above the limits as the limits, a party, a mask, readers and blanks modulo
+ * 256, a slot modulo 8, a waiting look-up's operation that is not 2 to 5 as 2. A frame that is carried out gives what
+ * the rules give for these tables if they are sound, as all are that frames make: entries and transactions stand by
+ * number, below the next numbers; what holds an entry is live; who waits is a party of 1 to 16, once, outside
+ * transactions or in a live one of its own; no lease and no deadline is over; nobody waits who has an available entry,
+ * or, of the IfExists kinds, who has no conflicting one (`Sound`, crates/rules/specs/Sound.antt). */
 uint64_t space_step(uint32_t space[SPACE_WORDS], const uint8_t *frame, size_t frame_len,
                     uint8_t *answers, size_t answers_len);
 
@@ -183,6 +188,17 @@ static inline uint32_t space_step_number(uint64_t returned) { return (uint32_t)(
 static inline uint32_t space_run_frames(uint64_t returned) { return (uint32_t)(returned % 65536u); }
 static inline uint32_t space_run_records(uint64_t returned) { return (uint32_t)(returned / 65536u % 65536u); }
 static inline uint32_t space_run_number(uint64_t returned) { return (uint32_t)(returned / 4294967296u); }
+
+/* The parts of the word at SPACE_ENTRY_READERS in the row of an entry. */
+static inline uint8_t space_entry_readers(const uint32_t *row)
+{
+    return (uint8_t)(row[SPACE_ENTRY_READERS] % SPACE_BLANKS_UNIT);
+}
+
+static inline uint8_t space_entry_blanks(const uint32_t *row)
+{
+    return (uint8_t)(row[SPACE_ENTRY_READERS] / SPACE_BLANKS_UNIT);
+}
 
 /* The word that begins at `at`, and the writing of one. */
 static inline uint32_t space_get_word(const uint8_t *at)

@@ -36,19 +36,29 @@ static inline size_t space_frame(uint8_t *frame, uint8_t operation, uint8_t part
     return space_frame_bytes(operation);
 }
 
-static inline size_t space_frame_write(uint8_t *frame, uint8_t party, const uint32_t fields[4], uint32_t lease,
-                                       uint32_t transaction)
+/* Fields whose bit in the blanks is 1 are not looked at. */
+static inline size_t space_frame_write_blanks(uint8_t *frame, uint8_t party, uint8_t blanks, const uint32_t fields[4],
+                                              uint32_t lease, uint32_t transaction)
 {
     size_t length = space_frame(frame, SPACE_OP_WRITE, party);
+    frame[2] = blanks;
     space_put_word(frame + SPACE_FRAME_AT_TRANSACTION, transaction);
     space_put_word(frame + SPACE_FRAME_AT_DURATION, lease);
     for (int i = 0; i < 4; i++)
-        space_put_word(frame + SPACE_FRAME_AT_FIELDS + 4 * i, fields[i]);
+        if (!(blanks >> i & 1))
+            space_put_word(frame + SPACE_FRAME_AT_FIELDS + 4 * i, fields[i]);
     return length;
 }
 
-/* Read, take, readIfExists or takeIfExists. Fields whose bit in the mask is 0 are not looked at. Of several available
- * entries the one with the lowest number is found. */
+/* A write with no blanks. */
+static inline size_t space_frame_write(uint8_t *frame, uint8_t party, const uint32_t fields[4], uint32_t lease,
+                                       uint32_t transaction)
+{
+    return space_frame_write_blanks(frame, party, 0, fields, lease, transaction);
+}
+
+/* Read, take, readIfExists or takeIfExists. Fields whose bit in the mask is 0 are not looked at; the others match no
+ * blank. Of several available entries the one with the lowest number is found. */
 static inline size_t space_frame_look_up(uint8_t *frame, uint8_t operation, uint8_t party, uint8_t mask,
                                          const uint32_t fields[4], uint32_t timeout, uint32_t transaction)
 {
@@ -89,7 +99,7 @@ static inline size_t space_frame_tick(uint8_t *frame)
 }
 
 struct space_record {
-    uint8_t kind, party, refusal;
+    uint8_t kind, party, refusal, blanks;
     uint32_t transaction, entry, fields[4];
 };
 
@@ -101,6 +111,7 @@ static inline struct space_record space_record_at(const uint8_t *answers, uint32
     record.kind = at[0];
     record.party = at[1];
     record.refusal = at[2];
+    record.blanks = at[SPACE_RECORD_AT_BLANKS];
     record.transaction = space_get_word(at + SPACE_RECORD_AT_TRANSACTION);
     record.entry = space_get_word(at + SPACE_RECORD_AT_ENTRY);
     for (int i = 0; i < 4; i++)
@@ -137,7 +148,7 @@ static inline const char *space_refusal_meaning(uint32_t number)
         "the answers area has under 700 bytes",
         "the frame is empty, or its operation is not 1-9",
         "the frame's length is not its operation's",
-        "byte 3, the mask, the template or create's transaction is not as it must be",
+        "byte 3, the mask, a field that must be 0 or create's transaction is not as it must be",
         "the party is not 1-16, or not 0 for tick",
         "the party has a waiting look-up that the frame does not withdraw",
         "the transaction is not live",

@@ -11,14 +11,14 @@ use borrow.Author.Tests.{le-leb, lt-leb, lt-ltb, eq-eqb, ne-eqb, eqb-true, eqb-f
 use Rattle.rules.specs.Numbers.{opWrite, opRead, opTakeIfExists, opCreate, opCommit, opAbort, opTick}
 use Rattle.rules.specs.Numbers.{lengthRefused, formRefused, partyRefused}
 use Rattle.rules.specs.Frame.{Frame, frameLength, decode, byteAt, numberAt, fieldsAt, isOperation, isLookUp, isCreate}
-use Rattle.rules.specs.Frame.{Layout, layouts, layoutOf}
+use Rattle.rules.specs.Frame.{Layout, layouts, layoutOf, hasTemplate, hasBlanks, namesNoTxn}
 use Rattle.rules.specs.Records.{noFields, plain, recordAt}
-use Rattle.rules.specs.Refusals.{noOperation, wrongLength, badTemplate, malformed, wrongParty}
+use Rattle.rules.specs.Refusals.{noOperation, wrongLength, badTemplate, badBlanks, malformed, wrongParty}
 use Rattle.rules.specs.Requests.{formRefusal}
 use Rattle.codec.specs.Head.{noParty, headRefusal}
 use Rattle.rules.proofs.ReadBack.{number-behind, fields-behind, record-behind}
 use Rattle.rules.proofs.BoolLaws.{bool-cases}
-use Rattle.rules.proofs.LayoutLaws.{lookUp-layout}
+use Rattle.rules.proofs.LayoutLaws.{lookUp-layout, write-form}
 use Rattle.rules.proofs.OperationLaws.{template-is, outside-is}
 
 -- ---- past the end all is 0: what reads from a place on reads of no bytes there
@@ -43,11 +43,15 @@ record-past = past recordAt record-behind
 pub is-operation : (op : ℕ) → opWrite ≤ op → op ≤ opTick → isOperation op ≡ true
 is-operation op l h = rw (lt-ltb 0 op (omega arith), lt-ltb op (length layouts) (omega arith))
 
-pub no-look-up : (op : ℕ) → (op < opRead) ⊎ (opTakeIfExists < op) → isLookUp op ≡ false
-no-look-up op (inl h) = rw (lt-leb opRead op h)
-no-look-up op (inr h) = rw (lt-leb op opTakeIfExists h, and-false)
+-- an abort is laid out as a commit
+ending-layout : (op : ℕ) → opCommit ≤ op → op ≤ opAbort → layoutOf op ≡ layoutOf opCommit
+unfolding layoutOf
+ending-layout op l h =
+    ⊎-elim (λ e. ap layoutOf (eqb-true op opCommit e))
+    (λ e. let abort : op ≡ opAbort = omega (arith, eqb-false op opCommit e) in ap layoutOf abort)
+    (bool-cases (eqb op opCommit))
 
--- ---- refusal 4: with a template, with a transaction that must be 0, and with neither
+-- ---- refusal 4: with a template, with blanks, with a transaction that must be 0, and with none of these
 -- a mask that is 0 is not above 15
 low-mask : (b : Bool) (mask : ℕ) → eqb mask 0 ≡ b → (ltb 15 mask || not b) ≡ not b
 low-mask true mask e = rw (eqb-true mask 0 e)
@@ -70,10 +74,10 @@ module _ (f : Frame) where
   unfolding malformed layoutOf
   create-form e = rw e (simp or-false (ap (λ b. b || not (eqb (f .txn) 0)) no-mask))
 
-  pub plain-form : isOperation (f .op) ≡ true → isLookUp (f .op) ≡ false → isCreate (f .op) ≡ false
+  pub plain-form : hasTemplate (f .op) ≡ false → hasBlanks (f .op) ≡ false → namesNoTxn (f .op) ≡ false
       → malformed f ≡ (not (eqb (f .byte3) 0) || not (eqb (f .mask) 0))
   unfolding malformed
-  plain-form is l h = rw (template-is (f .op) is ∙ l, outside-is (f .op) is ∙ h) (simp or-false no-mask)
+  plain-form t b o = rw (t, b, o) (simp or-false no-mask)
 
 -- ---- the first of 3 to 5 that applies to a frame with an operation
 pub form-is : (bs : List ℕ) (op : ℕ) → (op ≡ byteAt bs 0) × (opWrite ≤ op) × (op ≤ opTick)
@@ -97,11 +101,8 @@ unfolding frameLength
 find-length op l h = ap (λ (y : Layout). y .size) (lookUp-layout op (rw (le-leb _ _ l, le-leb _ _ h)))
 
 pub ending-length : (op : ℕ) → opCommit ≤ op → op ≤ opAbort → frameLength op ≡ frameLength opCommit
-unfolding frameLength layoutOf
-ending-length op l h =
-    ⊎-elim (λ e. ap frameLength (eqb-true op opCommit e))
-    (λ e. let abort : op ≡ opAbort = omega (arith, eqb-false op opCommit e) in ap frameLength abort)
-    (bool-cases (eqb op opCommit))
+unfolding frameLength
+ending-length op l h = ap (λ (y : Layout). y .size) (ending-layout op l h)
 
 -- so where it has another length, or the length of its operation
 module _ (bs : List ℕ) (op : ℕ) (is : (op ≡ byteAt bs 0) × (opWrite ≤ op) × (op ≤ opTick)) where
@@ -128,13 +129,23 @@ module _ (bs : List ℕ) (op : ℕ) (is : (op ≡ byteAt bs 0) × (opWrite ≤ o
       right-length _ h (create-form (decode bs) (sym (is .0) ∙ e)
       ∙ or-assoc (not (eqb (byteAt bs 3) 0)) (not (eqb (byteAt bs 2) 0)) (not (eqb (numberAt bs 4) 0)))
 
-  pub plain-head : isLookUp op ≡ false → isCreate op ≡ false → length bs ≡ frameLength op
+  pub write-head : op ≡ opWrite → length bs ≡ frameLength op
+      → formRefusal bs ≡ headRefusal bs op (ltb 15 (byteAt bs 2) || badBlanks (byteAt bs 2) (fieldsAt bs 12))
+  unfolding decode
+  write-head e h =
+      right-length _ h (write-form (decode bs) (sym (is .0) ∙ e)
+      ∙ or-assoc (not (eqb (byteAt bs 3) 0)) (ltb 15 (byteAt bs 2)) (badBlanks (byteAt bs 2) (fieldsAt bs 12)))
+
+  pub plain-head : hasTemplate op ≡ false → hasBlanks op ≡ false → namesNoTxn op ≡ false → length bs ≡ frameLength op
       → formRefusal bs ≡ headRefusal bs op (not (eqb (byteAt bs 2) 0))
   unfolding decode
-  plain-head l e h =
-      right-length _ h (plain-form (decode bs) (is-operation (byteAt bs 0) (omega (arith, is)) (omega (arith, is)))
-      (ap isLookUp (sym (is .0)) ∙ l) (ap isCreate (sym (is .0)) ∙ e))
+  plain-head t b o h =
+      right-length _ h (plain-form (decode bs) (ap hasTemplate (sym (is .0)) ∙ t) (ap hasBlanks (sym (is .0)) ∙ b)
+      (ap namesNoTxn (sym (is .0)) ∙ o))
 
   pub ending-head : opCommit ≤ op → op ≤ opAbort → length bs ≡ frameLength op
       → formRefusal bs ≡ headRefusal bs op (not (eqb (byteAt bs 2) 0))
-  ending-head l m = plain-head (no-look-up op (inr (omega arith))) (ne-eqb op opCreate (λ e. omega arith))
+  unfolding layoutOf
+  ending-head l m =
+      plain-head (ap (λ (y : Layout). y .template) (ending-layout op l m))
+      (ap (λ (y : Layout). y .blanks) (ending-layout op l m)) (ap (λ (y : Layout). y .outside) (ending-layout op l m))

@@ -14,8 +14,8 @@ use Rattle.rules.specs.declared.Request.{Request}
 use Rattle.rules.specs.declared.Request.the-variants.{Write, Find, Create, Commit, Abort, Tick}
 use Rattle.rules.specs.declared.Decoded.the-variants.{Asks, Refused}
 use Rattle.rules.specs.Frame.{Frame, decode, byteAt, numberAt, fieldsAt, layoutOf, frameLength, hasTemplate, namesNoTxn}
-use Rattle.rules.specs.Frame.{layouts, isOperation, isTake, isIfExists}
-use Rattle.rules.specs.Refusals.{formRows, noOperation, wrongLength, badTemplate, malformed, wrongParty}
+use Rattle.rules.specs.Frame.{hasBlanks, layouts, isOperation, isTake, isIfExists}
+use Rattle.rules.specs.Refusals.{formRows, noOperation, wrongLength, badTemplate, badBlanks, malformed, wrongParty}
 use Rattle.rules.specs.Requests.{plainFrame, frameOf, formRefusal, Decodes}
 use Rattle.rules.proofs.BoolLaws.{or-left, or-right, and-false-right}
 use Rattle.rules.proofs.LayoutLaws.{lookUp-op}
@@ -37,7 +37,7 @@ no-operation bs o = refused bs operationRefused (rw (none (byteAt bs 0) o, or-tr
 -- a frame that 4 lets pass
 record Formed (f : Frame) : Type 0 where
   byte3 : f .byte3 ≡ 0
-  mask : hasTemplate (f .op) ≡ false → f .mask ≡ 0
+  mask : hasTemplate (f .op) ≡ false → hasBlanks (f .op) ≡ false → f .mask ≡ 0
   txn : namesNoTxn (f .op) ≡ true → f .txn ≡ 0
 
 zero-of : (n : ℕ) → not (eqb n 0) ≡ false → n ≡ 0
@@ -48,14 +48,18 @@ unfolding malformed
 of-form f e =
     let filled = not (eqb (f .byte3) 0) in
     let high = ltb 15 (f .mask) in
-    let masked = not (hasTemplate (f .op)) && not (eqb (f .mask) 0) in
+    let masked = not (hasTemplate (f .op) || hasBlanks (f .op)) && not (eqb (f .mask) 0) in
     let bad = hasTemplate (f .op) && badTemplate (f .mask) (f .fields) in
+    let blank = hasBlanks (f .op) && badBlanks (f .mask) (f .fields) in
     let named = namesNoTxn (f .op) && not (eqb (f .txn) 0) in
-    let front = or-left (filled || high || masked) bad (or-left (filled || high || masked || bad) named e) in
+    let rest = or-left (filled || high || masked || bad || blank) named e in
+    let front = or-left (filled || high || masked) bad (or-left (filled || high || masked || bad) blank rest) in
     record {
       byte3 = zero-of (f .byte3) (or-left filled high (or-left (filled || high) masked front));
-      mask = λ t. zero-of (f .mask) (and-false-right _ _ (ap not t) (or-right (filled || high) masked front));
-      txn = λ o. zero-of (f .txn) (and-false-right _ _ o (or-right (filled || high || masked || bad) named e));
+      mask = λ t b.
+          let neither : not (hasTemplate (f .op) || hasBlanks (f .op)) ≡ true = rw (t, b) in
+          zero-of (f .mask) (and-false-right _ _ neither (or-right (filled || high) masked front));
+      txn = λ o. zero-of (f .txn) (and-false-right _ _ o (or-right (filled || high || masked || bad || blank) named e));
     }
 
 module _ (bs : List ℕ) (clear : formRefusal bs ≡ 0) where
@@ -77,12 +81,13 @@ module _ (bs : List ℕ) (clear : formRefusal bs ≡ 0) where
   pub write-asks : byteAt bs 0 ≡ opWrite
       → Decodes bs (Asks (Write (record {
         party = byteAt bs 1;
+        blanks = byteAt bs 2;
         txn = record { 0 = numberAt bs 4 };
         lease = numberAt bs 8;
         fields = fieldsAt bs 12;
       })))
   unfolding decode layoutOf
-  write-asks e = asks _ (rw (formed .byte3, formed .mask (rw e), e))
+  write-asks e = asks _ (rw (formed .byte3, e))
 
   pub find-asks : (op : ℕ) → op ≡ byteAt bs 0 → opRead ≤ op → op ≤ opTakeIfExists
       → Decodes bs (Asks (Find (record {
@@ -100,12 +105,12 @@ module _ (bs : List ℕ) (clear : formRefusal bs ≡ 0) where
       asks _ (rw (formed .byte3, kind, e))
 
   -- a frame without mask and fields
-  plain : (op : ℕ) → byteAt bs 0 ≡ op → hasTemplate op ≡ false → frameLength op ≤ 12
+  plain : (op : ℕ) → byteAt bs 0 ≡ op → hasTemplate op ≡ false → hasBlanks op ≡ false → frameLength op ≤ 12
       → decode bs ≡ plainFrame op (byteAt bs 1) (numberAt bs 4) (numberAt bs 8)
   unfolding decode
-  plain op e t h =
+  plain op e t b h =
       let few = fields-past bs 12 (omega (arith, ap frameLength e, size)) in
-      rw (formed .byte3, formed .mask (ap hasTemplate e ∙ t), few, e)
+      rw (formed .byte3, formed .mask (ap hasTemplate e ∙ t) (ap hasBlanks e ∙ b), few, e)
 
   -- nothing stands behind the bytes of an operation
   past : (op i : ℕ) → byteAt bs 0 ≡ op → frameLength op ≤ i → numberAt bs i ≡ 0
@@ -113,15 +118,15 @@ module _ (bs : List ℕ) (clear : formRefusal bs ≡ 0) where
 
   pub create-asks : byteAt bs 0 ≡ opCreate → Decodes bs (Asks (Create (byteAt bs 1) (numberAt bs 8)))
   unfolding frameLength layoutOf decode
-  create-asks e = asks _ (plain opCreate e refl (omega arith) ∙ rw (formed .txn (rw e)))
+  create-asks e = asks _ (plain opCreate e refl refl (omega arith) ∙ rw (formed .txn (rw e)))
 
   pub commit-asks : byteAt bs 0 ≡ opCommit → Decodes bs (Asks (Commit (byteAt bs 1) (record { 0 = numberAt bs 4 })))
   unfolding frameLength layoutOf
-  commit-asks e = asks _ (plain opCommit e refl (omega arith) ∙ rw (past opCommit 8 e (omega arith)))
+  commit-asks e = asks _ (plain opCommit e refl refl (omega arith) ∙ rw (past opCommit 8 e (omega arith)))
 
   pub abort-asks : byteAt bs 0 ≡ opAbort → Decodes bs (Asks (Abort (byteAt bs 1) (record { 0 = numberAt bs 4 })))
   unfolding frameLength layoutOf
-  abort-asks e = asks _ (plain opAbort e refl (omega arith) ∙ rw (past opAbort 8 e (omega arith)))
+  abort-asks e = asks _ (plain opAbort e refl refl (omega arith) ∙ rw (past opAbort 8 e (omega arith)))
 
   pub tick-asks : byteAt bs 0 ≡ opTick → Decodes bs (Asks Tick)
   unfolding frameLength layoutOf wrongParty decode
@@ -129,4 +134,4 @@ module _ (bs : List ℕ) (clear : formRefusal bs ≡ 0) where
       let party = zero-of (byteAt bs 1) (rw e at (row 3)) in
       let txn = past opTick 4 e (omega arith) in
       let lease = past opTick 8 e (omega arith) in
-      asks _ (plain opTick e refl (omega arith) ∙ rw (party, txn, lease))
+      asks _ (plain opTick e refl refl (omega arith) ∙ rw (party, txn, lease))

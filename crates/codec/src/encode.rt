@@ -3,6 +3,7 @@ ghost use mathlib.Core.Path.{_≡_};
 ghost use Prim.Native.Nat.{_≤_};
 ghost use Rattle.rules.specs.Numbers.{opWrite, opTick};
 ghost use Rattle.rules.specs.Frame.{lookUpOp};
+ghost use Rattle.rules.specs.Records.{noFields};
 ghost use Rattle.rules.specs.Requests.{frame, plainFrame, frameOf};
 ghost use Rattle.codec.specs.Area.{FramePut};
 use crate::bytes::put_fields;
@@ -13,7 +14,6 @@ use crate::places::FIELDS_AT;
 use crate::places::FIELDS_END;
 use crate::places::LEASE_AT;
 use crate::places::TXN_AT;
-use crate::records::no_fields;
 use rules::Fields;
 use rules::Request;
 use rules::numbers::OP_ABORT;
@@ -78,6 +78,17 @@ fn put_numbers(
     n
 }
 
+fn no_fields() -> Fields
+    ensures { λ r. ⌜ r ≡ noFields ⌝ }
+{
+    Fields {
+        kind: 0,
+        side: 0,
+        image: 0,
+        place: 0,
+    }
+}
+
 // One without mask and fields.
 fn put_plain(out: &mut [u8], op: u8, party: u8, txn: u32, lease: u32) -> usize
     requires { ⌜ (opWrite ≤ op) × (op ≤ opTick) ⌝ }
@@ -91,7 +102,9 @@ pub fn put_frame(out: &mut [u8], q: Request) -> usize
     ensures { λ n. ⌜ FramePut (frameOf q) (now (out .entry)) (now (out .exit)) n ⌝ }
 {
     match q {
-        Request::Write(w) => put_numbers(out, OP_WRITE, w.party, 0, w.txn.0, w.lease, w.fields),
+        Request::Write(w) => {
+            put_numbers(out, OP_WRITE, w.party, w.blanks, w.txn.0, w.lease, w.fields)
+        }
         Request::Find(l) => {
             let op = look_up_op(l.takes, l.if_exists);
             put_numbers(out, op, l.party, l.mask, l.txn.0, l.timeout, l.fields)

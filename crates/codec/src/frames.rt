@@ -4,7 +4,7 @@ ghost use Prim.Native.Nat.{_≤_};
 ghost use lib.ListN.{length};
 ghost use Rattle.rules.specs.Numbers.{opWrite, opRead, opTakeIfExists, opCreate, opCommit, opAbort, opTick};
 ghost use Rattle.rules.specs.Frame.{byteAt, frameLength};
-ghost use Rattle.rules.specs.Refusals.{badTemplate};
+ghost use Rattle.rules.specs.Refusals.{badTemplate, badBlanks};
 ghost use Rattle.rules.specs.Requests.{Decodes};
 ghost use Rattle.codec.specs.Head.{noParty, headRefusal};
 use crate::bytes::byte_at;
@@ -53,6 +53,17 @@ fn is_bad_template(mask: u8, fields: Fields) -> bool
     let side = (mask / 2 % 2 != 1) & (fields.side != 0);
     let image = (mask / 4 % 2 != 1) & (fields.image != 0);
     let place = (mask / 8 % 2 != 1) & (fields.place != 0);
+    kind | side | image | place
+}
+
+// Whether a write's field is not 0 where its bit says that it is blank.
+fn is_bad_blanks(mask: u8, fields: Fields) -> bool
+    ensures { λ r. ⌜ r ≡ badBlanks mask fields ⌝ }
+{
+    let kind = (mask / 1 % 2 == 1) & (fields.kind != 0);
+    let side = (mask / 2 % 2 == 1) & (fields.side != 0);
+    let image = (mask / 4 % 2 == 1) & (fields.image != 0);
+    let place = (mask / 8 % 2 == 1) & (fields.place != 0);
     kind | side | image | place
 }
 
@@ -108,14 +119,16 @@ fn decode_write(frame: &[u8]) -> Decoded
     if frame.len() != length_of(OP_WRITE) {
         return Decoded::Refused(LENGTH_REFUSED);
     }
-    let n = head_refusal(frame, OP_WRITE, frame[MASK_AT] != 0);
+    let mask = frame[MASK_AT];
+    let fields = whole_fields(frame, FIELDS_AT);
+    let n = head_refusal(frame, OP_WRITE, (15 < mask) | is_bad_blanks(mask, fields));
     if n != 0 {
         return Decoded::Refused(n);
     }
     let txn = TxnId(whole_number(frame, TXN_AT));
-    let fields = whole_fields(frame, FIELDS_AT);
     Decoded::Asks(Request::Write(WriteRequest {
         party: frame[PARTY_AT],
+        blanks: mask,
         txn,
         lease: whole_number(frame, LEASE_AT),
         fields,

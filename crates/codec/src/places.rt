@@ -18,4 +18,6 @@ pub(crate) const LEASE_AT: usize = 8;
 // Of a record.
 pub(crate) const REFUSAL_AT: usize = 2;
 
+pub(crate) const BLANKS_AT: usize = 3;
+
 pub(crate) const ENTRY_AT: usize = 8;

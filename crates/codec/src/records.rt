@@ -1,6 +1,7 @@
 // Answer records, and their 28 bytes: written, and read.
 ghost use mathlib.Core.Path.{_≡_};
-ghost use Rattle.rules.specs.Records.{noFields, plain, written, found, refused, recordAt};
+ghost use Rattle.rules.specs.Template.{markOf, bare};
+ghost use Rattle.rules.specs.Records.{noMark, plain, written, found, refused, recordAt};
 ghost use Rattle.rules.specs.declared.Request.the-variants.{Write};
 ghost use Rattle.rules.specs.Requests.{frameOf};
 ghost use Rattle.codec.specs.Area.{recordPut};
@@ -11,6 +12,7 @@ use crate::bytes::put_fields;
 use crate::bytes::put_four;
 use crate::bytes::put_number;
 use crate::frames::party_of;
+use crate::places::BLANKS_AT;
 use crate::places::ENTRY_AT;
 use crate::places::FIELDS_AT;
 use crate::places::PARTY_AT;
@@ -20,6 +22,7 @@ use rules::Entry;
 use rules::EntryId;
 use rules::Fields;
 use rules::LookUp;
+use rules::Mark;
 use rules::Record;
 use rules::TxnId;
 use rules::WriteRequest;
@@ -28,14 +31,40 @@ use rules::numbers::KIND_REFUSED;
 use rules::numbers::KIND_WRITTEN;
 use rules::numbers::RECORD_SIZE;
 
-pub(crate) fn no_fields() -> Fields
-    ensures { λ r. ⌜ r ≡ noFields ⌝ }
+// Fields with their blanks.
+pub fn mark_of(blanks: u8, fields: Fields) -> Mark
+    ensures { λ r. ⌜ r ≡ markOf blanks fields ⌝ }
+{
+    Mark {
+        kind: fields.kind,
+        side: fields.side,
+        image: fields.image,
+        place: fields.place,
+        blanks,
+    }
+}
+
+// The fields of a mark, as they stand in a frame.
+fn bare_fields(mark: Mark) -> Fields
+    ensures { λ r. ⌜ r ≡ bare mark ⌝ }
 {
     Fields {
+        kind: mark.kind,
+        side: mark.side,
+        image: mark.image,
+        place: mark.place,
+    }
+}
+
+fn no_mark() -> Mark
+    ensures { λ r. ⌜ r ≡ noMark ⌝ }
+{
+    Mark {
         kind: 0,
         side: 0,
         image: 0,
         place: 0,
+        blanks: 0,
     }
 }
 
@@ -46,10 +75,10 @@ pub fn put_record(out: &mut [u8], r: Record)
     if out.len() < RECORD_SIZE {
         return;
     }
-    put_four(out, 0, r.kind, r.party, r.refusal, 0);
+    put_four(out, 0, r.kind, r.party, r.refusal, r.fields.blanks);
     put_number(out, TXN_AT, r.txn.0);
     put_number(out, ENTRY_AT, r.entry.0);
-    put_fields(out, FIELDS_AT, r.fields);
+    put_fields(out, FIELDS_AT, bare_fields(r.fields));
 }
 
 // A record with no entry: every kind but written, found and refused.
@@ -57,7 +86,7 @@ pub fn plain_record(kind: u8, party: u8, txn: TxnId) -> Record
     ensures { λ r. ⌜ r ≡ plain kind party (txn .0) ⌝ }
 {
     let entry = EntryId(0);
-    let fields = no_fields();
+    let fields = no_mark();
     Record {
         kind,
         party,
@@ -73,7 +102,7 @@ pub fn written_record(w: WriteRequest, entry: EntryId) -> Record
     ensures { λ r. ⌜ r ≡ written (frameOf (Write w)) (entry .0) ⌝ }
 {
     let txn = w.txn;
-    let fields = no_fields();
+    let fields = no_mark();
     Record {
         kind: KIND_WRITTEN,
         party: w.party,
@@ -107,7 +136,7 @@ pub fn refused_record(frame: &[u8], refusal: u8) -> Record
 {
     let txn = TxnId(0);
     let entry = EntryId(0);
-    let fields = no_fields();
+    let fields = no_mark();
     Record {
         kind: KIND_REFUSED,
         party: party_of(frame),
@@ -127,7 +156,7 @@ pub fn record_at(bytes: &[u8], at: usize) -> Record
     }
     let txn = TxnId(number_at(bytes, at + TXN_AT));
     let entry = EntryId(number_at(bytes, at + ENTRY_AT));
-    let fields = fields_at(bytes, at + FIELDS_AT);
+    let fields = mark_of(byte_at(bytes, at + BLANKS_AT), fields_at(bytes, at + FIELDS_AT));
     Record {
         kind: byte_at(bytes, at),
         party: byte_at(bytes, at + PARTY_AT),

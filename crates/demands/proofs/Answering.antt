@@ -1,6 +1,6 @@
 -- Every frame is answered: each model that a step gives is that of some words.
 use Prim.Native.Nat.{ℕ, zero, suc, _/_, _^_, _<_}
-use mathlib.Core.Bool.{Bool, true, false, not, _&&_}
+use mathlib.Core.Bool.{Bool, true, false, not, _&&_, _||_}
 use mathlib.Core.Logic.{_⊎_, inl, inr}
 use mathlib.Core.Path.{_≡_, refl, sym, _∙_, subst, subst⁻¹}
 use mathlib.Core.Option.{Option, none, some}
@@ -16,10 +16,10 @@ use Rattle.rules.specs.Numbers.{maxParty}
 use Rattle.rules.specs.Lists.{findb, anyb, All}
 use Rattle.rules.specs.State.{Model, empty}
 use Rattle.rules.specs.Template.{bit}
-use Rattle.rules.specs.Frame.{Frame, decode, isTick, hasTemplate, namesNoTxn}
+use Rattle.rules.specs.Frame.{Frame, decode, isTick, hasTemplate, hasBlanks, namesNoTxn}
 use Rattle.rules.specs.LookUp.{lookUpOf}
 use Rattle.rules.specs.Transactions.{orZero, freeSlot}
-use Rattle.rules.specs.Refusals.{badTemplate, malformed, wrongParty, refusal}
+use Rattle.rules.specs.Refusals.{badTemplate, badBlanks, malformed, wrongParty, refusal}
 use Rattle.rules.specs.Step.{Outcome, step}
 use Rattle.rules.specs.Words.{view}
 use Rattle.rules.specs.Allowed.{Answered, Allowed}
@@ -30,14 +30,15 @@ use Rattle.rules.proofs.RefusalLaws.{clear}
 use Rattle.rules.proofs.ReaderLaws.{bit-suc, no-bits}
 use Rattle.demands.specs.Machine.{Handed, Input, inputOf, theSpace, answeredBy, theRules}
 use Rattle.demands.specs.History.{inputsOf, EveryState}
+use Rattle.rules.specs.Write.{newEntry}
 use Rattle.sound.proofs.HoldLaws.{not-so}
 use Rattle.demands.proofs.Runs.{runs, made, made-keep}
 use Rattle.demands.proofs.ByRule.{space-follows, run-of}
 use Rattle.demands.proofs.JudgedProof.{number-is, refused-model}
 use Rattle.sound.proofs.Events.{Heard, Events, over, then}
 use Rattle.sound.proofs.EventsProof.{step-events}
-use Rattle.sound.proofs.Becomes.{waits-all, txns-all}
-use Rattle.sound.proofs.ConsistentProof.{consistent-events, consistent-empty}
+use Rattle.sound.proofs.Becomes.{waits-all, txns-all, kept-all}
+use Rattle.sound.proofs.ConsistentProof.{consistent-events, consistent-empty, consistent-event}
 use Rattle.demands.proofs.ByEvents.{consistent}
 use Rattle.demands.proofs.Capacities.{bounded}
 use Rattle.demands.proofs.BoundsProof.{timely}
@@ -62,9 +63,11 @@ party-fits f =
 mask-fits : (f : Frame) → malformed f ≡ false → f .mask < 256
 unfolding malformed
 mask-fits f e =
-    let first = or-left _ (namesNoTxn (f .op) && not (eqb (f .txn) 0)) e in
+    let first =
+    or-left _ (hasBlanks (f .op) && badBlanks (f .mask) (f .fields))
+    (or-left _ (namesNoTxn (f .op) && not (eqb (f .txn) 0)) e) in
     let second =
-    or-left _ (not (hasTemplate (f .op)) && not (eqb (f .mask) 0))
+    or-left _ (not (hasTemplate (f .op) || hasBlanks (f .op)) && not (eqb (f .mask) 0))
     (or-left _ (hasTemplate (f .op) && badTemplate (f .mask) (f .fields)) first) in
     let l = ltb-false 15 (f .mask) (or-right (not (eqb (f .byte3) 0)) _ second) in
     omega arith
@@ -90,15 +93,18 @@ abbrev NarrowWait : LookUp → Type 0
 NarrowWait w = (w .party < 256) × (w .mask < 256)
 
 abbrev Narrow : Model → Type 0
-Narrow m = All NarrowTxn (m .txns) × All NarrowWait (m .waits)
+Narrow m = All NarrowTxn (m .txns) × All NarrowWait (m .waits) × All (λ e. e .fields .blanks < 256) (m .entries)
 
 narrow-events : {f : Frame} {m n : Model} {hs : List Heard} → f .party < 256 → f .mask < 256 → Events f m hs n
-    → Narrow m → Narrow n
-unfolding lookUpOf
-narrow-events p k over h = h
-narrow-events p k (then {m} e rest) h =
-    narrow-events p k rest
-    (txns-all NarrowTxn e (λ _ _. (p, slot-fits (m .txns))) (h .0), waits-all NarrowWait e (λ _ _. (p, k)) (h .1))
+    → Consistent m → Narrow m → Narrow n
+unfolding lookUpOf newEntry
+narrow-events p k over s h = h
+narrow-events p k (then {m} e rest) s h =
+    narrow-events p k rest (consistent-event e s) (
+      txns-all NarrowTxn e (λ _ _. (p, slot-fits (m .txns))) (h .0),
+      waits-all NarrowWait e (λ _ _. (p, k)) (h .1),
+      kept-all (λ x. x .fields .blanks < 256) e (s .ordered) (λ _ _ _. k) (h .2),
+    )
 
 narrow-step : (i : Input) (m : Model) → Consistent m × Narrow m → Narrow (step m (i .frame) (i .area) .model)
 narrow-step i m (s, h) = go (bool-cases (eqb (refusal m (i .frame) (i .area)) 0))
@@ -109,7 +115,7 @@ narrow-step i m (s, h) = go (bool-cases (eqb (refusal m (i .frame) (i .area)) 0)
         let c = clear m (i .frame) (i .area) (eqb-true _ 0 z) in
         let f = decode (i .frame) in
         let e = step-events m (i .frame) (i .area) (s .ordered .txns) in
-        narrow-events (party-fits f (c .party)) (mask-fits f (c .form)) e h
+        narrow-events (party-fits f (c .party)) (mask-fits f (c .form)) e s h
     go (inr z) = subst⁻¹ Narrow (refused-model m (i .frame) (i .area) (eqb-false _ 0 z)) h
 
 narrow : (is : List Input) → Narrow (made is)
@@ -120,7 +126,14 @@ narrow is =
       narrow-step i
           m h,
     ))
-    (consistent-empty, ((λ t i. absurd (List·Memᴰ·not-nil i)), λ w i. absurd (List·Memᴰ·not-nil i))) is .1
+    (
+      consistent-empty,
+      (
+        (λ t i. absurd (List·Memᴰ·not-nil i)),
+        (λ w i. absurd (List·Memᴰ·not-nil i)),
+        λ e i. absurd (List·Memᴰ·not-nil i),
+      ),
+    ) is .1
 
 fits : (is : List Input) → Fits (made is)
 fits is =
@@ -132,6 +145,7 @@ fits is =
       entries = λ x i. (
         bits-below 8 (x .readers) (λ p t. let y = s .held x i .readers p t in let l = n .0 (y .0) (y .1) .1 in
             let q = y .2 in omega arith),
+        n .2 x i,
         e .entries x i,
       );
       txns = λ t i. (n .0 t i .0, n .0 t i .1, e .txns t i);

@@ -1,29 +1,34 @@
 -- The records of a history of frames that are bytes have every number in the range of its bytes.
 use Prim.Native.Nat.{ℕ, zero, suc, _+_, _*_, _≤_, _<_}
-use mathlib.Core.Bool.{not, _&&_}
-use mathlib.Core.Path.{refl, subst⁻¹}
+use mathlib.Core.Bool.{true, false, not, _&&_, _||_}
+use mathlib.Core.Path.{_≡_, refl, sym, _∙_, subst⁻¹}
 use mathlib.Core.List.{List, [], _∷_, List·Memᴰ, List·Memᴰ·head, List·Memᴰ·tail, Memᴰ·map}
 use native.Mathlib.Omega.{arith}
+use lib.Dec.{eqb, ltb}
+use borrow.Author.Tests.{eqb-true, ltb-false}
 use Rattle.rules.specs.declared.Entry.{Entry}
 use Rattle.rules.specs.declared.Fields.{Fields}
+use Rattle.rules.specs.declared.Mark.{Mark}
+use Rattle.rules.specs.Template.{bare, bit}
 use Rattle.rules.specs.declared.Record.{Record}
 use Rattle.rules.specs.declared.Txn.{Txn}
 use Rattle.rules.specs.declared.LookUp.{LookUp}
-use Rattle.rules.specs.Numbers.{forever}
+use Rattle.rules.specs.Numbers.{opWrite, forever}
 use Rattle.rules.specs.State.{Model, empty}
-use Rattle.rules.specs.Frame.{Frame, byteAt, numberAt, decode, isLookUp}
-use Rattle.rules.specs.Records.{noFields, plain, written, found, nothing, waiting, created, committed, aborted}
+use Rattle.rules.specs.Frame.{Frame, byteAt, numberAt, decode, isWrite, isLookUp}
+use Rattle.rules.specs.Records.{noMark, plain, written, found, nothing, waiting, created, committed, aborted}
 use Rattle.rules.specs.Records.{exception, ticked, refused}
 use Rattle.rules.specs.Write.{newEntry, stored}
 use Rattle.rules.specs.LookUp.{lookUpOf}
 use Rattle.rules.specs.Transactions.{create, commit, abort}
 use Rattle.rules.specs.Tick.{dropEnded}
-use Rattle.rules.specs.Refusals.{refusal}
+use Rattle.rules.specs.Refusals.{badBlanks, malformed, refusal}
 use Rattle.rules.specs.Step.{step}
 use Rattle.rules.specs.SerialRun.{Kept, keptOf, wasRefused}
 use Rattle.rules.specs.Lists.{All}
 use Rattle.rules.specs.Sound.{Consistent}
-use Rattle.rules.proofs.BoolLaws.{cond-cases}
+use Rattle.rules.proofs.BoolLaws.{cond-cases, or-left, or-right}
+use Rattle.rules.proofs.LayoutLaws.{write-form}
 use Rattle.demands.specs.Machine.{Input}
 use Rattle.demands.specs.Bounds.{InRange, AllInRange, AreBytes}
 use Rattle.demands.specs.History.{recordsOf}
@@ -41,6 +46,22 @@ record FieldsIn (x : Fields) : Type 0 where
   side : x .side < 4294967296
   image : x .image < 4294967296
   place : x .place < 4294967296
+
+-- with their blanks
+abbrev BlanksIn : ℕ → Fields → Type 0
+BlanksIn blanks x = (blanks < 16) × (badBlanks blanks x ≡ false)
+
+abbrev MarkIn : Mark → Type 0
+MarkIn x = FieldsIn (bare x) × BlanksIn (x .blanks) (bare x)
+
+-- of a write that 4 lets pass
+blanks-in : (f : Frame) → isWrite (f .op) ≡ true → malformed f ≡ false → BlanksIn (f .mask) (f .fields)
+blanks-in f t e =
+    let full = sym (write-form f (eqb-true (f .op) opWrite t)) ∙ e in
+    let filled = not (eqb (f .byte3) 0) in
+    let high = or-right filled (ltb 15 (f .mask)) (or-left (filled || ltb 15 (f .mask)) _ full) in
+    let l = ltb-false 15 (f .mask) high in
+    (omega arith, or-right (filled || ltb 15 (f .mask)) _ full)
 
 record FrameIn (f : Frame) : Type 0 where
   party : f .party < 256
@@ -78,7 +99,7 @@ frame-in bs h =
 
 -- the tables
 abbrev KeptIn : Kept → Type 0
-KeptIn k = (k .number < 4294967296) × FieldsIn (k .fields)
+KeptIn k = (k .number < 4294967296) × MarkIn (k .fields)
 
 abbrev TxnIn : Txn → Type 0
 TxnIn t = (t .id .0 < 4294967296) × (t .party < 256)
@@ -94,7 +115,7 @@ record Ranged (m : Model) : Type 0 where
 
 -- the records
 range : (a : Record) → a .kind < 256 → a .party < 256 → a .refusal < 256 → a .txn .0 < 4294967296
-    → a .entry .0 < 4294967296 → FieldsIn (a .fields) → InRange a
+    → a .entry .0 < 4294967296 → MarkIn (a .fields) → InRange a
 range a k p r t e x =
     record {
       kind = k;
@@ -102,14 +123,20 @@ range a k p r t e x =
       refusal = r;
       txn = t;
       entry = e;
-      field-kind = x .kind;
-      field-side = x .side;
-      field-image = x .image;
-      field-place = x .place;
+      field-kind = x .0 .kind;
+      field-side = x .0 .side;
+      field-image = x .0 .image;
+      field-place = x .0 .place;
+      field-blanks = x .1 .0;
+      blank-fields = x .1 .1;
     }
 
-none-in : FieldsIn noFields
-none-in = record { kind = omega arith; side = omega arith; image = omega arith; place = omega arith }
+none-in : MarkIn noMark
+unfolding bit
+none-in = (
+  record { kind = omega arith; side = omega arith; image = omega arith; place = omega arith },
+  (omega arith, refl),
+)
 
 plain-in : (k p t : ℕ) → k < 256 → p < 256 → t < 4294967296 → InRange (plain k p t)
 plain-in k p t a b c = range (plain k p t) a b (omega arith) c (omega arith) none-in
@@ -167,8 +194,8 @@ module _ {f : Frame} (h : FrameIn f) where
       record {
         next = heard-in e r .1;
         entries =
-            kept-all KeptIn e (s .ordered) (λ t a _. let l = a .entry-number t in (omega arith, h .fields))
-            (r .entries);
+            kept-all KeptIn e (s .ordered)
+            (λ t a _. let l = a .entry-number t in (omega arith, (h .fields, blanks-in f t (a .formed)))) (r .entries);
         txns = txns-all TxnIn e (λ t a. let l = a .txn-number t in (omega arith, h .party)) (r .txns);
         waits = waits-all WaitIn e (λ t a. (h .txn, h .party)) (r .waits);
       }

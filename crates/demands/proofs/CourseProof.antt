@@ -8,13 +8,14 @@ use lib.ListN.{take, drop}
 use Rattle.rules.specs.declared.LookUp.{LookUp}
 use Rattle.rules.specs.declared.Record.{Record}
 use Rattle.rules.specs.declared.Until.the-variants.{Forever}
-use Rattle.rules.specs.Numbers.{forever}
+use Rattle.rules.specs.Numbers.{opRead, forever}
 use Rattle.rules.specs.State.{Model, empty, withWaits, withClock, withNextEntry, withNextTxn}
 use Rattle.rules.specs.Frame.{byteAt, fourBytes}
 use Rattle.rules.specs.Records.{noFields, recordBytes}
 use Rattle.rules.specs.Step.{step}
 use Rattle.rules.specs.Tray.{runTray, hostNumber}
 use Rattle.rules.specs.Print.{digits, line, recordLine, doneLine, printed}
+use Rattle.demands.specs.Frames.{write-blank, Found-blank}
 use Rattle.demands.specs.Frames.{F, E, long, write-by, read-by, take-by, create-by, commit-by, abort-by, a-tick}
 use Rattle.demands.specs.Frames.{times, Written, Found, Nothing, Created, Committed, Aborted, Exception, Ticked}
 use Rattle.demands.specs.Frames.{Refused}
@@ -136,10 +137,11 @@ refusals : Refused-with
     ∷ (empty, 0 ∷ 5 ∷ [], 2)
     ∷ (empty, 10 ∷ 5 ∷ [], 2)
     ∷ (empty, 9 ∷ 0 ∷ 0 ∷ [], 3)
-    -- byte 3, a mask above 15, a mask in a write, a template's field without its bit, a transaction in a create
+    -- byte 3, a mask above 15, a blank that is not 0, a template's field without its bit, a transaction in a create
     ∷ (empty, 9 ∷ 0 ∷ 0 ∷ 1 ∷ [], 4)
     ∷ (empty, long 2 1 0 9 16 noFields, 4)
-    ∷ (empty, long 1 1 0 9 1 E, 4)
+    ∷ (empty, write-blank 1 0 0 16 noFields, 4)
+    ∷ (empty, write-blank 1 0 9 1 E, 4)
     ∷ (empty, long 2 1 0 9 1 E, 4)
     ∷ (empty, (6 ∷ 1 ∷ 0 ∷ 0 ∷ []) ++ fourBytes 1 ++ fourBytes 9, 4)
     ∷ (empty, create-by 0 9, 5)
@@ -228,9 +230,26 @@ oldest-first : Oldest-first
 unfolding all-rules answers answersFrom
 oldest-first = record { at-once = refl; served = refl }
 
+-- "Marks without a place": a finding whose place is blank, and one at place 0
+pub record Blanks : Type 0 where
+  -- a template without a place matches both; place 0 matches the one that has it
+  pub null-rule : later 2 (write-blank 1 0 9 8 (F 7 1 40 0) ∷ write-by 1 0 9 (F 7 1 40 0) ∷ read-by 2 0 0 7
+      ∷ long opRead 2 0 0 8 noFields ∷ [])
+      ≡ (Found-blank 2 0 1 8 (F 7 1 40 0) ∷ []) ∷ (Found 2 0 2 (F 7 1 40 0) ∷ []) ∷ []
+  -- blanks go through a commit, and through a take that is put back
+  pub kept : later 4 (take-by 2 0 9 7 ∷ create-by 1 9 ∷ write-blank 1 1 9 14 (F 7 0 0 0)
+      ∷ write-blank 1 1 9 14 (F 7 0 0 0) ∷ commit-by 1 1 ∷ create-by 1 9 ∷ take-by 1 2 0 7 ∷ abort-by 1 2
+      ∷ read-by 2 0 0 7 ∷ [])
+      ≡ (Committed 1 1 ∷ Found-blank 2 0 1 14 (F 7 0 0 0) ∷ []) ∷ (Created 1 2 ∷ [])
+      ∷ (Found-blank 1 2 2 14 (F 7 0 0 0) ∷ []) ∷ (Aborted 1 2 ∷ []) ∷ (Found-blank 2 0 2 14 (F 7 0 0 0) ∷ []) ∷ []
+
+blanks : Blanks
+unfolding all-rules answers answersFrom
+blanks = record { null-rule = refl; kept = refl }
+
 -- the bytes of a record
-found-bytes : recordBytes (Found 2 0 1 (F 7 1 40 258))
-    ≡ 2 ∷ 2 ∷ 0 ∷ 0 ∷ 0 ∷ 0 ∷ 0 ∷ 0 ∷ 1 ∷ 0 ∷ 0 ∷ 0 ∷ 7 ∷ 0 ∷ 0 ∷ 0 ∷ 1 ∷ 0 ∷ 0 ∷ 0 ∷ 40 ∷ 0 ∷ 0 ∷ 0 ∷ 2 ∷ 1 ∷ 0 ∷ 0
+found-bytes : recordBytes (Found-blank 2 0 1 1 (F 0 1 40 258))
+    ≡ 2 ∷ 2 ∷ 0 ∷ 1 ∷ 0 ∷ 0 ∷ 0 ∷ 0 ∷ 1 ∷ 0 ∷ 0 ∷ 0 ∷ 0 ∷ 0 ∷ 0 ∷ 0 ∷ 1 ∷ 0 ∷ 0 ∷ 0 ∷ 40 ∷ 0 ∷ 0 ∷ 0 ∷ 2 ∷ 1 ∷ 0 ∷ 0
     ∷ []
 unfolding recordBytes
 found-bytes = refl

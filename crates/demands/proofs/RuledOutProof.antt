@@ -5,7 +5,7 @@ use mathlib.Core.Path.{_≡_, refl, sym, ap}
 use mathlib.Core.List.{List, [], _∷_, _++_, map, List·Memᴰ·head, List·Memᴰ·not-nil}
 use native.Mathlib.Omega.{arith}
 use borrow.Author.Tests.{ltb-true, leb-false, not-true}
-use lib.Dec.{leb, ltb}
+use lib.Dec.{eqb, leb, ltb}
 use lib.ListN.{length, replicate, getD}
 use Rattle.rules.specs.declared.Entry.{Entry}
 use Rattle.rules.specs.declared.Record.{Record}
@@ -13,9 +13,11 @@ use Rattle.rules.specs.declared.Until.the-variants.{Tick}
 use Rattle.rules.specs.Lists.{anyb}
 use Rattle.rules.specs.State.{Model, empty}
 use Rattle.rules.specs.Frame.{decode, fourBytes}
+use Rattle.rules.specs.Records.{noFields}
 use Rattle.rules.specs.Refusals.{refusal}
 use Rattle.rules.specs.Step.{step, carriedOut}
 use Rattle.rules.specs.Allowed.{Answered}
+use Rattle.rules.specs.Template.{markOf}
 use Rattle.rules.specs.SerialRun.{Logged, Kept, sameFields, isKept, failed, taking, carryOut, carryOutAll, perform}
 use Rattle.rules.specs.SerialRun.{listOf, thrownAway, lastTakes, advanced, follow, followAll, wasRefused, noteLookUp}
 use Rattle.rules.specs.SerialRun.{followLog, serialRun, left, committedIn, Serial}
@@ -28,12 +30,13 @@ use Rattle.demands.specs.Book.{enters, entersAll, arrives, keepBook, boo
 use Rattle.demands.specs.Told.{Told, readsNumber, whoTakes, whoReads, committedTold, privateTold, told}
 use Rattle.demands.specs.Demands.{Demand1, Demand2, Demand3}
 use Rattle.demands.specs.Frames.{E, write-by, read-by, take-by, readIfExists-by, create-by, commit-by, abort-by}
-use Rattle.demands.specs.Frames.{a-tick}
+use Rattle.demands.specs.Frames.{F, a-tick, write-blank}
 use Rattle.demands.specs.RuledOut.{saysNothing, saysWaiting, refusesAll, sameRecord, storesNothing}
 use Rattle.demands.specs.RuledOut.{firstFrameOnly, oneMore, losesCommit, putsBackLate, ownReadBars, nothingFirst}
 use Rattle.demands.specs.RuledOut.{showsPrivate, ignoresWrites, writesTwice, ticksAtWrites, neverExpires}
 use Rattle.demands.specs.RuledOut.{lastExceptionFirst, lastServedFirst, servesEnded, newestFirst, waitsInVain}
 use Rattle.demands.specs.RuledOut.{givesUpFirst, byParty, nothingsByParty, newestInService, takesLongCommits}
+use Rattle.demands.specs.RuledOut.{matchesBlanks, losesBlanks, leavesByte3, takesFilledBlanks, refusesBlanks}
 use Rattle.demands.specs.RuledOut.{gives14, keepsWithdrawn, withdrawnGetsNothing, abortsAny, RuledOut}
 use Rattle.sound.proofs.AllLaws.{all-none, all-cons, all-map}
 use Rattle.sound.proofs.OrderLaws.{Numbered}
@@ -82,9 +85,9 @@ all-told = tt
 
 -- E, written with lease 9 at clock 0
 abbrev a-kept : Kept
-a-kept = record { number = 1; fields = E; end = Tick 9 }
+a-kept = record { number = 1; fields = markOf 0 E; end = Tick 9 }
 
--- a record's kind, party or entry number, by its place
+-- a record's kind, party, entry number or blanks, by its place
 abbrev kindAt : ℕ → List Record → ℕ
 kindAt k rs = getD (map (λ (r : Record). r .kind) rs) k 0
 
@@ -93,6 +96,9 @@ partyAt k rs = getD (map (λ (r : Record). r .party) rs) k 0
 
 abbrev entryAt : ℕ → List Record → ℕ
 entryAt k rs = getD (map (λ (r : Record). r .entry .0) rs) k 0
+
+abbrev blanksAt : ℕ → List Record → ℕ
+blanksAt k rs = getD (map (λ (r : Record). r .fields .blanks) rs) k 0
 
 -- whether entries stand by number, below the next
 unfoldable orderedb : ℕ → List Entry → Bool
@@ -153,7 +159,7 @@ unfolding all-rules all-told lastOf logOf answeredBy orderedb saysNothing saysWa
     storesNothing firstFrameOnly losesCommit putsBackLate ownReadBars nothingFirst showsPrivate ignoresWrites
     writesTwice ticksAtWrites neverExpires lastExceptionFirst lastServedFirst servesEnded newestFirst newestInService
     takesLongCommits gives14 keepsWithdrawn withdrawnGetsNothing abortsAny waitsInVain givesUpFirst nothingsByParty
-    byParty enters entersAll arrives keepBook bookOf
+    matchesBlanks losesBlanks leavesByte3 takesFilledBlanks refusesBlanks byParty enters entersAll arrives keepBook bookOf
 each-ruled-out =
     record {
       says-nothing = λ d.
@@ -188,7 +194,7 @@ each-ruled-out =
       puts-back-late = λ d.
           let s =
           by-serial putsBackLate d (write-by 1 0 1 E ∷ create-by 1 9 ∷ take-by 1 1 0 7 ∷ a-tick ∷ abort-by 1 1 ∷ []) in
-          List·Memᴰ·not-nil (s .same (record { number = 1; fields = E; end = Tick 1 }) .1 (List·Memᴰ·head refl));
+          List·Memᴰ·not-nil (s .same (record { number = 1; fields = markOf 0 E; end = Tick 1 }) .1 (List·Memᴰ·head refl));
       own-read-bars = λ d.
           by-said ownReadBars d (write-by 1 0 9 E ∷ create-by 1 9 ∷ read-by 1 1 0 7 ∷ []) (take-by 1 1 0 7) refl refl
           (kindAt 0) (λ (q : 2 ≡ 3). omega arith);
@@ -258,5 +264,22 @@ each-ruled-out =
           by-said nothingsByParty d
           (create-by 1 9 ∷ write-by 1 1 9 E ∷ readIfExists-by 3 0 9 7 ∷ readIfExists-by 2 0 9 7 ∷ []) (abort-by 1 1)
           refl refl (partyAt 1) (λ (q : 3 ≡ 2). omega arith);
+      -- a mark without a kind is found by kind 0
+      matches-blanks = λ d.
+          by-said matchesBlanks d (write-blank 1 0 9 1 noFields ∷ []) (read-by 2 0 0 0) refl refl (kindAt 0)
+          (λ (q : 3 ≡ 2). omega arith);
+      -- the plain set has it without a place, the space with place 0
+      loses-blanks = λ d.
+          let fs = create-by 1 9 ∷ write-blank 1 1 9 8 (F 7 1 40 0) ∷ commit-by 1 1 ∷ [] in
+          let k : Kept = record { number = 1; fields = markOf 8 (F 7 1 40 0); end = Tick 9 } in
+          let m = by-serial losesBlanks d fs .same k .0 (List·Memᴰ·head refl) in
+          true≢false (none-mem (λ x. eqb (x .fields .blanks) 8) refl m);
+      leaves-byte-3 = λ d.
+          by-said leavesByte3 d (write-blank 1 0 9 8 (F 7 1 40 0) ∷ []) (read-by 2 0 0 7) refl refl (blanksAt 0)
+          (λ (q : 8 ≡ 0). omega arith);
+      takes-filled-blanks = λ d.
+          let q : _≡_ {A = ℕ} 0 4 = by-judged takesFilledBlanks d [] (write-blank 1 0 9 1 E) in omega arith;
+      refuses-blanks = λ d.
+          let q : _≡_ {A = ℕ} 4 0 = by-judged refusesBlanks d [] (write-blank 1 0 9 8 (F 7 1 40 0)) in omega arith;
       answers-none = λ d. d .answers [] empty (empty, refl, begun empty) (handIn a-tick) .2;
     }

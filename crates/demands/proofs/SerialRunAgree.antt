@@ -9,7 +9,7 @@ use native.Mathlib.Omega.{arith}
 use borrow.Author.Tests.{eqb-true, eqb-false, eq-eqb, ne-eqb}
 use lib.Dec.{eqb}
 use Rattle.rules.specs.declared.Entry.{Entry}
-use Rattle.rules.specs.declared.Fields.{Fields}
+use Rattle.rules.specs.declared.Mark.{Mark}
 use Rattle.rules.specs.declared.Txn.{Txn}
 use Rattle.rules.specs.Lists.{anyb, All}
 use Rattle.rules.specs.Time.{reached}
@@ -26,7 +26,7 @@ use Rattle.demands.proofs.SerialRunOps.{after, afterAll, CanOne, Can, m
 use Rattle.demands.proofs.SerialRunOps.{after-snoc, can-snoc}
 
 -- whether an operation that finds a number gives these fields
-abbrev pub fits : ℕ → Fields → Operation → Bool
+abbrev pub fits : ℕ → Mark → Operation → Bool
 fits n x (adds k) = true
 fits n x (finds b i y) = not (eqb i n) || sameFields y x
 
@@ -70,7 +70,7 @@ abbrev pub AgreeIn : Model → List Kept → (ℕ → List Operation) → Type 0
 AgreeIn m ks lists = Agree (m .clock) (m .entries) (m .txns) (m .nextEntry) ks lists
 
 -- fields are the same as themselves
-pub fields-same : (x : Fields) → sameFields x x ≡ true
+pub fields-same : (x : Mark) → sameFields x x ≡ true
 unfolding sameFields
 fields-same x =
     rw (
@@ -78,6 +78,7 @@ fields-same x =
       eq-eqb (x .side) (x .side) refl,
       eq-eqb (x .image) (x .image) refl,
       eq-eqb (x .place) (x .place) refl,
+      eq-eqb (x .blanks) (x .blanks) refl,
     )
 
 pub kept-is : (e : Entry) → isKept (e .id .0) (e .fields) (keptOf e) ≡ true
@@ -92,7 +93,7 @@ takes-same e [] h = refl
 takes-same e (o ∷ os) h =
     ap₂ (λ a b. a || b) (one o (h o (List·Memᴰ·head refl))) (takes-same e os (λ p i. h p (List·Memᴰ·tail i)))
   where
-    pair : (b : Bool) (n : ℕ) (x : Fields) (c : Bool) → eqb n (e .id .0) ≡ c
+    pair : (b : Bool) (n : ℕ) (x : Mark) (c : Bool) → eqb n (e .id .0) ≡ c
         → (not c || sameFields x (e .fields)) ≡ true → (b && isKept n x (keptOf e)) ≡ (b && c)
     pair b n x true q t = ap (λ d. b && d) (rw (eq-eqb (e .id .0) n (sym (eqb-true n (e .id .0) q)), t))
     pair b n x false q t = ap (λ d. b && d) (rw (ne-eqb (e .id .0) n (λ z. eqb-false n (e .id .0) q (sym z))))
@@ -109,7 +110,7 @@ takes-mentions n os e = all-false (takesNumber n) os (λ o i. one o (none-mem (m
     one (adds k) q = refl
     one (finds b j x) q = rw (q, and-false)
 
-pub fits-unfound : (n : ℕ) (x : Fields) (o : Operation) → mentionsIt n o ≡ false → fits n x o ≡ true
+pub fits-unfound : (n : ℕ) (x : Mark) (o : Operation) → mentionsIt n o ≡ false → fits n x o ≡ true
 fits-unfound n x (adds k) q = refl
 fits-unfound n x (finds b i y) q = rw q
 

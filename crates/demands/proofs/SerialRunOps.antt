@@ -8,7 +8,7 @@ use mathlib.Core.List.{Memᴰ·append-left, Memᴰ·append-right}
 use borrow.Author.Tests.{eqb-true, eq-eqb}
 use lib.Dec.{eqb}
 use native.Mathlib.Omega.{arith}
-use Rattle.rules.specs.declared.Fields.{Fields}
+use Rattle.rules.specs.declared.Mark.{Mark}
 use Rattle.rules.specs.Lists.{filterb, anyb}
 use Rattle.rules.specs.SerialRun.{Kept, Operation, adds, finds, Run, isKept, taking, carryOut, carryOutAll}
 use Rattle.rules.proofs.ListLaws.{filter-filter, filter-same, filter-append, mem-filter, filter-mem, any-mem, mem-any}
@@ -16,7 +16,7 @@ use Rattle.rules.proofs.ListLaws.{count, count-append, count-cons, count-filter
 use Rattle.rules.proofs.BoolLaws.{and-left}
 
 -- the set after an operation, and after a list of them
-abbrev pub afterFind : Bool → ℕ → Fields → List Kept → List Kept
+abbrev pub afterFind : Bool → ℕ → Mark → List Kept → List Kept
 afterFind true n x ks = filterb (λ k. not (isKept n x k)) ks
 afterFind false n x ks = ks
 
@@ -86,7 +86,7 @@ mentionsIt n (finds b i x) = eqb i n
 abbrev pub mentions : List Operation → ℕ → Bool
 mentions os n = anyb (mentionsIt n) os
 
-pub kept-number : (n : ℕ) (x : Fields) (k : Kept) → isKept n x k ≡ true → k .number ≡ n
+pub kept-number : (n : ℕ) (x : Mark) (k : Kept) → isKept n x k ≡ true → k .number ≡ n
 unfolding isKept
 kept-number n x k e = eqb-true (k .number) n (and-left _ _ e)
 
@@ -139,7 +139,7 @@ addsIt n (adds k) = eqb (k .number) n
 addsIt n (finds b i x) = false
 
 -- what is taken leaves the set
-taken-leaves : (n i : ℕ) (x : Fields) (ks : List Kept) → anyb (isKept i x) ks ≡ true
+taken-leaves : (n i : ℕ) (x : Mark) (ks : List Kept) → anyb (isKept i x) ks ≡ true
     → count (isNumber n) (filterb (λ k. not (isKept i x k)) ks) + cond (eqb n i) 1 0 ≤ count (isNumber n) ks
 taken-leaves n i x ks e = go (eqb n i) refl
   where

@@ -7,6 +7,7 @@ use mathlib.Core.List.{List, [], _∷_, _++_, List·Memᴰ, List·Memᴰ·head, 
 use mathlib.Core.List.{List·Memᴰ·eq-of-singleton, Memᴰ·append-left, Memᴰ·append-right}
 use native.Mathlib.Omega.{arith}
 use borrow.Author.Tests.{ne-eqb}
+use Rattle.rules.specs.Template.{markOf}
 use Rattle.rules.specs.declared.Entry.{Entry}
 use Rattle.rules.specs.declared.Txn.{Txn}
 use Rattle.rules.specs.Lists.{anyb, All}
@@ -88,7 +89,7 @@ module _ {m : Model} (f : Frame) {ks : List Kept} {lists : ℕ → List Operatio
                     ∙ sym (ne-eqb 0 (x .id .0) (λ z. let b = s .txns-ok .above x i in omega arith));
                 holds = λ r. absurd (true≢false (sym r ∙ unmentioned (x .id .0)));
                 reads = λ b. absurd (true≢false (sym b ∙ bit-of-zero (x .slot)));
-                fitting = λ o j. fits-unfound (m .nextEntry) (f .fields) o (unfound (x .id .0) o j);
+                fitting = λ o j. fits-unfound (m .nextEntry) (markOf (f .mask) (f .fields)) o (unfound (x .id .0) o j);
               });
           ties-own =
               λ x i q. grown-all (Ties x (lists (x .id .0) ++ (added ∷ [])))
@@ -99,7 +100,7 @@ module _ {m : Model} (f : Frame) {ks : List Kept} {lists : ℕ → List Operatio
                 reads = λ b. absurd (true≢false (sym b ∙ bit-of-zero (x .slot)));
                 fitting =
                     all-snoc (lists (x .id .0))
-                    (λ o j. fits-unfound (m .nextEntry) (f .fields) o (unfound (x .id .0) o j)) refl;
+                    (λ o j. fits-unfound (m .nextEntry) (markOf (f .mask) (f .fields)) o (unfound (x .id .0) o j)) refl;
               });
           can-other =
               λ x i d. can-keep (lists (x .id .0)) ks (after added ks) (λ k j _. Memᴰ·append-left _ j) (a .can x i);

@@ -11,9 +11,10 @@ use Rattle.rules.specs.declared.Record.{Record}
 use Rattle.rules.specs.declared.Txn.{Txn}
 use Rattle.rules.specs.Numbers.{lastClock}
 use Rattle.rules.specs.Time.{EndFits}
-use Rattle.rules.specs.Template.{bit}
+use Rattle.rules.specs.Template.{bare, bit}
 use Rattle.rules.specs.State.{Model, Bounded}
 use Rattle.rules.specs.Holds.{readByOther, available, conflicts}
+use Rattle.rules.specs.Refusals.{badBlanks}
 use Rattle.rules.specs.Sound.{ByNumber}
 use Rattle.rules.specs.SerialRun.{Logged}
 use Rattle.demands.specs.Machine.{Machine}
@@ -37,7 +38,7 @@ pub record Timely (m : Model) : Type 0 where
   pub txns : (t : Txn) → List·Memᴰ t (m .txns) → EndFits (t .end)
   pub waits : (w : LookUp) → List·Memᴰ w (m .waits) → EndFits (w .deadline)
 
--- a record's numbers fit their bytes
+-- a record's numbers fit their bytes, and what is blank is 0 ("a bit of 1 is blank, and the field must be 0": T-08)
 pub record InRange (r : Record) : Type 0 where
   pub kind : r .kind < 256
   pub party : r .party < 256
@@ -48,6 +49,8 @@ pub record InRange (r : Record) : Type 0 where
   pub field-side : r .fields .side < 4294967296
   pub field-image : r .fields .image < 4294967296
   pub field-place : r .fields .place < 4294967296
+  pub field-blanks : r .fields .blanks < 16
+  pub blank-fields : badBlanks (r .fields .blanks) (bare (r .fields)) ≡ false
 
 abbrev pub AllInRange : List Record → Type 0
 AllInRange rs = (r : Record) → List·Memᴰ r rs → InRange r

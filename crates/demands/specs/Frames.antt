@@ -2,11 +2,13 @@
 use Prim.Native.Nat.{ℕ, zero, suc}
 use mathlib.Core.List.{List, [], _∷_, _++_}
 use Rattle.rules.specs.declared.Fields.{Fields}
+use Rattle.rules.specs.declared.Mark.{Mark}
 use Rattle.rules.specs.declared.Record.{Record}
 use Rattle.rules.specs.Numbers.{opWrite, opRead, opTake, opReadIfExists, opTakeIfExists, opCreate, opCommit, opAbort}
 use Rattle.rules.specs.Numbers.{opTick, kindWritten, kindFound, kindNothing, kindWaiting, kindCreated, kindCommitted}
 use Rattle.rules.specs.Numbers.{kindAborted, kindException, kindTicked, kindRefused}
-use Rattle.rules.specs.Records.{noFields, plain}
+use Rattle.rules.specs.Records.{noMark, plain}
+use Rattle.rules.specs.Template.{markOf}
 use Rattle.rules.specs.Frame.{fourBytes}
 
 -- four fields
@@ -24,6 +26,10 @@ long op party t leaseOrTimeout mask x =
 -- by party: the transaction, the lease and the fields
 abbrev pub write-by : ℕ → ℕ → ℕ → Fields → List ℕ
 write-by party t lease x = long opWrite party t lease 0 x
+
+-- with blanks, told by a mask
+abbrev pub write-blank : ℕ → ℕ → ℕ → ℕ → Fields → List ℕ
+write-blank party t lease blanks x = long opWrite party t lease blanks x
 
 -- by party: the transaction, the timeout, and a kind, the one field that is asked for
 abbrev pub read-by : ℕ → ℕ → ℕ → ℕ → List ℕ
@@ -56,19 +62,22 @@ times zero f = []
 times (suc n) f = f ∷ times n f
 
 -- records: kind, party, refusal, transaction, entry number, fields
-abbrev answer : ℕ → ℕ → ℕ → ℕ → ℕ → Fields → Record
+abbrev answer : ℕ → ℕ → ℕ → ℕ → ℕ → Mark → Record
 answer k p r t n x =
     record { kind = k; party = p; refusal = r; txn = record { 0 = t }; entry = record { 0 = n }; fields = x }
 
 -- by party, then what the kind has
 abbrev pub Refused : ℕ → ℕ → Record
-Refused party n = answer kindRefused party n 0 0 noFields
+Refused party n = answer kindRefused party n 0 0 noMark
 
 abbrev pub Written : ℕ → ℕ → ℕ → Record
-Written party t n = answer kindWritten party 0 t n noFields
+Written party t n = answer kindWritten party 0 t n noMark
 
 abbrev pub Found : ℕ → ℕ → ℕ → Fields → Record
-Found party t n x = answer kindFound party 0 t n x
+Found party t n x = answer kindFound party 0 t n (markOf 0 x)
+
+abbrev pub Found-blank : ℕ → ℕ → ℕ → ℕ → Fields → Record
+Found-blank party t n blanks x = answer kindFound party 0 t n (markOf blanks x)
 
 abbrev pub Nothing : ℕ → ℕ → Record
 Nothing party t = plain kindNothing party t

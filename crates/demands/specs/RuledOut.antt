@@ -1,7 +1,7 @@
 -- What the demands rule out: a small wrong space for each of document 01's Contracts c, for each mistake that students
 -- make, for silence, order and time, for the newest mark first, for frames of another length, for number 14, for
--- aborts out of a wait and for waits in vain; and the statement that the demand named for it fails. (`Determined` says
--- that no wrong space is left.)
+-- aborts out of a wait, for waits in vain and for blanks; and the statement that the demand named for it fails.
+-- (`Determined` says that no wrong space is left.)
 use Prim.Native.Nat.{suc, _+_}
 use mathlib.Core.Bool.{Bool, true, not, cond, _&&_, _||_}
 use mathlib.Core.Path.{_≡_}
@@ -10,12 +10,13 @@ use lib.Dec.{eqb, leb}
 use lib.ListN.{length, take}
 use Rattle.rules.specs.declared.Entry.{Entry}
 use Rattle.rules.specs.declared.LookUp.{LookUp}
-use Rattle.rules.specs.Numbers.{maxWaits, opCreate, opCommit, operationRefused, waitingRefused}
+use Rattle.rules.specs.declared.Record.{Record}
+use Rattle.rules.specs.Numbers.{maxWaits, opCreate, opCommit, operationRefused, formRefused, waitingRefused}
 use Rattle.rules.specs.Lists.{filterb, findb}
 use Rattle.rules.specs.Time.{reached}
 use Rattle.rules.specs.State.{Model, withEntries, withWaits, withClock, withNextEntry}
-use Rattle.rules.specs.Template.{matches}
-use Rattle.rules.specs.Holds.{visible, oldest}
+use Rattle.rules.specs.Template.{matches, markOf, bare}
+use Rattle.rules.specs.Holds.{visible, available, oldest}
 use Rattle.rules.specs.Frame.{Frame, byteAt, decode, frameLength, isWrite, isLookUp, isCommit, isAbort, isTick}
 use Rattle.rules.specs.Frame.{serves}
 use Rattle.rules.specs.Records.{written, found, nothing, committed, aborted, exception, ticked}
@@ -25,7 +26,7 @@ use Rattle.rules.specs.Transactions.{abort, takenBy}
 use Rattle.rules.specs.Service.{serve, service}
 use Rattle.rules.specs.Tick.{endedTxns, abortAll, dropEnded}
 use Rattle.rules.specs.Closing.{isOver, closeWaits}
-use Rattle.rules.specs.Refusals.{refusal}
+use Rattle.rules.specs.Refusals.{badBlanks, refusal}
 use Rattle.rules.specs.Write.{newEntry, stored}
 use Rattle.rules.specs.Step.{ownPart, carriedOut, accepted, refusedWith, step}
 use Rattle.rules.specs.Allowed.{Answered}
@@ -296,6 +297,64 @@ nothingsByParty =
       records = map nothing (foldr byParty [] (filterb (isOver m) (m .waits)));
     })
 
+-- "Marks without a place" (document 02, T-08)
+
+-- an entry, and a record, as if no field were blank
+abbrev pub unblanked : Entry → Entry
+unblanked e =
+    record {
+      id = e .id;
+      fields = markOf 0 (bare (e .fields));
+      end = e .end;
+      «private_to» = e .«private_to»;
+      «taken_by» = e .«taken_by»;
+      readers = e .readers;
+    }
+
+abbrev pub byteThreeless : Record → Record
+byteThreeless r =
+    record {
+      kind = r .kind;
+      party = r .party;
+      refusal = r .refusal;
+      txn = r .txn;
+      entry = r .entry;
+      fields = markOf 0 (bare (r .fields));
+    }
+
+-- a blank is matched as 0
+unfoldable pub matchesBlanks : Stepper
+matchesBlanks =
+    carrying lookUps
+    (λ m f. let w = lookUpOf m f in
+    alone (answer m w (f .leaseOrTimeout) (findb (λ e. available (m .txns) w (unblanked e)) (m .entries))))
+
+-- what was private to a transaction has no blanks any more when it is committed
+unfoldable pub losesBlanks : Stepper
+losesBlanks =
+    carrying (λ f. isCommit (f .op))
+    (λ m f. let committing : Entry → Entry = λ e. cond (eqb (e .«private_to» .0) (f .txn)) (unblanked e) e in
+    carriedOut (withEntries (map committing (m .entries)) m) f)
+
+-- leaves byte 3 of a found 0
+unfoldable pub leavesByte3 : Stepper
+leavesByte3 m bs area =
+    let o = step m bs area in record { model = o .model; records = map byteThreeless (o .records); number = o .number }
+
+-- takes a write whose blank field is not 0
+unfoldable pub takesFilledBlanks : Stepper
+takesFilledBlanks m bs area =
+    let f = decode bs in
+    cond (isWrite (f .op) && badBlanks (f .mask) (f .fields) && eqb (refusal m bs area) formRefused)
+    (accepted (carriedOut m f)) (step m bs area)
+
+-- still refuses every mask of a write but 0
+unfoldable pub refusesBlanks : Stepper
+refusesBlanks m bs area =
+    let f = decode bs in
+    cond (isWrite (f .op) && not (eqb (f .mask) 0) && eqb (refusal m bs area) 0) (refusedWith m bs formRefused)
+    (step m bs area)
+
 -- answers no frame at all
 abbrev pub mute : Machine
 mute = record { State = Model; view = λ m. m; Empty = theRules .Empty; Steps = λ m h n a. ⊥ }
@@ -331,4 +390,9 @@ pub record RuledOut : Type 0 where
   pub waits-in-vain : Demand2 (spaceOf waitsInVain) → ⊥
   pub gives-up-first : Demand2 (spaceOf givesUpFirst) → ⊥
   pub nothings-by-party : Demand2 (spaceOf nothingsByParty) → ⊥
+  pub matches-blanks : Demand2 (spaceOf matchesBlanks) → ⊥
+  pub loses-blanks : Demand3 (spaceOf losesBlanks) → ⊥
+  pub leaves-byte-3 : Demand2 (spaceOf leavesByte3) → ⊥
+  pub takes-filled-blanks : Demand1 (spaceOf takesFilledBlanks) → ⊥
+  pub refuses-blanks : Demand1 (spaceOf refusesBlanks) → ⊥
   pub answers-none : Demand1 mute → ⊥

@@ -1,5 +1,6 @@
 -- Laws that the proofs of several functions cite.
 pub mod BitLaws
+pub mod MatchLaws
 pub mod FindLaws
 pub mod HandLaws
 pub mod ConflictLaws

@@ -5,8 +5,9 @@ ghost use Rattle.rules.specs.Template.{bit, agrees, matches};
 ghost use Rattle.rules.specs.Holds.{isOther, othersIf, readByOther, available, conflicts};
 ghost use Rattle.rules.specs.Words.{view};
 ghost use Rattle.holds.specs.Live.{noSlot};
+ghost use Rattle.holds.specs.Find.{blankAsked};
 ghost use Rattle.holds.specs.Hand.{leftOver};
-ghost use mathlib.Core.Bool.{_&&_, _||_};
+ghost use mathlib.Core.Bool.{false, _&&_, _||_};
 ghost use lib.Dec.{eqb};
 ghost use Rattle.holds.specs.Sweep.{addAt, dropAt};
 use crate::live::NO_SLOT;
@@ -14,6 +15,7 @@ use crate::live::slot_of;
 use rules::Entry;
 use rules::Fields;
 use rules::LookUp;
+use rules::Mark;
 use rules::TxnId;
 use words::rows::Words;
 
@@ -72,14 +74,28 @@ pub(crate) fn add_reader(x: u8, p: u8) -> u8
 // Whether the template asks nothing of the field at bit p, or the two are equal.
 pub(crate) fn field_agrees(mask: u8, p: u8, want: u32, have: u32) -> bool
     requires { ⌜ p ≤ noSlot ⌝ }
-    ensures { λ r. ⌜ r ≡ agrees (bit p mask) want have ⌝ }
+    ensures { λ r. ⌜ r ≡ agrees (bit p mask) false want have ⌝ }
 {
     !has_bit(mask, p) | (want == have)
 }
 
-pub(crate) fn fields_match(mask: u8, want: Fields, have: Fields) -> bool
+// Whether the template asks for a field that is blank.
+pub(crate) fn is_blank_asked(mask: u8, blanks: u8) -> bool
+    ensures { λ r. ⌜ r ≡ blankAsked mask blanks ⌝ }
+{
+    let kind = has_bit(mask, 0) & has_bit(blanks, 0);
+    let side = has_bit(mask, 1) & has_bit(blanks, 1);
+    let image = has_bit(mask, 2) & has_bit(blanks, 2);
+    let place = has_bit(mask, 3) & has_bit(blanks, 3);
+    kind | side | image | place
+}
+
+pub(crate) fn fields_match(mask: u8, want: Fields, have: Mark) -> bool
     ensures { λ r. ⌜ r ≡ matches mask want have ⌝ }
 {
+    if is_blank_asked(mask, have.blanks) {
+        return false;
+    }
     let a = field_agrees(mask, 0, want.kind, have.kind);
     let b = field_agrees(mask, 1, want.side, have.side);
     let c = field_agrees(mask, 2, want.image, have.image);

@@ -1,6 +1,6 @@
 -- The table of operations: what its rows say of each operation, and with what a frame of each finishes.
 use Prim.Native.Nat.{ℕ, zero, suc, _≤_}
-use mathlib.Core.Bool.{true, false, not, _&&_}
+use mathlib.Core.Bool.{true, false, not, _&&_, _||_, or-false}
 use mathlib.Core.Logic.{_⊎_, ⊎-elim}
 use mathlib.Core.Path.{_≡_, refl}
 use native.Mathlib.Omega.{arith}
@@ -12,6 +12,7 @@ use Rattle.rules.specs.State.{Model}
 use Rattle.rules.specs.Frame.{Frame, layoutOf, isOperation, isWrite, isLookUp, isCreate, isCommit, isAbort, isTick}
 use Rattle.rules.specs.Frame.{layouts, lookUpOp, isTake, isIfExists, serves}
 use Rattle.rules.specs.Frame.{hasLeaseOrTimeout, endsTxn}
+use Rattle.rules.specs.Refusals.{badBlanks, malformed}
 use Rattle.rules.specs.Closing.{closeWaits}
 use Rattle.rules.specs.Step.{finish}
 use Rattle.rules.proofs.BoolLaws.{and-left, and-right, and-cases, twice-not}
@@ -39,6 +40,12 @@ lookUp-layout op e = lookUp-cases (λ n. layoutOf n ≡ layoutOf opRead) op e re
 
 pub lookUp-op : (op : ℕ) → isLookUp op ≡ true → lookUpOp (isTake op) (isIfExists op) ≡ op
 lookUp-op op e = lookUp-cases (λ n. lookUpOp (isTake n) (isIfExists n) ≡ n) op e refl refl refl refl
+
+-- 4, of a write
+pub write-form : (f : Frame) → f .op ≡ opWrite
+    → malformed f ≡ (not (eqb (f .byte3) 0) || ltb 15 (f .mask) || badBlanks (f .mask) (f .fields))
+unfolding malformed layoutOf
+write-form f e = rw e (simp or-false)
 
 -- an operation that is none of the others is tick
 pub left-is-tick : (op : ℕ) → isOperation op ≡ true → isWrite op ≡ false → isLookUp op ≡ false → isCreate op ≡ false

@@ -11,6 +11,7 @@ use Rattle.rules.specs.declared.Fields.{Fields}
 use Rattle.rules.specs.declared.Record.{Record}
 use Rattle.rules.specs.declared.Request.{Request}
 use Rattle.rules.specs.declared.Request.the-variants.{Write, Find, Create, Commit, Abort, Tick}
+use Rattle.rules.specs.Template.{bare}
 use Rattle.rules.specs.Frame.{Frame, numberAt, fieldsAt, fourBytes, layoutOf, frameLength}
 use Rattle.rules.specs.Frame.{decode, frameBytes, isOperation}
 use Rattle.rules.specs.Numbers.{recordSize}
@@ -34,7 +35,15 @@ fields-back x h =
 pub record-back : (r : Record) (rest : List ℕ) → RecordFits r → recordAt (recordBytes r ++ rest) 0 ≡ r
 unfolding recordAt recordBytes numberAt
 record-back r rest h =
-    rw (sym (word-is _ (h .txn)), sym (word-is _ (h .entry)), fields-back (r .fields) (h .fields))
+    let x = h .fields in
+    rw (
+      sym (word-is _ (h .txn)),
+      sym (word-is _ (h .entry)),
+      sym (word-is _ (x .kind)),
+      sym (word-is _ (x .side)),
+      sym (word-is _ (x .image)),
+      sym (word-is _ (x .place)),
+    )
 
 -- so that it is told by its bytes
 pub record-told : (r s : Record) → RecordFits r → RecordFits s → recordBytes r ≡ recordBytes s → r ≡ s

@@ -5,6 +5,7 @@ use mathlib.Core.Path.{_≡_}
 use Rattle.rules.specs.declared.Fields.{Fields}
 use Rattle.rules.specs.declared.Record.{Record}
 use Rattle.rules.specs.Frame.{Frame, frameLength, isOperation}
+use Rattle.rules.specs.Template.{bare}
 use Rattle.rules.specs.Records.{noFields}
 
 -- four bytes are enough
@@ -20,7 +21,7 @@ pub record FieldsFit (f : Fields) : Type 0 where
 pub record RecordFits (r : Record) : Type 0 where
   pub txn : Word (r .txn .0)
   pub entry : Word (r .entry .0)
-  pub fields : FieldsFit (r .fields)
+  pub fields : FieldsFit (bare (r .fields))
 
 pub record FrameFits (f : Frame) : Type 0 where
   pub txn : Word (f .txn)

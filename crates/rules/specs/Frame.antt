@@ -80,8 +80,10 @@ isTick op = eqb op opTick
 pub record Layout : Type 0 where
   -- "length"
   pub size : ℕ
-  -- mask and fields are a template; elsewhere the mask is 0
+  -- mask and fields are a template
   pub template : Bool
+  -- "the mask byte now tells blank fields" (document 02, T-08); where it tells neither, it is 0
+  pub blanks : Bool
   -- bytes 8-11 are a lease or a timeout
   pub lease : Bool
   -- it names no transaction: bytes 4-7 are 0
@@ -91,26 +93,27 @@ pub record Layout : Type 0 where
   -- service follows: "After a write outside transactions, a commit, an abort, and within a tick"
   pub serves : Bool
 
-abbrev layout : ℕ → Bool → Bool → Bool → Bool → Bool → Layout
-layout n t l o e s = record { size = n; template = t; lease = l; outside = o; ends = e; serves = s }
+abbrev layout : ℕ → Bool → Bool → Bool → Bool → Bool → Bool → Layout
+layout n t b l o e s =
+    record { size = n; template = t; blanks = b; lease = l; outside = o; ends = e; serves = s }
 
 abbrev noLayout : Layout
-noLayout = layout 0 false false false false false
+noLayout = layout 0 false false false false false false
 
 -- The table of operations, by number; none has the number 0
 abbrev pub layouts : List Layout
 layouts =
-    --      size template lease outside ends  serves
+    --      size template blanks lease outside ends  serves
     noLayout
-    ∷ layout 28 false true false false true  -- write
-    ∷ layout 28 true true false false false  -- read
-    ∷ layout 28 true true false false false  -- take
-    ∷ layout 28 true true false false false  -- readIfExists
-    ∷ layout 28 true true false false false  -- takeIfExists
-    ∷ layout 12 false true true false false  -- create
-    ∷ layout 8 false false false true true  -- commit
-    ∷ layout 8 false false false true true  -- abort
-    ∷ layout 4 false false false false true  -- tick
+    ∷ layout 28 false true true false false true  -- write
+    ∷ layout 28 true false true false false false  -- read
+    ∷ layout 28 true false true false false false  -- take
+    ∷ layout 28 true false true false false false  -- readIfExists
+    ∷ layout 28 true false true false false false  -- takeIfExists
+    ∷ layout 12 false false true true false false  -- create
+    ∷ layout 8 false false false false true true  -- commit
+    ∷ layout 8 false false false false true true  -- abort
+    ∷ layout 4 false false false false false true  -- tick
     ∷ []
 
 unfoldable pub layoutOf : ℕ → Layout
@@ -126,6 +129,9 @@ frameLength op = layoutOf op .size
 
 abbrev pub hasTemplate : ℕ → Bool
 hasTemplate op = layoutOf op .template
+
+abbrev pub hasBlanks : ℕ → Bool
+hasBlanks op = layoutOf op .blanks
 
 abbrev pub hasLeaseOrTimeout : ℕ → Bool
 hasLeaseOrTimeout op = layoutOf op .lease

@@ -1,4 +1,5 @@
--- "Answer records": kind, party, refusal number, zero, transaction, entry number, four fields; and their 28 bytes.
+-- "Answer records": kind, party, refusal number, blanks, transaction, entry number, four fields; and their 28 bytes. "A
+-- found record's byte 3 carries the blanks" (document 02, T-08); in all others it is 0.
 use Prim.Native.Nat.{ℕ, _+_, _*_}
 use mathlib.Core.Bool.{Bool}
 use mathlib.Core.List.{List, [], _∷_, _++_, map}
@@ -6,17 +7,21 @@ use lib.Dec.{eqb}
 use lib.ListN.{length, drop}
 use Rattle.rules.specs.declared.Entry.{Entry}
 use Rattle.rules.specs.declared.Fields.{Fields}
+use Rattle.rules.specs.declared.Mark.{Mark}
 use Rattle.rules.specs.declared.Record.{Record}
 use Rattle.rules.specs.declared.Txn.{Txn}
 use Rattle.rules.specs.declared.LookUp.{LookUp}
 use Rattle.rules.specs.Lists.{joined}
 use Rattle.rules.specs.Numbers.{recordSize, kindWritten, kindFound, kindNothing, kindWaiting, kindCreated}
 use Rattle.rules.specs.Numbers.{kindCommitted, kindAborted, kindException, kindTicked, kindRefused}
-use Rattle.rules.specs.Template.{fourFields}
+use Rattle.rules.specs.Template.{fourFields, markOf}
 use Rattle.rules.specs.Frame.{Frame, byteAt, numberAt, fourBytes, fieldsAt}
 
 abbrev pub noFields : Fields
 noFields = fourFields 0 0 0 0
+
+abbrev pub noMark : Mark
+noMark = markOf 0 noFields
 
 -- a record with no entry: its kind, party and transaction
 abbrev pub plain : ℕ → ℕ → ℕ → Record
@@ -27,7 +32,7 @@ plain kind party txn =
       refusal = 0;
       txn = record { 0 = txn };
       entry = record { 0 = 0 };
-      fields = noFields;
+      fields = noMark;
     }
 
 unfoldable pub written : Frame → ℕ → Record
@@ -38,7 +43,7 @@ written f n =
       refusal = 0;
       txn = record { 0 = f .txn };
       entry = record { 0 = n };
-      fields = noFields;
+      fields = noMark;
     }
 
 unfoldable pub found : LookUp → Entry → Record
@@ -75,13 +80,13 @@ refused bs n =
       refusal = n;
       txn = record { 0 = 0 };
       entry = record { 0 = 0 };
-      fields = noFields;
+      fields = noMark;
     }
 
 -- the 28 bytes of a record
 unfoldable pub recordBytes : Record → List ℕ
 recordBytes r =
-    (r .kind ∷ r .party ∷ r .refusal ∷ 0 ∷ [])
+    (r .kind ∷ r .party ∷ r .refusal ∷ r .fields .blanks ∷ [])
     ++ fourBytes (r .txn .0)
     ++ fourBytes (r .entry .0)
     ++ fourBytes (r .fields .kind)
@@ -98,7 +103,7 @@ recordAt bs i =
       refusal = byteAt bs (i + 2);
       txn = record { 0 = numberAt bs (i + 4) };
       entry = record { 0 = numberAt bs (i + 8) };
-      fields = fieldsAt bs (i + 12);
+      fields = markOf (byteAt bs (i + 3)) (fieldsAt bs (i + 12));
     }
 
 -- each record "into the part of the answers area that starts where the last record ended"

@@ -18,7 +18,7 @@ use Rattle.rules.specs.State.{Model}
 use Rattle.rules.specs.Template.{bit}
 use Rattle.rules.specs.Holds.{liveTxn}
 use Rattle.rules.specs.Frame.{Frame, decode, frameLength, isOperation, isWrite, isCreate, isAbort, isTick}
-use Rattle.rules.specs.Frame.{hasTemplate, hasLeaseOrTimeout, namesNoTxn, endsTxn}
+use Rattle.rules.specs.Frame.{hasTemplate, hasBlanks, hasLeaseOrTimeout, namesNoTxn, endsTxn}
 
 -- 2: empty frame, or operation not 1-9
 unfoldable pub noOperation : List ℕ → Frame → Bool
@@ -39,13 +39,26 @@ badTemplate mask fields =
     || unasked (bit 2 mask) (fields .image)
     || unasked (bit 3 mask) (fields .place)
 
--- 4: byte 3 not 0; mask above 15; mask not 0 outside look-ups; a bad template; create naming a transaction
+-- "a bit of 1 is blank, and the field must be 0" (document 02, T-08)
+abbrev pub filled : Bool → ℕ → Bool
+filled blank n = blank && not (eqb n 0)
+
+abbrev pub badBlanks : ℕ → Fields → Bool
+badBlanks mask fields =
+    filled (bit 0 mask) (fields .kind)
+    || filled (bit 1 mask) (fields .side)
+    || filled (bit 2 mask) (fields .image)
+    || filled (bit 3 mask) (fields .place)
+
+-- 4: byte 3 not 0; mask above 15; mask not 0 outside look-ups and writes; a bad template; a blank that is not 0; create
+-- naming a transaction
 unfoldable pub malformed : Frame → Bool
 malformed f =
     not (eqb (f .byte3) 0)
     || ltb 15 (f .mask)
-    || not (hasTemplate (f .op)) && not (eqb (f .mask) 0)
+    || not (hasTemplate (f .op) || hasBlanks (f .op)) && not (eqb (f .mask) 0)
     || hasTemplate (f .op) && badTemplate (f .mask) (f .fields)
+    || hasBlanks (f .op) && badBlanks (f .mask) (f .fields)
     || namesNoTxn (f .op) && not (eqb (f .txn) 0)
 
 -- 5: party not 1-16, or not 0 for tick

@@ -36,7 +36,7 @@ plainFrame op party txn leaseOrTimeout = frame op party 0 txn leaseOrTimeout noF
 
 -- the frame that a request stands for
 abbrev pub frameOf : Request → Frame
-frameOf (Write w) = frame opWrite (w .party) 0 (w .txn .0) (w .lease) (w .fields)
+frameOf (Write w) = frame opWrite (w .party) (w .blanks) (w .txn .0) (w .lease) (w .fields)
 frameOf (Find l) =
     frame (lookUpOp (l .takes) (l .«if_exists»)) (l .party) (l .mask) (l .txn .0) (l .timeout) (l .fields)
 frameOf (Create party lease) = plainFrame opCreate party 0 lease

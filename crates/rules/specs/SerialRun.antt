@@ -6,7 +6,7 @@ use mathlib.Core.Path.{_≡_}
 use mathlib.Core.List.{List, [], _∷_, _++_, map, List·Memᴰ}
 use lib.Dec.{eqb}
 use Rattle.rules.specs.declared.Entry.{Entry}
-use Rattle.rules.specs.declared.Fields.{Fields}
+use Rattle.rules.specs.declared.Mark.{Mark}
 use Rattle.rules.specs.declared.Record.{Record}
 use Rattle.rules.specs.declared.Until.{Until}
 use Rattle.rules.specs.Lists.{filterb, anyb, distinct}
@@ -14,6 +14,7 @@ use Rattle.rules.specs.State.{Model}
 use Rattle.rules.specs.Time.{until, reached}
 use Rattle.rules.specs.Numbers.{kindWritten, kindFound, kindCommitted, kindAborted, kindException, kindTicked}
 use Rattle.rules.specs.Numbers.{kindRefused}
+use Rattle.rules.specs.Template.{markOf}
 use Rattle.rules.specs.Frame.{Frame, decode, isLookUp, isTake}
 use Rattle.rules.specs.Transactions.{privateTo}
 
@@ -25,13 +26,13 @@ pub record Logged : Type 0 where
 -- an entry of the plain set
 pub record Kept : Type 0 where
   pub number : ℕ
-  pub fields : Fields
+  pub fields : Mark
   pub end : Until
 
--- add an entry; or need a number with its fields in the set, and for a take remove it
+-- add an entry; or need a number with its fields and blanks in the set, and for a take remove it
 pub data Operation : Type 0 where
   adds : Kept → Operation
-  finds : Bool → ℕ → Fields → Operation
+  finds : Bool → ℕ → Mark → Operation
 
 -- an operation in a transaction's list
 pub record Pending : Type 0 where
@@ -57,11 +58,12 @@ pub record Run : Type 0 where
 abbrev pub start : Run
 start = record { clock = 0; kept = []; pending = []; asked = []; taken = []; succeeds = true }
 
-unfoldable pub sameFields : Fields → Fields → Bool
+unfoldable pub sameFields : Mark → Mark → Bool
 sameFields x y =
     eqb (x .kind) (y .kind) && eqb (x .side) (y .side) && eqb (x .image) (y .image) && eqb (x .place) (y .place)
+    && eqb (x .blanks) (y .blanks)
 
-unfoldable pub isKept : ℕ → Fields → Kept → Bool
+unfoldable pub isKept : ℕ → Mark → Kept → Bool
 isKept n x k = eqb (k .number) n && sameFields x (k .fields)
 
 -- the run with one of its parts replaced
@@ -77,7 +79,7 @@ withPending ps r = run (r .clock) (r .kept) ps (r .asked) (r .taken) (r .succeed
 unfoldable pub failed : Run → Run
 failed r = run (r .clock) (r .kept) (r .pending) (r .asked) (r .taken) false
 
-unfoldable pub taking : ℕ → Fields → Run → Run
+unfoldable pub taking : ℕ → Mark → Run → Run
 taking n x r =
     run (r .clock) (filterb (λ k. not (isKept n x k)) (r .kept)) (r .pending) (r .asked) (n ∷ r .taken) (r .succeeds)
 
@@ -113,7 +115,8 @@ advanced r = run (r .clock + 1) (r .kept) (r .pending) (r .asked) (r .taken) (r 
 -- "adds the record's number, the frame's fields and the end, which is the run's clock at this record plus the frame's
 -- lease, or never for FOREVER"
 abbrev pub writtenBy : Frame → Record → ℕ → Kept
-writtenBy f a clock = record { number = a .entry .0; fields = f .fields; end = until clock (f .leaseOrTimeout) }
+writtenBy f a clock =
+    record { number = a .entry .0; fields = markOf (f .mask) (f .fields); end = until clock (f .leaseOrTimeout) }
 
 -- one record of a frame
 unfoldable pub follow : Frame → Record → Run → Run
@@ -169,7 +172,7 @@ abbrev pub numbersOf : List Kept → List ℕ
 numbersOf ks = map (λ (k : Kept). k .number) ks
 
 -- the run succeeds, no number is taken by two operations carried out, and what is left equals the committed entries
--- in numbers, fields and ends, each number once on either side
+-- in numbers, fields, blanks and ends, each number once on either side
 pub record Serial (r : Run) (m : Model) : Type 0 where
   pub succeeds : r .succeeds ≡ true
   pub taken-once : distinct (r .taken) ≡ true

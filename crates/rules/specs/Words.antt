@@ -1,5 +1,5 @@
 -- A space as words, and how they are read as the rules' model.
-use Prim.Native.Nat.{ℕ, zero, suc, _+_, _*_, _%_, min}
+use Prim.Native.Nat.{ℕ, zero, suc, _+_, _*_, _/_, _%_, min}
 use mathlib.Core.Bool.{cond}
 use mathlib.Core.List.{List, [], _∷_, _++_}
 use lib.Dec.{eqb}
@@ -9,7 +9,7 @@ use Rattle.rules.specs.declared.Txn.{Txn}
 use Rattle.rules.specs.declared.LookUp.{LookUp}
 use Rattle.rules.specs.declared.Until.{Until}
 use Rattle.rules.specs.declared.Until.the-variants.{Tick, Forever}
-use Rattle.rules.specs.Template.{fourFields}
+use Rattle.rules.specs.Template.{fourFields, markOf}
 use Rattle.rules.specs.Frame.{isTake, isIfExists, lookUpOp}
 use Rattle.rules.specs.Numbers.{forever, maxEntries, maxTxns, maxWaits}
 use Rattle.rules.specs.State.{Model}
@@ -81,7 +81,9 @@ abbrev pub entryFrom : List ℕ → ℕ → Entry
 entryFrom ws o =
     record {
       id = record { 0 = getD ws o 0 };
-      fields = fourFields (getD ws (o + 1) 0) (getD ws (o + 2) 0) (getD ws (o + 3) 0) (getD ws (o + 4) 0);
+      fields =
+          markOf (getD ws (o + 8) 0 / 256 % 256)
+          (fourFields (getD ws (o + 1) 0) (getD ws (o + 2) 0) (getD ws (o + 3) 0) (getD ws (o + 4) 0));
       end = untilOf (getD ws (o + 5) 0);
       «private_to» = record { 0 = getD ws (o + 6) 0 };
       «taken_by» = record { 0 = getD ws (o + 7) 0 };
@@ -113,7 +115,7 @@ waitFrom ws o =
 abbrev pub entryWords : Entry → List ℕ
 entryWords e =
     e .id .0 ∷ e .fields .kind ∷ e .fields .side ∷ e .fields .image ∷ e .fields .place ∷ untilWord (e .end)
-    ∷ e .«private_to» .0 ∷ e .«taken_by» .0 ∷ e .readers ∷ []
+    ∷ e .«private_to» .0 ∷ e .«taken_by» .0 ∷ (e .readers + 256 * e .fields .blanks) ∷ []
 
 abbrev pub txnWords : Txn → List ℕ
 txnWords t = t .id .0 ∷ t .party ∷ untilWord (t .end) ∷ t .slot ∷ []

@@ -6,6 +6,7 @@ use lib.Dec.{eqb}
 use Rattle.rules.specs.declared.Entry.{Entry}
 use Rattle.rules.specs.Time.{until}
 use Rattle.rules.specs.State.{Model, withEntries, withNextEntry}
+use Rattle.rules.specs.Template.{markOf}
 use Rattle.rules.specs.Frame.{Frame}
 use Rattle.rules.specs.Records.{written}
 use Rattle.rules.specs.Done.{Carried}
@@ -15,7 +16,7 @@ unfoldable pub newEntry : Model → Frame → Entry
 newEntry m f =
     record {
       id = record { 0 = m .nextEntry };
-      fields = f .fields;
+      fields = markOf (f .mask) (f .fields);
       end = until (m .clock) (f .leaseOrTimeout);
       «private_to» = record { 0 = f .txn };
       «taken_by» = record { 0 = 0 };

@@ -7,12 +7,21 @@ pub struct EntryId(pub u32);
 // The number of a transaction. Counted from 1; 0 means none.
 pub struct TxnId(pub u32);
 
-// The four fields of an entry or of a template.
+// Four fields, as a frame has them.
 pub struct Fields {
     pub kind: u32,
     pub side: u32,
     pub image: u32,
     pub place: u32,
+}
+
+// The four fields of an entry, and which of them are blank: bit 0 stands for kind, up to bit 3 for place.
+pub struct Mark {
+    pub kind: u32,
+    pub side: u32,
+    pub image: u32,
+    pub place: u32,
+    pub blanks: u8,
 }
 
 // The end of a lease, or the deadline of a look-up.
@@ -24,7 +33,7 @@ pub enum Until {
 // A stored entry.
 pub struct Entry {
     pub id: EntryId,
-    pub fields: Fields,
+    pub fields: Mark,
     pub end: Until,
     // The transaction that it is private to; 0: it is committed.
     pub private_to: TxnId,
@@ -54,19 +63,20 @@ pub struct LookUp {
     pub deadline: Until,
 }
 
-// The nine numbers of an answer.
+// The nine numbers of an answer, and the blanks of its fields.
 pub struct Record {
     pub kind: u8,
     pub party: u8,
     pub refusal: u8,
     pub txn: TxnId,
     pub entry: EntryId,
-    pub fields: Fields,
+    pub fields: Mark,
 }
 
-// A write: party, transaction, lease, fields.
+// A write: party, which fields are blank, transaction, lease, fields.
 pub struct WriteRequest {
     pub party: u8,
+    pub blanks: u8,
     pub txn: TxnId,
     pub lease: u32,
     pub fields: Fields,

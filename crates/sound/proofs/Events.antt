@@ -23,13 +23,14 @@ use Rattle.rules.specs.Write.{stored}
 use Rattle.rules.specs.LookUp.{lookUpOf, handOut}
 use Rattle.rules.specs.Transactions.{create, commit, abort}
 use Rattle.rules.specs.Tick.{dropEnded}
-use Rattle.rules.specs.Refusals.{refusal}
+use Rattle.rules.specs.Refusals.{malformed, refusal}
 use Rattle.rules.specs.SerialRun.{wasRefused}
 use Rattle.rules.specs.Sound.{LiveOf, IsParty}
 use Rattle.sound.proofs.AllLaws.{Out}
 
 -- what the refusal table lets pass
 pub record Admitted (f : Frame) (m : Model) : Type 0 where
+  pub formed : malformed f ≡ false
   -- outside transactions, or in a live one of the party; a commit or abort in one
   pub inside : (f .txn ≡ 0) ⊎ LiveOf (f .txn) (f .party) (m .txns)
   pub ends : endsTxn (f .op) ≡ true → LiveOf (f .txn) (f .party) (m .txns)

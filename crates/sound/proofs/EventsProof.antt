@@ -87,6 +87,7 @@ unfolding txnsFull noNumber
 admitted m bs area c =
     let f = decode bs in
     record {
+      formed = c .form;
       inside =
           ⊎-elim (λ t. inl (eqb-true (f .txn) 0 t)) (λ t. inr (own-named f m (c .own) (rw t)))
           (bool-cases (eqb (f .txn) 0));

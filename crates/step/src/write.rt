@@ -9,6 +9,7 @@ ghost use Rattle.words.specs.Rows.{FitsWord};
 ghost use Rattle.holds.specs.Sweep.{SameBefore};
 ghost use Rattle.step.specs.Does.{Carries};
 use crate::own::Own;
+use codec::records::mark_of;
 use codec::records::written_record;
 use rules::Entry;
 use rules::EntryId;
@@ -28,7 +29,7 @@ pub(crate) fn new_entry(space: &Words, w: WriteRequest) -> Entry
     ensures { λ e. ⌜ (e ≡ newEntry (view (now (space .entry))) (frameOf (Write w))) × FitsWord (e .end) ⌝ }
 {
     let end = end_of(clock(space), w.lease);
-    let fields = w.fields;
+    let fields = mark_of(w.blanks, w.fields);
     let private_to = w.txn;
     Entry {
         id: EntryId(next_entry(space)),

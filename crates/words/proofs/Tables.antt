@@ -1,5 +1,5 @@
 -- The three tables of a space: how a row is read and what it can hold, and the model once one of them is written.
-use Prim.Native.Nat.{ℕ, zero, suc, _+_, _*_, _<_}
+use Prim.Native.Nat.{ℕ, zero, suc, _+_, _*_, _<_, _/_, _%_}
 use mathlib.Core.Bool.{Bool, true, false, cond}
 use mathlib.Core.Path.{_≡_, refl, sym, ap, _∙_}
 use mathlib.Core.List.{List}
@@ -9,6 +9,7 @@ use borrow.Author.Tests.{eqb-true}
 use lib.Dec.{eqb, lit<}
 use lib.ListN.{length, getD, set}
 use lib.Seq.{getD-set-same}
+use Rattle.rules.specs.Template.{bare}
 use Rattle.rules.specs.declared.Entry.{Entry}
 use Rattle.rules.specs.declared.LookUp.{LookUp}
 use Rattle.rules.specs.declared.Txn.{Txn}
@@ -124,12 +125,12 @@ length-waits ws = length-all waitTable ws
 
 -- the field of an entry at a column, by its word
 pub field-word : (ws : List ℕ) (i k : ℕ) → k < 4
-    → fieldAt k (entryRow ws i .fields) ≡ getD ws (entriesAt + 1 + entryWidth * i + k) 0
+    → fieldAt k (bare (entryRow ws i .fields)) ≡ getD ws (entriesAt + 1 + entryWidth * i + k) 0
 unfolding entryOf
 field-word ws i k h =
     go k h ∙ row-word entriesAt entryWidth i (1 + k) ws (omega arith) ∙ ap (λ j. getD ws j 0) (omega arith)
   where
-    go : (k : ℕ) → k < 4 → fieldAt k (entryRow ws i .fields) ≡ getD (row entriesAt entryWidth ws i) (1 + k) 0
+    go : (k : ℕ) → k < 4 → fieldAt k (bare (entryRow ws i .fields)) ≡ getD (row entriesAt entryWidth ws i) (1 + k) 0
     go zero h = refl
     go (suc zero) h = refl
     go (suc (suc zero)) h = refl
@@ -144,6 +145,7 @@ until-back n = cond-cases (λ u. untilWord u ≡ n) (eqb n forever) (λ e. sym (
 
 pub record Storable (e : Entry) : Type 0 where
   pub readers-fit : e .readers < byteValues
+  pub blanks-fit : e .fields .blanks < byteValues
   pub end-fits : FitsWord (e .end)
 
 pub end-read : (r : List ℕ) → FitsWord (entryOf r .end)
@@ -154,11 +156,17 @@ end-read r = ap untilOf (until-back _)
 pub held-fits : (r : List ℕ) (owner taker : TxnId) (holders : ℕ) → holders < byteValues
     → Storable (holding (entryOf r) owner taker holders)
 unfolding entryOf
-held-fits r owner taker holders h = record { readers-fit = h; end-fits = end-read r }
+held-fits r owner taker holders h = record { readers-fit = h; blanks-fit = omega arith; end-fits = end-read r }
 
 pub entry-back : (e : Entry) → Storable e → entryOf (entryWords e) ≡ e
 unfolding entryOf
-entry-back e s = rw (s .end-fits, mod-eq-of-lt (s .readers-fit))
+entry-back e s =
+    let r = s .readers-fit in
+    let b = s .blanks-fit in
+    let low : (e .readers + 256 * e .fields .blanks) % 256 ≡ e .readers = omega arith in
+    let high : (e .readers + 256 * e .fields .blanks) / 256 ≡ e .fields .blanks = omega arith in
+    let byte : e .fields .blanks % 256 ≡ e .fields .blanks = omega arith in
+    rw (s .end-fits, low, high, byte)
 
 pub record Txnable (t : Txn) : Type 0 where
   pub party-fits : t .party < byteValues

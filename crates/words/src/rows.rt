@@ -8,6 +8,7 @@ ghost use mathlib.Core.List.{[], _∷_, _++_};
 ghost use Rattle.rules.specs.Frame.{isTake, isIfExists, lookUpOp};
 ghost use Rattle.rules.specs.Numbers.{maxEntries, maxTxns, maxWaits};
 ghost use Rattle.rules.specs.State.{empty, withEntries, withTxns, withWaits, withClock, withNextEntry, withNextTxn};
+ghost use Rattle.rules.specs.Template.{bare};
 ghost use Rattle.rules.specs.Words.{untilOf, untilWord, entryCount, txnCount, waitCount, view, spaceWords};
 ghost use Rattle.rules.specs.Words.{entryCountAt, txnCountAt, waitCountAt};
 ghost use Rattle.words.specs.Rows.{entryRow, txnRow, waitRow, fieldAt, putEntry, moveWords, moveTxn};
@@ -17,6 +18,7 @@ use rules::Entry;
 use rules::EntryId;
 use rules::Fields;
 use rules::LookUp;
+use rules::Mark;
 use rules::Txn;
 use rules::TxnId;
 use rules::Until;
@@ -249,11 +251,12 @@ pub fn entry_at(space: &Words, i: usize) -> Entry
     let end = until_of(r[5]);
     Entry {
         id: EntryId(r[0]),
-        fields: Fields {
+        fields: Mark {
             kind: r[1],
             side: r[2],
             image: r[3],
             place: r[4],
+            blanks: (r[8] / BYTE_VALUES % BYTE_VALUES) as u8,
         },
         end,
         private_to: TxnId(r[6]),
@@ -273,7 +276,7 @@ pub fn entry_end(space: &Words, i: usize) -> u32
 // The field of the entry in row i at a column, counted from 0.
 pub fn field_at(space: &Words, i: usize, column: usize) -> u32
     requires { ⌜ (i < maxEntries) × (column < 4) ⌝ }
-    ensures { λ r. ⌜ r ≡ fieldAt column (entryRow (now (space .entry)) i .fields) ⌝ }
+    ensures { λ r. ⌜ r ≡ fieldAt column (bare (entryRow (now (space .entry)) i .fields)) ⌝ }
 {
     space[FIELDS_AT + ENTRY_WIDTH * i + column]
 }
@@ -293,7 +296,7 @@ pub fn put_entry(space: &mut Words, i: usize, e: Entry)
         end,
         e.private_to.0,
         e.taken_by.0,
-        e.readers as u32,
+        e.readers as u32 + BYTE_VALUES * e.fields.blanks as u32,
     ];
     put_words(space, ENTRIES_AT + ENTRY_WIDTH * i, &r);
 }

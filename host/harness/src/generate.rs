@@ -1,11 +1,11 @@
-//! Seeded random frames and trays that make deep histories: several panes, few distinct kinds, short leases,
-//! ticks anywhere, full tables, steps that set several entries free, garbled frames, damaged trays, answers areas of
+//! Seeded random frames and trays that make deep histories: several panes, few distinct kinds, short leases, ticks
+//! anywhere, full tables, steps that set several entries free, blanks, garbled frames, damaged trays, answers areas of
 //! odd lengths.
 
 use crate::frames::{create_frame, ending_frame, long_frame, tick_frame};
 use crate::random::Random;
 use reference::answer::{RECORD, STEP};
-use reference::frame::{Fields, FOREVER, LAST_CLOCK, NONE};
+use reference::frame::{Fields, Mark, FOREVER, LAST_CLOCK, NONE};
 use reference::space::{End, Space};
 use reference::tray::{LONGEST_TRAY, MOST_FRAMES};
 use tray::bytes::tray_of;
@@ -21,6 +21,8 @@ struct Lean {
     inside: usize,
     /// Of writes, in some live transaction, so that a commit brings several entries at once.
     gathered: usize,
+    /// Of writes, with blanks.
+    blank: usize,
     timeout_0: usize,
     if_exists: usize,
     takes: usize,
@@ -42,6 +44,7 @@ impl Lean {
             forever: random.pick(&[0, 10, 40]),
             inside: random.pick(&[0, 40, 80]),
             gathered: 0,
+            blank: random.pick(&[0, 20, 60]),
             timeout_0: random.pick(&[10, 40, 80]),
             if_exists: random.pick(&[20, 50, 90]),
             takes: random.pick(&[20, 50, 80]),
@@ -135,10 +138,7 @@ impl Generator {
             operation += 1;
         }
         match operation {
-            0 => {
-                let ((party, transaction), lease) = (self.writer(guide, party), self.duration(guide));
-                long_frame(1, party, 0, transaction, lease, self.fields())
-            }
+            0 => self.write_frame(guide, party),
             1 => self.look_up_frame(guide, party),
             2 => create_frame(party, self.duration(guide)),
             3 => {
@@ -173,23 +173,40 @@ impl Generator {
         ending_frame(ending, party, transaction)
     }
 
+    /// Of the marks with blanks a few are spoilt: a field that is not 0 where its bit says blank, or a mask above 15.
+    fn write_frame(&mut self, guide: &Space, party: u8) -> Vec<u8> {
+        let ((party, transaction), mut lease) = (self.writer(guide, party), self.duration(guide));
+        let Mark { mut fields, blanks } = self.mark();
+        let mut mask = blanks;
+        if blanks != 0 && self.random.percent(6) {
+            if self.random.percent(50) {
+                mask |= self.random.pick(&[16, 32, 64, 128]);
+            } else {
+                let field = self.random.pick(&fields_in(blanks));
+                fields[field] = self.random.pick(&[1, 256, 1 << 31, u32::MAX]);
+            }
+            if self.random.percent(25) {
+                lease = 0;
+            }
+        }
+        long_frame(1, party, mask, transaction, lease, fields)
+    }
+
     fn look_up_frame(&mut self, guide: &Space, party: u8) -> Vec<u8> {
         let Lean { takes, if_exists, .. } = self.lean;
         let operation = 2 + u8::from(self.random.percent(takes)) + 2 * u8::from(self.random.percent(if_exists));
         let transaction = self.transaction(guide, party);
         let timeout = self.timeout(guide);
-        let mask = if self.random.percent(60) { 1 } else { self.random.below(16) as u8 };
-        let mut fields = match guide.entries.len() {
-            0 => self.fields(),
-            _ if self.random.percent(40) => self.fields(),
-            stored => guide.entries[self.random.below(stored)].fields,
+        let mut mask = if self.random.percent(60) { 1 } else { self.random.below(16) as u8 };
+        let like = match guide.entries.len() {
+            0 => self.mark(),
+            _ if self.random.percent(40) => self.mark(),
+            stored => guide.entries[self.random.below(stored)].mark,
         };
-        for (i, field) in fields.iter_mut().enumerate() {
-            if mask >> i & 1 == 0 {
-                *field = 0;
-            }
+        if self.random.percent(60) {
+            mask &= !like.blanks; // else it may ask 0 of a blank
         }
-        long_frame(operation, party, mask, transaction, timeout, fields)
+        long_frame(operation, party, mask, transaction, timeout, cleared(like.fields, !mask))
     }
 
     /// A party that does not wait, or a stray one; none if all wait.
@@ -273,6 +290,16 @@ impl Generator {
             self.random.pick(&[0, 0, 1]),
             self.random.pick(&[0, 0, 0, u32::MAX]),
         ]
+    }
+
+    /// Often only the place is blank.
+    fn mark(&mut self) -> Mark {
+        let blanks = match self.random.percent(self.lean.blank) {
+            false => 0,
+            true if self.random.percent(50) => 8,
+            true => self.random.between(1, 15) as u8,
+        };
+        Mark { fields: cleared(self.fields(), blanks), blanks }
     }
 
     fn garble(&mut self, mut frame: Vec<u8>) -> Vec<u8> {
@@ -405,12 +432,26 @@ impl Generator {
     }
 }
 
+/// The fields whose bit is 1.
+fn fields_in(mask: u8) -> Vec<usize> {
+    (0..4).filter(|i| mask >> i & 1 == 1).collect()
+}
+
+/// Fields with 0 where the bit is 1.
+fn cleared(mut fields: Fields, mask: u8) -> Fields {
+    for i in fields_in(mask) {
+        fields[i] = 0;
+    }
+    fields
+}
+
 /// The frames of a history, last one first, whose last step writes 25 records: eight transactions hold sixteen
 /// entries that all sixteen parties wait for, and end together.
 fn longest_step(random: &mut Random) -> Vec<Vec<u8>> {
     let lease = random.between(1, 3);
     let kind = [77, 0, 0, 0];
-    let mut frames: Vec<Vec<u8>> = (0..16).map(|_| long_frame(1, 1, 0, NONE, FOREVER, kind)).collect();
+    let blanks = random.pick(&[0, 14]);
+    let mut frames: Vec<Vec<u8>> = (0..16).map(|_| long_frame(1, 1, blanks, NONE, FOREVER, kind)).collect();
     frames.extend((1..=8).map(|party| create_frame(party, lease)));
     for party in 1..=8 {
         frames.push(long_frame(3, party, 1, u32::from(party), 0, kind));

@@ -1,8 +1,8 @@
 //! The tables that the words of the proved space are, in the reference's own types.
 
-use reference::frame::{look_up_kind, Template, NONE};
+use reference::frame::{look_up_kind, Mark, Template, NONE};
 use reference::space::{End, Entry, LookUp, Space, Transaction};
-use tray::words::{self, Words, ENTRIES, ENTRY_READERS, MAX_TRANSACTIONS, TRANSACTIONS, TRANSACTION_SLOT};
+use tray::words::{self, Words, BLANKS_UNIT, ENTRIES, ENTRY_READERS, MAX_TRANSACTIONS, TRANSACTIONS, TRANSACTION_SLOT};
 
 fn end(end: words::End) -> End {
     match end {
@@ -22,13 +22,15 @@ fn holders(words: &Words, read_by: Vec<u32>, bits: u32) -> Vec<u32> {
 }
 
 fn entry(words: &Words, entry: words::Entry, row: &[u32]) -> Entry {
+    let (readers, blanks) = (row[ENTRY_READERS] % BLANKS_UNIT, row[ENTRY_READERS] / BLANKS_UNIT);
+    let blanks = u8::try_from(blanks).unwrap_or(u8::MAX); // more than a byte stays wrong
     Entry {
         number: entry.number,
-        fields: entry.fields,
+        mark: Mark { fields: entry.fields, blanks },
         end: end(entry.end),
         private_to: entry.private_to,
         taken_by: entry.taken_by,
-        read_by: holders(words, entry.read_by, row[ENTRY_READERS]),
+        read_by: holders(words, entry.read_by, readers),
     }
 }
 

@@ -2,15 +2,16 @@
 
 use harness::compare::{compare, replay, Coverage, Discrepancy};
 use harness::subject::{Beginning, Subject};
-use reference::answer::{RECORD, STEP};
-use reference::frame::{Template, FOREVER, LOOK_UPS, NONE};
-use reference::space::{End, Space};
+use reference::answer::{Kind, RECORD, STEP};
+use reference::frame::{word, Template, FOREVER, LOOK_UPS, NONE};
+use reference::space::{End, Outcome, Space};
 use reference::tray::{judge, run};
+use std::collections::BTreeMap;
 use tray::text::parse;
 
 /// The mistakes that document 01 tells of students, and what its contracts exclude; then smaller ones; then the order
 /// that document 02 fixes; then one that only some areas show; then the rule of document 01 that document 02 replaces;
-/// then a count of its own that answers and tables do not show.
+/// then a count of its own that answers and tables do not show; then blanks.
 const LEASE_STOPS_UNDER_A_TAKE_HOLD: u8 = 0;
 const OWN_READ_BARS_OWN_TAKE: u8 = 1;
 const NOTHING_BEFORE_SERVICE: u8 = 2;
@@ -27,6 +28,12 @@ const NEWEST_FIRST_IN_SERVICE: u8 = 12;
 const LONGER_AREA_TOUCHED: u8 = 13;
 const WAITS_ON_IN_VAIN: u8 = 14;
 const WAITING_INSIDE_NOT_COUNTED: u8 = 15;
+const BLANK_MATCHED_AS_0: u8 = 16;
+const BLANKS_LOST_AT_COMMIT: u8 = 17;
+const BLANKS_LOST_AT_ABORT: u8 = 18;
+const FOUND_WITHOUT_BLANKS: u8 = 19;
+const FILLED_BLANK_WRITTEN: u8 = 20;
+const MASK_OF_LEASE_0_NOT_JUDGED: u8 = 21;
 
 /// The reference with a fault.
 #[derive(Clone, PartialEq)]
@@ -43,6 +50,9 @@ impl<const FAULT: u8> Wrong<FAULT> {
                 PRIVATE_ENTRY_SHOWN if tick => entry.private_to = 0,
                 _ => {}
             }
+        }
+        if [BLANKS_LOST_AT_COMMIT, BLANKS_LOST_AT_ABORT].contains(&FAULT) {
+            self.lose_blanks(frame);
         }
         if FAULT == NOTHING_BEFORE_SERVICE && tick {
             let next = self.0.clock + 1;
@@ -68,14 +78,64 @@ impl<const FAULT: u8> Wrong<FAULT> {
             .collect()
     }
 
+    /// Has the stored entries match as if their blanks were values; gives their blanks.
+    fn as_values(&mut self) -> BTreeMap<u32, u8> {
+        let entries = self.0.entries.iter_mut();
+        entries.map(|entry| (entry.number, std::mem::take(&mut entry.mark.blanks))).collect()
+    }
+
+    /// Puts the blanks back, in the founds too.
+    fn with_blanks(&mut self, blanks: &BTreeMap<u32, u8>, founds: &mut [u8]) {
+        for entry in &mut self.0.entries {
+            entry.mark.blanks = blanks.get(&entry.number).copied().unwrap_or(entry.mark.blanks);
+        }
+        for record in founds.chunks_exact_mut(RECORD).filter(|record| record[0] == Kind::Found as u8) {
+            record[3] = blanks.get(&word(record, 8)).copied().unwrap_or(record[3]);
+        }
+    }
+
+    /// If the frame ends a transaction, what that makes public or puts back loses its blanks.
+    fn lose_blanks(&mut self, frame: &[u8]) {
+        let ending = if FAULT == BLANKS_LOST_AT_COMMIT { 7 } else { 8 };
+        if frame.len() != 8 || frame[0] != ending || self.0.clone().step(frame, &mut [0; STEP]).number != 0 {
+            return;
+        }
+        let transaction = word(frame, 4);
+        let entries = self.0.entries.iter_mut();
+        for entry in entries.filter(|entry| [entry.private_to, entry.taken_by].contains(&transaction)) {
+            entry.mark.blanks = 0;
+        }
+    }
+
+    /// The frame as the fault reads it.
+    fn misread(frame: &[u8]) -> Vec<u8> {
+        let mut frame = frame.to_vec();
+        let written = frame.len() == 28 && frame[0] == 1;
+        match FAULT {
+            EVERY_FRAME_REFUSED => frame.clear(),
+            FILLED_BLANK_WRITTEN if written => {
+                for field in (0..4).filter(|i| frame[2] >> i & 1 == 1).collect::<Vec<_>>() {
+                    frame[12 + 4 * field..16 + 4 * field].fill(0);
+                }
+            }
+            MASK_OF_LEASE_0_NOT_JUDGED if written && word(&frame, 8) == 0 => frame[2] = 0,
+            COMMIT_LOST if frame.len() == 8 && frame[0] == 7 => frame[0] = 8,
+            _ => {}
+        }
+        frame
+    }
+
     /// What it does behind one; gives what is returned.
-    fn after(&mut self, returned: u64, area: &mut [u8]) -> u64 {
+    fn after(&mut self, outcome: Outcome, area: &mut [u8]) -> u64 {
+        let returned = outcome.records as u64 + 65536 * u64::from(outcome.number);
         for entry in &mut self.0.entries {
             entry.read_by.retain(|&reader| reader != FOREVER);
         }
         self.0.entries.sort_by_key(|entry| entry.number);
-        let end = RECORD * (returned % 65536) as usize;
+        let end = RECORD * outcome.records;
+        let founds = area[..end].chunks_exact_mut(RECORD).filter(|record| record[0] == Kind::Found as u8);
         match FAULT {
+            FOUND_WITHOUT_BLANKS => founds.for_each(|record| record[3] = 0),
             BYTE_BEHIND_THE_LAST_RECORD if end < area.len() => area[end] = !area[end],
             REFUSED_FRAME_COUNTS if returned == 1 + 65536 * 7 => self.0.next_entry += 1,
             LAST_NUMBER_GIVEN_OUT if self.0.next_entry == FOREVER => self.0.next_entry -= 1,
@@ -97,24 +157,20 @@ impl<const FAULT: u8> Subject for Wrong<FAULT> {
         if area.len() < STEP {
             return 65536;
         }
-        let mut frame = frame.to_vec();
-        if FAULT == EVERY_FRAME_REFUSED {
-            frame.clear();
-        }
         let commit = FAULT == COMMIT_LOST && frame.len() == 8 && frame[0] == 7;
-        if commit {
-            frame[0] = 8;
-        }
+        let frame = Self::misread(frame);
         self.before(&frame);
         let plain = if FAULT == WAITS_ON_IN_VAIN { self.as_plain_waits() } else { Vec::new() };
+        let blanks = if FAULT == BLANK_MATCHED_AS_0 { self.as_values() } else { BTreeMap::new() };
         let outcome = self.0.step(&frame, area);
         for look_up in self.0.waiting.iter_mut().filter(|look_up| plain.contains(&look_up.party)) {
             look_up.kind.if_exists = true;
         }
+        self.with_blanks(&blanks, &mut area[..RECORD * outcome.records]);
         if commit && outcome.number == 0 {
             area[0] = 6;
         }
-        self.after(outcome.records as u64 + 65536 * u64::from(outcome.number), area)
+        self.after(outcome, area)
     }
 
     fn run_tray(tray: &[u8], area: &mut [u8]) -> u64 {
@@ -203,6 +259,26 @@ fn another_order_is_shown() {
 #[test]
 fn a_wait_in_vain_is_shown() {
     shows::<WAITS_ON_IN_VAIN>();
+}
+
+/// Document 02: "a template field that has a value never matches a blank"; "A found record's byte 3 carries the
+/// blanks"; "a bit of 1 is blank, and the field must be 0".
+#[test]
+fn wrong_blanks_are_shown() {
+    shows::<BLANK_MATCHED_AS_0>();
+    shows::<BLANKS_LOST_AT_COMMIT>();
+    shows::<BLANKS_LOST_AT_ABORT>();
+    shows::<FOUND_WITHOUT_BLANKS>();
+    shows::<FILLED_BLANK_WRITTEN>();
+    shows::<MASK_OF_LEASE_0_NOT_JUDGED>();
+}
+
+/// The lines of an answer are the program's, which say nothing of byte 3: it stands behind them.
+#[test]
+fn blanks_in_an_answer_are_told() {
+    let why = found::<FOUND_WITHOUT_BLANKS>(true).why;
+    let lines: Vec<&str> = why.lines().filter(|line| line.starts_with("    2 ")).collect();
+    assert!(lines.len() == 2 && lines[1].starts_with(&format!("{}, blanks ", lines[0])), "{why}");
 }
 
 /// Document 02: "still waiting, the last counted in the space".

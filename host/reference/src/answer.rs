@@ -1,6 +1,6 @@
 //! Answer records of 28 bytes, written one behind the other into the answers area.
 
-use crate::frame::{word, Fields};
+use crate::frame::{word, Mark};
 
 pub const RECORD: usize = 28;
 /// A step writes at most 25 records.
@@ -27,12 +27,13 @@ pub struct Record {
     pub refusal: u8,
     pub transaction: u32,
     pub entry: u32,
-    pub fields: Fields,
+    /// Fields and blanks.
+    pub mark: Mark,
 }
 
 impl Record {
     pub fn new(kind: Kind, party: u8, transaction: u32) -> Record {
-        Record { kind: kind as u8, party, refusal: 0, transaction, entry: 0, fields: [0; 4] }
+        Record { kind: kind as u8, party, refusal: 0, transaction, entry: 0, mark: Mark::NONE }
     }
 
     pub fn is(&self, kind: Kind) -> bool {
@@ -43,22 +44,23 @@ impl Record {
         to[0] = self.kind;
         to[1] = self.party;
         to[2] = self.refusal;
-        to[3] = 0;
+        to[3] = self.mark.blanks;
         to[4..8].copy_from_slice(&self.transaction.to_le_bytes());
         to[8..12].copy_from_slice(&self.entry.to_le_bytes());
-        for (part, field) in to[12..28].chunks_exact_mut(4).zip(self.fields) {
+        for (part, field) in to[12..28].chunks_exact_mut(4).zip(self.mark.fields) {
             part.copy_from_slice(&field.to_le_bytes());
         }
     }
 
     pub fn read(bytes: &[u8]) -> Record {
+        let fields = [word(bytes, 12), word(bytes, 16), word(bytes, 20), word(bytes, 24)];
         Record {
             kind: bytes[0],
             party: bytes[1],
             refusal: bytes[2],
             transaction: word(bytes, 4),
             entry: word(bytes, 8),
-            fields: [word(bytes, 12), word(bytes, 16), word(bytes, 20), word(bytes, 24)],
+            mark: Mark { fields, blanks: bytes[3] },
         }
     }
 }

@@ -10,6 +10,24 @@ pub const NONE: u32 = 0;
 /// kind, side, image, place
 pub type Fields = [u32; 4];
 
+/// What an entry has: its fields, and which of them are blank, by the mask's bits.
+#[derive(Clone, Copy, PartialEq, Eq, Debug)]
+pub struct Mark {
+    pub fields: Fields,
+    pub blanks: u8,
+}
+
+impl Mark {
+    /// Of every record but a found.
+    pub const NONE: Mark = Mark { fields: [0; 4], blanks: 0 };
+}
+
+/// Whether the bit of this field, counted from 0, is 1.
+#[inline]
+fn bit(mask: u8, field: usize) -> bool {
+    mask >> field & 1 == 1
+}
+
 /// Document 01's table of refusals.
 #[derive(Clone, Copy, PartialEq, Eq, Debug)]
 pub enum Refusal {
@@ -33,6 +51,7 @@ pub enum Refusal {
 
 #[derive(Clone, Copy, PartialEq, Eq, Debug)]
 pub struct Template {
+    mask: u8,
     /// Whether the field's mask bit is 1.
     wanted: [bool; 4],
     fields: Fields,
@@ -40,14 +59,14 @@ pub struct Template {
 
 impl Template {
     pub fn new(mask: u8, fields: Fields) -> Template {
-        let wanted = std::array::from_fn(|i| mask >> i & 1 == 1);
-        Template { wanted, fields }
+        Template { mask, wanted: std::array::from_fn(|i| bit(mask, i)), fields }
     }
 
-    /// Every field whose bit is 1 is equal. `&` and `|` make no branches, so that a search over all entries is fast.
-    pub fn matches(&self, entry: &Fields) -> bool {
-        let agrees = |i: usize| (entry[i] == self.fields[i]) | !self.wanted[i];
-        agrees(0) & agrees(1) & agrees(2) & agrees(3)
+    /// Every field whose bit is 1 is equal, and none of these is blank (document 02: "a template field that has a value
+    /// never matches a blank"). `&` and `|` make no branches, so that a search over all entries is fast.
+    pub fn matches(&self, entry: &Mark) -> bool {
+        let agrees = |i: usize| (entry.fields[i] == self.fields[i]) | !self.wanted[i];
+        (entry.blanks & self.mask == 0) & agrees(0) & agrees(1) & agrees(2) & agrees(3)
     }
 }
 
@@ -59,7 +78,7 @@ pub struct LookUpKind {
 
 #[derive(Clone, Copy, PartialEq, Eq, Debug)]
 pub enum Request {
-    Write { party: u8, transaction: u32, lease: u32, fields: Fields },
+    Write { party: u8, transaction: u32, lease: u32, mark: Mark },
     LookUp { party: u8, transaction: u32, timeout: u32, kind: LookUpKind, template: Template },
     Create { party: u8, lease: u32 },
     Commit { party: u8, transaction: u32 },
@@ -91,8 +110,14 @@ pub fn word(bytes: &[u8], at: usize) -> u32 {
 
 /// The four fields of a frame of 28 bytes.
 #[inline]
-pub fn fields_of(frame: &[u8]) -> Fields {
+fn fields_of(frame: &[u8]) -> Fields {
     [word(frame, 12), word(frame, 16), word(frame, 20), word(frame, 24)]
+}
+
+/// What a write's frame has: "the mask byte now tells blank fields".
+#[inline]
+pub fn mark_of(frame: &[u8]) -> Mark {
+    Mark { fields: fields_of(frame), blanks: frame[2] }
 }
 
 /// Refusals 2 to 5, in document 01's order.
@@ -109,11 +134,12 @@ pub fn decode(frame: &[u8]) -> Result<Request, Refusal> {
     let duration = if length >= 12 { word(frame, 8) } else { 0 };
     let fields = if length == 28 { fields_of(frame) } else { [0; 4] };
 
-    let is_look_up = LOOK_UPS.contains(&operation);
+    let (is_write, is_look_up) = (operation == 1, LOOK_UPS.contains(&operation));
     let ill_formed = frame[3] != 0
         || mask > 15
-        || mask != 0 && !is_look_up
-        || is_look_up && (0..4).any(|i| mask >> i & 1 == 0 && fields[i] != 0)
+        || mask != 0 && !is_write && !is_look_up
+        || is_look_up && (0..4).any(|i| !bit(mask, i) && fields[i] != 0)
+        || is_write && (0..4).any(|i| bit(mask, i) && fields[i] != 0)
         || operation == 6 && transaction != NONE;
     if ill_formed {
         return Err(Refusal::Form);
@@ -125,7 +151,7 @@ pub fn decode(frame: &[u8]) -> Result<Request, Refusal> {
     }
 
     Ok(match operation {
-        1 => Request::Write { party, transaction, lease: duration, fields },
+        1 => Request::Write { party, transaction, lease: duration, mark: Mark { fields, blanks: mask } },
         2..=5 => {
             let (kind, template) = (look_up_kind(operation), Template::new(mask, fields));
             Request::LookUp { party, transaction, timeout: duration, kind, template }

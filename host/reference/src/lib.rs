@@ -1,5 +1,6 @@
 //! Document 01, with what document 02 has changed in it, in ordinary Rust: written from the documents and from nothing
-//! else of this repository. Of document 02 it has T-02, the oldest mark first.
+//! else of this repository. Of document 02 it has T-01, abort out of a wait; T-02, the oldest mark first; T-04, no
+//! number 14; T-07, no point in waiting on; T-08, blanks.
 //!
 //! - `frame`: entries, templates, frame layout, refusals 2 to 5
 //! - `answer`: answer records

@@ -2,26 +2,27 @@
 //! nothing from the space.
 
 use crate::answer::{Kind, Record};
-use crate::frame::{fields_of, look_up_kind, word, Fields, LOOK_UPS, NONE};
+use crate::frame::{look_up_kind, mark_of, word, Mark, LOOK_UPS, NONE};
 use crate::space::{End, Space};
 use std::collections::{BTreeMap, BTreeSet};
 
 #[derive(Clone, Copy, PartialEq, Eq, Debug)]
 pub struct Member {
     pub number: u32,
-    pub fields: Fields,
+    pub mark: Mark,
     pub end: End,
 }
 
 #[derive(Clone, Copy, Debug)]
 enum Operation {
     Add(Member),
-    Need { number: u32, fields: Fields, takes: bool },
+    Need { number: u32, mark: Mark, takes: bool },
 }
 
 pub struct SerialRun {
     clock: u32,
-    set: BTreeMap<u32, (Fields, End)>,
+    /// Document 02: "The plain set keeps blanks with its fields."
+    set: BTreeMap<u32, (Mark, End)>,
     lists: BTreeMap<u32, Vec<Operation>>,
     /// For each party, whether its latest look-up frame that was not refused takes.
     takes: [bool; 17],
@@ -55,13 +56,11 @@ impl SerialRun {
     fn record(&mut self, frame: &[u8], record: Record) {
         if record.is(Kind::Written) {
             let end = End::after(self.clock, word(frame, 8));
-            self.operation(
-                record.transaction,
-                Operation::Add(Member { number: record.entry, fields: fields_of(frame), end }),
-            );
+            let member = Member { number: record.entry, mark: mark_of(frame), end };
+            self.operation(record.transaction, Operation::Add(member));
         } else if record.is(Kind::Found) {
             let takes = self.takes[usize::from(record.party)];
-            self.operation(record.transaction, Operation::Need { number: record.entry, fields: record.fields, takes });
+            self.operation(record.transaction, Operation::Need { number: record.entry, mark: record.mark, takes });
         } else if record.is(Kind::Committed) {
             for operation in self.lists.remove(&record.transaction).unwrap_or_default() {
                 self.carry_out(operation);
@@ -83,14 +82,14 @@ impl SerialRun {
 
     fn carry_out(&mut self, operation: Operation) {
         match operation {
-            Operation::Add(Member { number, fields, end }) => {
-                if self.set.insert(number, (fields, end)).is_some() {
+            Operation::Add(Member { number, mark, end }) => {
+                if self.set.insert(number, (mark, end)).is_some() {
                     self.fail(format!("entry {number} is added twice"));
                 }
             }
-            Operation::Need { number, fields, takes } => {
-                if self.set.get(&number).map(|&(present, _)| present) != Some(fields) {
-                    self.fail(format!("entry {number} with fields {fields:?} is missing"));
+            Operation::Need { number, mark, takes } => {
+                if self.set.get(&number).map(|&(present, _)| present) != Some(mark) {
+                    self.fail(format!("entry {number} with {mark:?} is missing"));
                 } else if takes {
                     self.set.remove(&number);
                     if !self.taken.insert(number) {
@@ -113,7 +112,7 @@ impl SerialRun {
         let left: Vec<Member> = self
             .set
             .iter()
-            .map(|(&number, &(fields, end))| Member { number, fields, end })
+            .map(|(&number, &(mark, end))| Member { number, mark, end })
             .filter(|member| !member.end.reached(self.clock))
             .collect();
         let most = left.len().max(committed.len());
@@ -130,7 +129,7 @@ pub fn committed(space: &Space) -> Vec<Member> {
         .entries
         .iter()
         .filter(|entry| entry.private_to == NONE)
-        .map(|entry| Member { number: entry.number, fields: entry.fields, end: entry.end })
+        .map(|entry| Member { number: entry.number, mark: entry.mark, end: entry.end })
         .collect();
     members.sort_by_key(|member| member.number);
     members

@@ -1,7 +1,7 @@
 //! The space: who holds what, what each frame does, and the refusals that depend on the space.
 
 use crate::answer::{Answers, Kind, Record, STEP};
-use crate::frame::{decode, Fields, LookUpKind, Refusal, Request, Template, FOREVER, LAST_CLOCK, NONE};
+use crate::frame::{decode, LookUpKind, Mark, Refusal, Request, Template, FOREVER, LAST_CLOCK, NONE};
 
 pub const MOST_ENTRIES: usize = 64;
 pub const MOST_TRANSACTIONS: usize = 8;
@@ -34,7 +34,7 @@ impl End {
 #[derive(Clone, PartialEq, Eq, Debug)]
 pub struct Entry {
     pub number: u32,
-    pub fields: Fields,
+    pub mark: Mark,
     pub end: End,
     /// The transaction it is private to, or NONE for a committed entry.
     pub private_to: u32,
@@ -70,7 +70,7 @@ impl Entry {
     }
 
     pub fn available(&self, look_up: &LookUp) -> bool {
-        look_up.template.matches(&self.fields)
+        look_up.template.matches(&self.mark)
             && self.taken_by == NONE
             && !self.private_to_other(look_up.transaction)
             && !(look_up.kind.takes && self.read_by_other(look_up.transaction))
@@ -78,7 +78,7 @@ impl Entry {
 
     pub fn conflicts(&self, look_up: &LookUp) -> bool {
         let own_take_hold = self.taken_by != NONE && self.taken_by == look_up.transaction;
-        look_up.template.matches(&self.fields)
+        look_up.template.matches(&self.mark)
             && !self.available(look_up)
             && !own_take_hold
             && (self.private_to_other(look_up.transaction)
@@ -148,11 +148,11 @@ impl Space {
     /// Carries out the request, or gives the first of refusals 6 to 13 that applies and changes nothing.
     fn perform(&mut self, request: Request, answers: &mut Answers) -> Result<(), Refusal> {
         match request {
-            Request::Write { party, transaction, lease, fields } => {
+            Request::Write { party, transaction, lease, mark } => {
                 self.check_party(party)?;
                 self.check_transaction(party, transaction)?;
                 self.check_duration(lease)?;
-                self.write(party, transaction, lease, fields, answers)?;
+                self.write(party, transaction, lease, mark, answers)?;
             }
             Request::LookUp { party, transaction, timeout, kind, template } => {
                 self.check_party(party)?;
@@ -232,7 +232,7 @@ impl Space {
         party: u8,
         transaction: u32,
         lease: u32,
-        fields: Fields,
+        mark: Mark,
         answers: &mut Answers,
     ) -> Result<(), Refusal> {
         if lease != 0 && self.entries.len() >= MOST_ENTRIES {
@@ -246,7 +246,7 @@ impl Space {
         if lease != 0 {
             let end = End::after(self.clock, lease);
             let read_by = Vec::new();
-            self.entries.push(Entry { number, fields, end, private_to: transaction, taken_by: NONE, read_by });
+            self.entries.push(Entry { number, mark, end, private_to: transaction, taken_by: NONE, read_by });
         }
         answers.put(Record { entry: number, ..Record::new(Kind::Written, party, transaction) });
         if transaction == NONE {
@@ -281,7 +281,7 @@ impl Space {
         let entry = &mut self.entries[place];
         answers.put(Record {
             entry: entry.number,
-            fields: entry.fields,
+            mark: entry.mark,
             ..Record::new(Kind::Found, look_up.party, look_up.transaction)
         });
         let committed = entry.private_to == NONE;

@@ -1,7 +1,7 @@
 //! Operations as a table, and frames made of requests and shown as text. Nothing here judges a frame.
 
 use crate::bytes::word;
-use crate::words::{End, Fields, Template, FOREVER};
+use crate::words::{End, Fields, Template, Values, FOREVER};
 
 /// Document 01's frame layout, in bytes.
 const AT_TRANSACTION: usize = 4;
@@ -10,11 +10,15 @@ const AT_FIELDS: usize = 12;
 const LONGEST: usize = 28;
 
 pub const FIELD_NAMES: [&str; 4] = ["kind", "side", "image", "place"];
+/// In a text and in words, in place of a field's number.
+pub const BLANK: &str = "blank";
+/// The same in the names of a drawing's bars.
+const SHORT_BLANK: &str = "_";
 
 /// What stands behind an operation's name in a text, in this order.
 #[derive(Clone, Copy, PartialEq, Eq, Debug)]
 pub enum Part {
-    /// Four numbers.
+    /// Four numbers, or `blank` in place of any.
     Fields,
     /// `any`, or fields by name.
     Template,
@@ -85,6 +89,7 @@ pub fn operation_named(name: &str) -> Option<&'static Operation> {
 pub struct Request {
     pub operation: &'static Operation,
     pub party: u8,
+    /// Of a template, or the blanks of a write.
     pub mask: u8,
     pub transaction: u32,
     /// Lease or timeout.
@@ -131,13 +136,18 @@ impl Request {
         Template { mask: self.mask, fields: self.fields }
     }
 
+    /// What a write writes.
+    pub fn values(&self) -> Values {
+        Values { fields: self.fields, blanks: self.mask }
+    }
+
     pub fn looks_up(&self) -> bool {
         matches!(self.operation.class, Class::LookUp { .. })
     }
 
     fn part(&self, part: Part) -> String {
         match part {
-            Part::Fields => format!(" {}", plain_fields(&self.fields)),
+            Part::Fields => format!(" {}", plain_fields(&self.values())),
             Part::Template => format!(" {}", template_text(&self.template())),
             Part::Lease => format!(" lease {}", duration_text(self.duration)),
             Part::Timeout => format!(" timeout {}", duration_text(self.duration)),
@@ -145,6 +155,20 @@ impl Request {
             Part::Inside => format!(" in {}", self.transaction),
             Part::Transaction => format!(" {}", self.transaction),
         }
+    }
+
+    /// Whether its text leaves something out: of a template's fields those outside the mask are not said, of a write's
+    /// those that are blank, of a tick no party.
+    fn has_unsaid(&self) -> bool {
+        let has = |part: Part| self.operation.parts.contains(&part);
+        let (template, fields) = (has(Part::Template), has(Part::Fields));
+        let bit = |i: usize| self.mask >> i & 1 == 1;
+        let hidden = |i: usize| if bit(i) { fields } else { template };
+        let field = (0..FIELD_NAMES.len()).any(|i| hidden(i) && self.fields[i] != 0);
+        let party = self.operation.class == Class::Tick && self.party != 0;
+        let transaction = self.transaction != 0 && !has(Part::Inside) && !has(Part::Transaction);
+        let mask = self.mask > 15 || (self.mask != 0 && !template && !fields);
+        field || party || transaction || mask
     }
 
     /// As text, without the party.
@@ -177,14 +201,30 @@ pub fn end_text(end: End) -> String {
     }
 }
 
-/// "7 1 40 9"
-pub fn plain_fields(fields: &Fields) -> String {
-    fields.map(|field| field.to_string()).join(" ")
+/// Each field, or this word for a blank.
+fn slots(values: &Values, blank: &str) -> [String; FIELD_NAMES.len()] {
+    std::array::from_fn(|i| match values.fields[i] {
+        0 if values.is_blank(i) => blank.to_string(),
+        // In a write alone, which is then refused.
+        field if values.is_blank(i) => format!("{blank}({field})"),
+        field => field.to_string(),
+    })
 }
 
-/// "kind 7, side 1, image 40, place 9"
-pub fn named_fields(fields: &Fields) -> String {
-    let named: Vec<String> = FIELD_NAMES.iter().zip(fields).map(|(name, field)| format!("{name} {field}")).collect();
+/// "7 1 40 9", "7 1 40 blank"
+pub fn plain_fields(values: &Values) -> String {
+    slots(values, BLANK).join(" ")
+}
+
+/// "7 1 40 9", "7 1 40 _": no longer than numbers are.
+pub fn short_fields(values: &Values) -> String {
+    slots(values, SHORT_BLANK).join(" ")
+}
+
+/// "kind 7, side 1, image 40, place 9", "kind 7, side 1, image 40, place blank"
+pub fn named_fields(values: &Values) -> String {
+    let slots = slots(values, BLANK);
+    let named: Vec<String> = FIELD_NAMES.iter().zip(slots).map(|(name, slot)| format!("{name} {slot}")).collect();
     named.join(", ")
 }
 
@@ -213,18 +253,8 @@ pub fn tick_frame() -> Vec<u8> {
 
 /// A frame as a line of text that assembles to the same bytes: byte by byte if there is no other.
 pub fn show(frame: &[u8]) -> String {
-    // A text's template says nothing of fields outside the mask, a tick's line nothing of a party.
-    let unsaid = |request: &Request| {
-        let outside = (0..FIELD_NAMES.len()).any(|i| request.mask >> i & 1 == 0 && request.fields[i] != 0);
-        let templated = request.operation.parts.contains(&Part::Template);
-        let party = request.operation.class == Class::Tick && request.party != 0;
-        let transaction = request.transaction != 0
-            && !request.operation.parts.iter().any(|part| matches!(part, Part::Inside | Part::Transaction));
-        let mask = request.mask > 15 || (!templated && request.mask != 0);
-        (templated && outside) || party || transaction || mask
-    };
     match Request::of(frame) {
-        Some(request) if !unsaid(&request) => request.text(),
+        Some(request) if !request.has_unsaid() => request.text(),
         _ => frame.iter().fold("bytes".to_string(), |line, byte| format!("{line} {byte:02x}")),
     }
 }

@@ -1,7 +1,7 @@
 //! A line of text as words, read one after the other; what is wrong names the line and what was expected.
 
-use crate::frame::{operation_named, Class, Operation, Part, Request, FIELD_NAMES, OPERATIONS};
-use crate::words::{Template, FOREVER};
+use crate::frame::{operation_named, Class, Operation, Part, Request, BLANK, FIELD_NAMES, OPERATIONS};
+use crate::words::{Template, Values, FOREVER};
 
 /// What is wrong with a text. Line 0 stands for the text as a whole.
 #[derive(Clone, PartialEq, Eq, Debug)]
@@ -115,6 +115,19 @@ impl<'a> Line<'a> {
         }
     }
 
+    /// What is written: four numbers, or `blank` in place of any.
+    fn values(&mut self) -> Result<Values, Fault> {
+        let mut values = Values::default();
+        for (i, name) in FIELD_NAMES.iter().enumerate() {
+            if self.passes(BLANK) {
+                values.blanks |= 1 << i;
+            } else {
+                values.fields[i] = self.number(&format!("`{BLANK}` or a number for {name}"))?;
+            }
+        }
+        Ok(values)
+    }
+
     pub fn template(&mut self) -> Result<Template, Fault> {
         let mut template = Template { mask: 0, fields: [0; 4] };
         if self.passes("any") {
@@ -155,9 +168,8 @@ impl<'a> Line<'a> {
         for part in request.operation.parts {
             match part {
                 Part::Fields => {
-                    for (field, name) in request.fields.iter_mut().zip(FIELD_NAMES) {
-                        *field = self.number(&format!("a number for {name}"))?;
-                    }
+                    let values = self.values()?;
+                    (request.mask, request.fields) = (values.blanks, values.fields);
                 }
                 Part::Template => {
                     let template = self.template()?;

@@ -3,14 +3,15 @@
 use crate::boundary::Space;
 use crate::frame::{operation_named, Request};
 use crate::record::FOUND;
-use crate::words::{Entry, Fields, LookUp, Tables, Template, FOREVER};
+use crate::words::{Entry, LookUp, Tables, Template, Values, FOREVER};
 use std::collections::HashMap;
 
-/// Whether an entry with these fields matches: written into an empty space and looked up there.
-fn ask(template: &Template, fields: &Fields) -> bool {
+/// Whether an entry with these values matches: written into an empty space and looked up there.
+fn ask(template: &Template, values: &Values) -> bool {
     let (Some(write), Some(read)) = (operation_named("write"), operation_named("read")) else { return false };
     let mut space = Space::default();
-    space.step(&Request { fields: *fields, duration: FOREVER, ..Request::new(write, 1) }.frame());
+    let Values { fields, blanks } = *values;
+    space.step(&Request { mask: blanks, fields, duration: FOREVER, ..Request::new(write, 1) }.frame());
     space.step(&Request { mask: template.mask, fields: template.fields, ..Request::new(read, 2) }.frame());
     let answer = space.records().next();
     answer.is_some_and(|record| record.kind == FOUND)
@@ -19,16 +20,16 @@ fn ask(template: &Template, fields: &Fields) -> bool {
 /// Remembers what was asked before.
 #[derive(Clone, Default)]
 pub struct Matcher {
-    known: HashMap<(Template, Fields), bool>,
+    known: HashMap<(Template, Values), bool>,
 }
 
 impl Matcher {
-    pub fn matches(&mut self, template: &Template, fields: &Fields) -> bool {
-        *self.known.entry((*template, *fields)).or_insert_with(|| ask(template, fields))
+    pub fn matches(&mut self, template: &Template, values: &Values) -> bool {
+        *self.known.entry((*template, *values)).or_insert_with(|| ask(template, values))
     }
 
     pub fn matching<'a>(&mut self, template: &Template, tables: &'a Tables) -> Vec<&'a Entry> {
-        tables.entries.iter().filter(|entry| self.matches(template, &entry.fields)).collect()
+        tables.entries.iter().filter(|entry| self.matches(template, &entry.values())).collect()
     }
 }
 

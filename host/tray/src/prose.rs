@@ -24,11 +24,11 @@ pub fn refusal_words(number: u8) -> String {
 /// A record in words, without the party.
 pub fn record_deed(record: &Record, clock: u32) -> String {
     let Some(kind) = kind_of(record.kind) else { return format!("record {}", record.line()) };
-    let Record { transaction, entry, fields, .. } = record;
+    let Record { transaction, entry, .. } = record;
     let name = kind.name;
     match kind.tells {
         Tells::Entry => format!("{name} entry {entry}{}", inside(record)),
-        Tells::EntryAndFields => format!("{name} entry {entry}, {}{}", named_fields(fields), inside(record)),
+        Tells::EntryAndFields => format!("{name} entry {entry}, {}{}", named_fields(&record.values()), inside(record)),
         Tells::Inside => format!("{name}{}", inside(record)),
         Tells::Transaction => format!("{name} transaction {transaction}"),
         Tells::Expired => format!("{name}: transaction {transaction} has expired"),
@@ -101,8 +101,8 @@ pub fn holds_words(entry: &Entry, tables: &Tables) -> String {
 }
 
 pub fn entry_words(entry: &Entry, tables: &Tables) -> String {
-    let Entry { number, fields, end, .. } = entry;
-    format!("entry {number}: {}, {}, {}", plain_fields(fields), holds_words(entry, tables), ends(*end))
+    let Entry { number, end, .. } = entry;
+    format!("entry {number}: {}, {}, {}", plain_fields(&entry.values()), holds_words(entry, tables), ends(*end))
 }
 
 pub fn transaction_words(transaction: &Transaction) -> String {
@@ -140,7 +140,7 @@ pub fn why(sought: &Sought, tables: &Tables, matcher: &mut Matcher) -> Vec<Strin
         return vec!["no stored entry matches".to_string()];
     }
     let line = |(entry, standing): &(&Entry, Standing)| {
-        format!("entry {} ({}): {}", entry.number, plain_fields(&entry.fields), standing_words(standing, tables))
+        format!("entry {} ({}): {}", entry.number, plain_fields(&entry.values()), standing_words(standing, tables))
     };
     standings.iter().map(line).collect()
 }

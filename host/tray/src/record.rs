@@ -1,7 +1,7 @@
 //! Answer records, their kinds and the refusals, as tables: a new kind or number is a row.
 
 use crate::bytes::word;
-use crate::words::Fields;
+use crate::words::{Fields, Values};
 
 pub const RECORD_BYTES: usize = 28;
 /// A step writes at most 25 records.
@@ -80,7 +80,8 @@ const REFUSALS: [Refusal; 15] = [
     refusal(
         4,
         "wrong form",
-        "the frame's form is wrong: byte 3, mask, a field outside the mask, or a create that names a transaction",
+        "the frame's form is wrong: byte 3, mask, a field outside the mask, a blank that is not 0, or a create that \
+         names a transaction",
     ),
     refusal(5, "no such party", "the party is not 1-16, or not 0 for tick"),
     refusal(6, "look-up still waits", "the party has a waiting look-up that the frame does not withdraw"),
@@ -129,6 +130,8 @@ pub struct Record {
     pub transaction: u32,
     pub entry: u32,
     pub fields: Fields,
+    /// Of the entry's fields, in a found one; 0 in every other.
+    pub blanks: u8,
 }
 
 impl Record {
@@ -142,12 +145,17 @@ impl Record {
             transaction: word(4),
             entry: word(8),
             fields: std::array::from_fn(|i| word(12 + 4 * i)),
+            blanks: bytes[3],
         }
     }
 
-    /// As the program prints it.
+    pub fn values(&self) -> Values {
+        Values { fields: self.fields, blanks: self.blanks }
+    }
+
+    /// As the program prints it: without the blanks.
     pub fn line(&self) -> String {
-        let Record { kind, party, refusal, transaction, entry, fields: [f0, f1, f2, f3] } = self;
+        let Record { kind, party, refusal, transaction, entry, fields: [f0, f1, f2, f3], .. } = self;
         format!("{kind} {party} {refusal} {transaction} {entry} {f0} {f1} {f2} {f3}")
     }
 }

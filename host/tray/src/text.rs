@@ -3,7 +3,7 @@
 //! One frame to a line; `#` begins a comment. D is a number of ticks or `forever`; `in T` may be left out.
 //!
 //! ```text
-//! party P write KIND SIDE IMAGE PLACE lease D in T
+//! party P write KIND SIDE IMAGE PLACE lease D in T      `blank` in place of any of the four
 //! party P read any timeout D in T                       also: take, readIfExists, takeIfExists
 //! party P take kind K side S image I place L timeout D  (any of the four fields)
 //! party P create lease D

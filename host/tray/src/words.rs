@@ -19,8 +19,11 @@ pub const ENTRY_FIELDS: usize = 1;
 pub const ENTRY_END: usize = 5;
 pub const ENTRY_PRIVATE_TO: usize = 6;
 pub const ENTRY_TAKEN_BY: usize = 7;
+/// Readers + BLANKS_UNIT * blanks.
 pub const ENTRY_READERS: usize = 8;
 pub const ENTRY_WORDS: usize = 9;
+/// In the word at ENTRY_READERS.
+pub const BLANKS_UNIT: u32 = 256;
 
 // Live transactions, by number.
 pub const MAX_TRANSACTIONS: usize = 8;
@@ -79,6 +82,20 @@ impl Table {
 /// kind, side, image, place
 pub type Fields = [u32; 4];
 
+/// An entry's fields, and a bit of 1 for each that is blank: bit 0 for kind, up to bit 3 for place.
+#[derive(Clone, Copy, Default, PartialEq, Eq, Hash, Debug)]
+pub struct Values {
+    /// 0 where it is blank.
+    pub fields: Fields,
+    pub blanks: u8,
+}
+
+impl Values {
+    pub fn is_blank(&self, field: usize) -> bool {
+        self.blanks >> field & 1 == 1
+    }
+}
+
 /// The end of a lease, or a deadline.
 #[derive(Clone, Copy, PartialEq, Eq, PartialOrd, Ord, Hash, Debug)]
 pub enum End {
@@ -105,6 +122,8 @@ pub struct Template {
 pub struct Entry {
     pub number: u32,
     pub fields: Fields,
+    /// As in `Values`.
+    pub blanks: u8,
     pub end: End,
     /// The transaction, or 0: committed.
     pub private_to: u32,
@@ -146,11 +165,23 @@ fn fields(row: &[u32], at: usize) -> Fields {
     std::array::from_fn(|i| row[at + i])
 }
 
+/// The transactions with a read hold on the entry in a row, a bit for each, at its slot.
+pub fn entry_readers(row: &[u32]) -> u32 {
+    row[ENTRY_READERS] % BLANKS_UNIT
+}
+
+/// What the entry in a row holds.
+pub fn entry_values(row: &[u32]) -> Values {
+    Values { fields: fields(row, ENTRY_FIELDS), blanks: (row[ENTRY_READERS] / BLANKS_UNIT) as u8 }
+}
+
 fn entry(row: &[u32], slots: &[(u32, u32)]) -> Entry {
-    let read_by = slots.iter().filter(|(_, slot)| row[ENTRY_READERS] >> slot & 1 == 1);
+    let read_by = slots.iter().filter(|(_, slot)| entry_readers(row) >> slot & 1 == 1);
+    let Values { fields, blanks } = entry_values(row);
     Entry {
         number: row[ENTRY_NUMBER],
-        fields: fields(row, ENTRY_FIELDS),
+        fields,
+        blanks,
         end: End::of(row[ENTRY_END]),
         private_to: row[ENTRY_PRIVATE_TO],
         taken_by: row[ENTRY_TAKEN_BY],
@@ -187,6 +218,12 @@ pub fn tables(words: &Words) -> Tables {
         entries: ENTRIES.rows(words).map(|row| entry(row, &slots)).collect(),
         transactions: TRANSACTIONS.rows(words).map(transaction).collect(),
         look_ups: LOOK_UPS.rows(words).map(look_up).collect(),
+    }
+}
+
+impl Entry {
+    pub fn values(&self) -> Values {
+        Values { fields: self.fields, blanks: self.blanks }
     }
 }
 

@@ -178,7 +178,7 @@ fn enumerate(script: &Script) -> Enumerated {
 
 fn random_script(seed: u64) -> String {
     let mut random = Random(seed);
-    let mut text = "party 16 write 1 1 0 0 lease 2\nparty 16 write 2 1 0 0 lease forever\n".to_string();
+    let mut text = "party 16 write 1 1 0 0 lease 2\nparty 16 write 2 1 0 blank lease forever\n".to_string();
     let panes = 2 + random.below(2);
     for party in 1..=panes {
         text += &format!("pane P{party} party {party}\n");
@@ -189,7 +189,7 @@ fn random_script(seed: u64) -> String {
         text += &format!("c: create lease {} as T\n", random.pick(&["1", "2", "forever"]));
         for line in 0..1 + random.below(2) {
             let look_up = random.pick(&["read", "take", "takeIfExists", "readIfExists"]);
-            let template = random.pick(&["any", "kind 1", "kind 2", "kind 3"]);
+            let template = random.pick(&["any", "kind 1", "kind 2", "kind 3", "place 0"]);
             let timeout = random.pick(&["0", "1", "forever"]);
             let inside = random.pick(&[" in T", " in T", ""]);
             text += &format!("l{line}: {look_up} {template} timeout {timeout}{inside}\n");

@@ -39,7 +39,7 @@ fn the_header_says_the_same() {
     same!(header, ENTRIES_AT ENTRY_NUMBER ENTRY_FIELDS ENTRY_END ENTRY_PRIVATE_TO ENTRY_TAKEN_BY ENTRY_READERS);
     same!(header, ENTRY_WORDS TRANSACTIONS_AT TRANSACTION_NUMBER TRANSACTION_OWNER TRANSACTION_END TRANSACTION_SLOT);
     same!(header, TRANSACTION_WORDS WAITING_AT WAITING_PARTY WAITING_OPERATION WAITING_MASK WAITING_FIELDS);
-    same!(header, WAITING_TRANSACTION WAITING_DEADLINE WAITING_WORDS);
+    same!(header, WAITING_TRANSACTION WAITING_DEADLINE WAITING_WORDS BLANKS_UNIT);
     assert_eq!(header["RECORD_BYTES"], tray::record::RECORD_BYTES);
     assert_eq!(header["STEP_BYTES"], tray::record::STEP_BYTES);
 }
@@ -57,15 +57,20 @@ fn every_word_of_a_row() {
                 party 3 read any timeout 0 in 2\nparty 2 read any timeout 0 in 1\nparty 4 write 8 2 41 10 lease forever\n\
                 party 3 take kind 8 timeout 0 in 2\nparty 3 write 9 0 0 0 lease 2 in 2\n\
                 party 5 takeIfExists kind 8 side 2 image 41 place 10 timeout 7\ntick\n\
-                party 3 take kind 1 timeout forever in 2\n";
+                party 3 take kind 1 timeout forever in 2\nparty 4 write 8 blank 42 blank lease forever\n\
+                party 2 read image 42 timeout 0 in 1\n";
     let history = History::of(parse(text).unwrap().frames().cloned());
     let state = &history.steps.last().unwrap().after;
-    assert_eq!((state.clock, state.next_entry, state.next_transaction), (1, 4, 3));
+    assert_eq!((state.clock, state.next_entry, state.next_transaction), (1, 5, 3));
     let rows: Vec<_> = state.entries.iter().map(|e| (e.number, e.fields, e.end, e.private_to, e.taken_by)).collect();
     assert_eq!(rows[0], (1, [7, 1, 40, 9], End::At(5), 0, 0));
     assert_eq!(rows[1], (2, [8, 2, 41, 10], End::Never, 0, 2));
     assert_eq!(rows[2], (3, [9, 0, 0, 0], End::At(2), 2, 0));
+    assert_eq!(rows[3], (4, [8, 0, 42, 0], End::Never, 0, 0));
     assert_eq!(state.entries[0].read_by, [1, 2]);
+    // Blanks and read holds share a word.
+    let shared: Vec<_> = state.entries.iter().map(|e| (e.blanks, e.read_by.len())).collect();
+    assert_eq!(shared, [(0, 2), (0, 0), (0, 0), (0b1010, 1)]);
     let live: Vec<_> = state.transactions.iter().map(|t| (t.number, t.owner, t.end)).collect();
     assert_eq!(live, [(1, 2, End::At(3)), (2, 3, End::Never)]);
     let waits: Vec<_> = state.look_ups.iter().map(|l| (l.party, l.operation, l.transaction, l.deadline)).collect();

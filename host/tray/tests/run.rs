@@ -12,6 +12,7 @@ use tray::history::{run, History};
 use tray::oracle::{Matcher, Sought, Standing};
 use tray::record::{Record, FOUND, NOTHING, RECORD_BYTES, WAITING};
 use tray::text::parse;
+use tray::words::Values;
 
 fn read(path: &std::path::Path) -> String {
     std::fs::read_to_string(path).unwrap()
@@ -124,7 +125,8 @@ fn matching_field_by_field() {
         let fields = std::array::from_fn(|i| if mask >> i & 1 == 1 { 5 } else { 0 });
         let template = tray::words::Template { mask, fields };
         for differing in 0..16u8 {
-            let entry = std::array::from_fn(|i| if differing >> i & 1 == 1 { 6 } else { 5 });
+            let fields = std::array::from_fn(|i| if differing >> i & 1 == 1 { 6 } else { 5 });
+            let entry = Values { fields, blanks: 0 };
             assert_eq!(matcher.matches(&template, &entry), mask & differing == 0);
         }
     }

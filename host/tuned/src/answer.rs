@@ -54,8 +54,8 @@ impl<'a> Answers<'a> {
     }
 
     #[inline(always)]
-    pub fn found(&mut self, party: u8, transaction: u32, entry: u32, fields: Fields) {
-        self.put([FOUND, party, 0, 0], transaction, entry, fields);
+    pub fn found(&mut self, party: u8, transaction: u32, entry: u32, blanks: u8, fields: Fields) {
+        self.put([FOUND, party, 0, blanks], transaction, entry, fields);
     }
 
     #[inline(always)]

@@ -1,7 +1,8 @@
 //! Entries as columns of 64 words; which rows are in use, private, take-held and read-held are masks of 64 bits. What
 //! makes it fast:
 //!
-//! - The first field asked for is compared with a whole column, further fields only in the rows that have it.
+//! - The first field asked for is compared with a whole column, further fields only in the rows that have it. A blank
+//!   is kept as 0; of the rows that have all that is asked for, those with blanks are looked at once more.
 //! - A commit, an abort and the end of a lease are a few operations on masks, and no row moves.
 //! - Service, ends and waiting parties as in `rows`.
 //!
@@ -60,6 +61,8 @@ fn equal(column: &Column, x: u32, blocks: usize) -> u64 {
 pub struct Space {
     common: Common,
     used: u64,
+    /// Rows in use with blanks, and perhaps free ones.
+    blank: u64,
     /// Private to some transaction; take-held by one.
     private: u64,
     taken: u64,
@@ -77,6 +80,7 @@ pub struct Space {
     fields: [Column; 4],
     numbers: Column,
     ends: Column,
+    blanks: [u8; ENTRIES],
 }
 
 impl crate::Space for Space {
@@ -89,6 +93,7 @@ impl crate::Space for Space {
         Space {
             common: Common::beginning(clock, next_entry, next_transaction),
             used: 0,
+            blank: 0,
             private: 0,
             taken: 0,
             own: [0; SLOTS + 1],
@@ -101,6 +106,7 @@ impl crate::Space for Space {
             fields: [[0; ENTRIES]; 4],
             numbers: [0; ENTRIES],
             ends: [0; ENTRIES],
+            blanks: [0; ENTRIES],
         }
     }
 
@@ -188,6 +194,8 @@ impl Space {
         self.used |= bit;
         self.numbers[row] = number;
         self.ends[row] = end;
+        self.blanks[row] = long.mask;
+        self.blank = self.blank & !bit | u64::from(long.mask != 0) << row;
         for (column, field) in self.fields.iter_mut().zip(long.fields) {
             column[row] = field;
         }
@@ -262,7 +270,7 @@ impl Space {
         let first = mask.trailing_zeros() as usize & 3;
         let hits = rows & equal(&self.fields[first], fields[first], blocks);
         if mask & (mask - 1) == 0 {
-            hits
+            self.filled(hits, mask)
         } else {
             self.matching_few(hits, mask, fields)
         }
@@ -279,7 +287,22 @@ impl Space {
             hits |= u64::from(differs == 0) << row;
             left &= left - 1;
         }
-        hits
+        self.filled(hits, mask)
+    }
+
+    /// Of these rows, those with no blank that is asked for.
+    #[inline(always)]
+    fn filled(&self, rows: u64, mask: u8) -> u64 {
+        if rows == 0 {
+            return 0;
+        }
+        let (mut left, mut filled) = (rows & self.blank, rows);
+        while left != 0 {
+            let row = left.trailing_zeros() as usize & 63;
+            filled &= !(u64::from(self.blanks[row] & mask != 0) << row);
+            left &= left - 1;
+        }
+        filled
     }
 
     /// Of these rows, the one with the lowest number.
@@ -301,7 +324,7 @@ impl Space {
     #[inline(always)]
     fn hand_out(&mut self, row: usize, party: u8, takes: bool, slot: usize, transaction: u32, answers: &mut Answers) {
         let fields = self.fields.each_ref().map(|column| column[row]);
-        answers.found(party, transaction, self.numbers[row], fields);
+        answers.found(party, transaction, self.numbers[row], self.blanks[row], fields);
         let bit = 1 << row;
         if takes {
             if slot == NONE {

@@ -10,6 +10,7 @@ pub type Fields = [u32; 4];
 #[derive(Clone, Copy)]
 pub struct Long {
     pub party: u8,
+    /// The fields that a template asks for, or a write's blanks.
     pub mask: u8,
     pub transaction: u32,
     /// Lease or timeout.
@@ -30,7 +31,7 @@ pub fn word<const N: usize>(bytes: &[u8; N], at: usize) -> u32 {
     u32::from_le_bytes([bytes[at], bytes[at + 1], bytes[at + 2], bytes[at + 3]])
 }
 
-/// For each field, all ones if the mask asks for it.
+/// For each field, all ones if its bit is 1: a template asks for it.
 #[inline(always)]
 pub fn asked(mask: u8) -> Fields {
     let mask = u32::from(mask); // a word, so that the compiler does all four at once
@@ -52,14 +53,9 @@ fn long(frame: &[u8; 28]) -> Result<Long, u8> {
         duration: word(frame, 8),
         fields: [word(frame, 12), word(frame, 16), word(frame, 20), word(frame, 24)],
     };
-    let ill_formed = if frame[0] == 1 {
-        long.mask != 0
-    } else {
-        let asked = asked(long.mask);
-        let unasked = (0..4).fold(0, |bits, i| bits | long.fields[i] & !asked[i]);
-        long.mask > 15 || unasked != 0
-    };
-    if ill_formed || frame[3] != 0 {
+    let zero = asked(if frame[0] == 1 { long.mask } else { !long.mask }); // the fields that must be 0
+    let not_zero = (0..4).fold(0, |bits, i| bits | long.fields[i] & zero[i]);
+    if long.mask > 15 || not_zero != 0 || frame[3] != 0 {
         return Err(4);
     }
     if !party_fits(long.party) {

@@ -28,6 +28,7 @@ struct Entry {
     taken: u8,
     /// Bit p: the transaction in slot p has a read hold.
     readers: u8,
+    blanks: u8,
 }
 
 #[derive(Clone, Copy, PartialEq)]
@@ -42,6 +43,7 @@ struct LookUp {
     slot: u8,
     /// The bit of its slot.
     bit: u8,
+    mask: u8,
 }
 
 #[inline(always)]
@@ -63,11 +65,12 @@ impl Entry {
         [a as u32, (a >> 32) as u32, b as u32, (b >> 32) as u32]
     }
 
-    /// Most entries differ in the first pair, so a branch is cheaper than both comparisons.
+    /// Most entries differ in the first pair, so a branch is cheaper than both comparisons. A blank is kept as 0, so
+    /// blanks matter only where all that is asked for is there.
     #[inline(always)]
     fn matches(&self, look_up: &LookUp) -> bool {
         let differs = |i: usize| (self.pairs[i] ^ look_up.pairs[i]) & look_up.asks[i] != 0;
-        !differs(0) && !differs(1)
+        !differs(0) && !differs(1) && self.blanks & look_up.mask == 0
     }
 
     #[inline(always)]
@@ -114,9 +117,9 @@ impl crate::Space for Space {
     fn beginning(clock: u32, next_entry: u32, next_transaction: u32) -> Space {
         let (asks, pairs) = ([0; 2], [0; 2]);
         let (takes, if_exists) = (false, false);
-        let (slot, bit) = (NO_SLOT, 0);
-        let wait = LookUp { asks, pairs, transaction: 0, deadline: 0, party: 0, takes, if_exists, slot, bit };
-        let entry = Entry { pairs, number: 0, end: 0, private: NO_SLOT, taken: NO_SLOT, readers: 0 };
+        let (slot, bit, mask) = (NO_SLOT, 0, 0);
+        let wait = LookUp { asks, pairs, transaction: 0, deadline: 0, party: 0, takes, if_exists, slot, bit, mask };
+        let entry = Entry { pairs, number: 0, end: 0, private: NO_SLOT, taken: NO_SLOT, readers: 0, blanks: 0 };
         Space {
             common: Common::beginning(clock, next_entry, next_transaction),
             active: 0,
@@ -209,8 +212,8 @@ impl Space {
         if long.duration == 0 {
             return Ok(());
         }
-        let pairs = paired(long.fields);
-        self.entries[row & 63] = Entry { pairs, number, end, private, taken: NO_SLOT, readers: 0 };
+        let (pairs, blanks) = (paired(long.fields), long.mask);
+        self.entries[row & 63] = Entry { pairs, number, end, private, taken: NO_SLOT, readers: 0, blanks };
         self.entry_count = row + 1;
         self.common.next_end = self.common.next_end.min(end);
         self.active |= bit_of(private);
@@ -222,13 +225,14 @@ impl Space {
 
     #[inline(always)]
     fn look_up(&mut self, operation: u8, long: &Long, answers: &mut Answers) -> Result<(), u8> {
-        let &Long { party, transaction, .. } = long;
+        let &Long { party, mask, transaction, .. } = long;
         self.check_party(party)?;
         let slot = self.common.slot_or_none(party, transaction)?;
         let deadline = self.common.end_of(long.duration)?;
-        let (asks, pairs) = (paired(asked(long.mask)), paired(long.fields));
+        let (asks, pairs) = (paired(asked(mask)), paired(long.fields));
         let (takes, if_exists) = (operation == 3 || operation == 5, operation >= 4);
-        let look_up = LookUp { asks, pairs, transaction, deadline, party, takes, if_exists, slot, bit: bit_of(slot) };
+        let bit = bit_of(slot);
+        let look_up = LookUp { asks, pairs, transaction, deadline, party, takes, if_exists, slot, bit, mask };
         if let Some(row) = self.rows().iter().position(|entry| entry.available(&look_up)) {
             self.hand_out(row, &look_up, answers);
             return Ok(());
@@ -260,7 +264,7 @@ impl Space {
     #[inline(always)]
     fn hand_out(&mut self, row: usize, look_up: &LookUp, answers: &mut Answers) -> bool {
         let entry = &mut self.entries[row & 63];
-        answers.found(look_up.party, look_up.transaction, entry.number, entry.fields());
+        answers.found(look_up.party, look_up.transaction, entry.number, entry.blanks, entry.fields());
         // committed, outside transactions; or private to the look-up's own
         let unmarked = entry.private == look_up.slot;
         if look_up.takes {

@@ -36,9 +36,11 @@ impl Buffer {
         self.places(range).map(Record::read).collect()
     }
 
-    /// The records, a line each.
+    /// The records, a line each; with byte 3, where it is not 0.
     pub fn lines(&self, range: Range<usize>) -> String {
-        self.places(range).map(|bytes| format!("    {}\n", tray::record::Record::read(bytes).line())).collect()
+        let blanks = |byte: u8| if byte == 0 { String::new() } else { format!(", blanks {byte}") };
+        let line = |bytes: &[u8]| format!("    {}{}\n", tray::record::Record::read(bytes).line(), blanks(bytes[3]));
+        self.places(range).map(line).collect()
     }
 }
 

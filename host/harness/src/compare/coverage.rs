@@ -1,5 +1,6 @@
 //! How often each thing that can occur has occurred.
 
+use super::blanks::Blanks;
 use super::hand_outs::{hand_outs, HandOut, FOUNDS};
 use reference::answer::{Kind, Record};
 use reference::frame::{look_up_kind, word, Refusal, LOOK_UPS, NONE};
@@ -11,7 +12,7 @@ use tray::tally::Tally;
 /// Document 02, T-04: "14 is never given out again".
 const NEVER_GIVEN: usize = 14;
 
-const SITUATIONS: [&str; 36] = [
+const SITUATIONS: [&str; 48] = [
     "64 entries stored",
     "8 transactions live",
     "16 look-ups waiting",
@@ -48,6 +49,18 @@ const SITUATIONS: [&str; 36] = [
     "exception or abort, no look-up inside",
     "waiting at the end of a tray",
     "waiting at the end of a history",
+    "written with blanks",
+    "written with blanks, lease 0",
+    "write refused: a blank is not 0",
+    "write refused: a mask above 15",
+    "write refused so, with lease 0",
+    "0 asked of a blank, not found",
+    "0 asked of a blank, waits on",
+    "IfExists, 0 asked of another's blank",
+    "committed with blanks, found in the step",
+    "committed with blanks, found later",
+    "put back with blanks",
+    "put back with blanks, found again",
 ];
 
 #[derive(Default)]
@@ -60,6 +73,8 @@ pub struct Coverage {
     situations: BTreeMap<&'static str, u64>,
     /// At once, and in service.
     founds: [[u64; 2]; FOUNDS.len()],
+    /// Of the tray or history that is compared.
+    blanks: Blanks,
     /// Of all trays and histories, and those waiting at their ends.
     pub sums: Tally,
     pub waiting: usize,
@@ -80,6 +95,7 @@ impl Coverage {
         self.note(situation, waiting);
         self.sums += tally;
         self.waiting += waiting;
+        self.blanks = Blanks::default();
     }
 
     /// A frame has been compared.
@@ -91,6 +107,9 @@ impl Coverage {
         }
         let Some(own) = records.first() else { return };
         self.escape(before, frame, own, records.len());
+        for (situation, times) in self.blanks.step(before, frame, records, after) {
+            self.note(situation, times);
+        }
         if own.is(Kind::Refused) {
             return;
         }

@@ -1,7 +1,8 @@
 //! The founds of a step, each with the entries that were there at its turn.
 
+use super::blanks::asks_0_of_a_blank;
 use reference::answer::{Kind, Record, STEP};
-use reference::frame::{decode, Request, NONE};
+use reference::frame::{decode, Request, Template, NONE};
 use reference::space::{End, Entry, LookUp, Space};
 
 /// An entry handed out, at once or in service.
@@ -18,7 +19,7 @@ type Situation = (&'static str, bool, fn(&HandOut) -> bool);
 
 /// The situations of founds. A transaction's own private entry is available to its look-ups at once, and its owner
 /// writes nothing while waiting: in service there is none.
-pub const FOUNDS: [Situation; 9] = [
+pub const FOUNDS: [Situation; 12] = [
     ("read, of several", true, |it| it.of_several(false, false)),
     ("take, of several", true, |it| it.of_several(true, false)),
     ("readIfExists, of several", true, |it| it.of_several(false, true)),
@@ -28,6 +29,9 @@ pub const FOUNDS: [Situation; 9] = [
     ("an older match is another's private", true, |it| it.passed_over().any(|e| e.private_to != NONE)),
     ("committed, an own private is newer", false, |it| !it.own_private() && it.newer().any(|e| e.private_to != NONE)),
     ("own private, a committed is newer", false, |it| it.own_private() && it.newer().any(|e| e.private_to == NONE)),
+    ("with blanks, by other fields", true, |it| it.has_blanks() && !it.asks_nothing()),
+    ("with blanks, by any", true, |it| it.has_blanks() && it.asks_nothing()),
+    ("an older is blank where 0 is asked", true, |it| it.older().any(|e| asks_0_of_a_blank(&it.look_up, e))),
 ];
 
 impl HandOut {
@@ -45,13 +49,29 @@ impl HandOut {
         self.available().filter(|e| e.number > self.number)
     }
 
+    fn older(&self) -> impl Iterator<Item = &Entry> {
+        self.entries.iter().filter(|e| e.number < self.number)
+    }
+
     /// The matching entries with a lower number.
     fn passed_over(&self) -> impl Iterator<Item = &Entry> {
-        self.entries.iter().filter(|e| e.number < self.number && self.look_up.template.matches(&e.fields))
+        self.older().filter(|e| self.look_up.template.matches(&e.mark))
+    }
+
+    fn handed_out(&self) -> impl Iterator<Item = &Entry> {
+        self.entries.iter().filter(|e| e.number == self.number)
     }
 
     fn own_private(&self) -> bool {
-        self.entries.iter().any(|e| e.number == self.number && e.private_to != NONE)
+        self.handed_out().any(|e| e.private_to != NONE)
+    }
+
+    fn asks_nothing(&self) -> bool {
+        self.look_up.template == Template::new(0, [0; 4])
+    }
+
+    fn has_blanks(&self) -> bool {
+        self.handed_out().any(|e| e.mark.blanks != 0)
     }
 }
 
@@ -75,7 +95,7 @@ fn hand_out(before: &Space, frame: &[u8], served: bool, found: &Record) -> Optio
 }
 
 /// The look-up that a frame asks for; its deadline does not matter here.
-fn look_up_of(frame: &[u8]) -> Option<LookUp> {
+pub fn look_up_of(frame: &[u8]) -> Option<LookUp> {
     match decode(frame) {
         Ok(Request::LookUp { party, transaction, kind, template, .. }) => {
             Some(LookUp { party, transaction, kind, template, deadline: End::Never })

@@ -1,6 +1,7 @@
 //! A space and the reference, led through the same histories and trays; everything that can be seen is compared, byte
 //! for byte. The reference is told nothing of the space's answers.
 
+mod blanks;
 mod buffer;
 mod coverage;
 mod discrepancy;

@@ -2,16 +2,18 @@
 
 use super::lives::{entries_by_slot, EntryLife, Gone, Hold, Lives, Mark, Moment};
 use super::metrics::width;
-use crate::frame::{duration_text, end_text, plain_fields, template_slots, template_text, Class, Part, Request};
+use crate::frame::{
+    duration_text, end_text, plain_fields, short_fields, template_slots, template_text, Class, Part, Request,
+};
 use crate::history::History;
 use crate::oracle::{Matcher, Sought, Standing};
 use crate::prose::withdraws;
 use crate::record::{
     kind_of, refusal_label, ABORTED, COMMITTED, CREATED, EXCEPTION, FOUND, NOTHING, REFUSED, WAITING, WRITTEN,
 };
-use crate::words::{End, Tables, Template};
+use crate::words::{End, Tables, Template, Values};
 
-/// A template longer than this is shown by slots.
+/// A template longer than this is shown by slots; in fields longer than this a short sign stands for a blank.
 const LONG: f64 = 104.0;
 
 /// The lines of a mark's labels; below, the first is bold.
@@ -31,6 +33,14 @@ fn template_label(template: &Template) -> String {
     }
 }
 
+fn fields_label(values: &Values) -> String {
+    let text = plain_fields(values);
+    match width(&text) > LONG {
+        true => short_fields(values),
+        false => text,
+    }
+}
+
 /// The request: operation, then its template, fields, lease or transaction.
 fn request_label(request: &Request, mark: &Mark, clock: u32) -> Vec<String> {
     let name = request.operation.name;
@@ -39,7 +49,7 @@ fn request_label(request: &Request, mark: &Mark, clock: u32) -> Vec<String> {
         End::Never => "lease forever".to_string(),
     };
     let second = |part: &Part| match part {
-        Part::Fields => Some(plain_fields(&request.fields)),
+        Part::Fields => Some(fields_label(&request.values())),
         Part::Template => Some(template_label(&request.template())),
         Part::Lease => Some(lease()),
         Part::Transaction => Some(format!("T{}", request.transaction)),
@@ -68,7 +78,7 @@ fn hold_label(standing: &Standing) -> Option<String> {
 fn former(lives: &Lives, sought: &Sought, at: Moment, matcher: &mut Matcher) -> String {
     let mut last: Option<(Moment, String)> = None;
     for life in lives.entries.iter().filter(|life| life.begin <= at) {
-        if !matcher.matches(&sought.template, &life.fields) {
+        if !matcher.matches(&sought.template, &life.values) {
             continue;
         }
         let told = match life.end {

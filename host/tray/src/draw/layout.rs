@@ -3,7 +3,7 @@
 use super::labels::{labels, Labels};
 use super::lives::{EntryLife, Gone, Lives, Mark, Moment, TransactionLife};
 use super::metrics::{bold_width, width, AHEAD, COLUMN, GUTTER, MARK, PAD, SLOT};
-use crate::frame::plain_fields;
+use crate::frame::short_fields;
 use crate::history::History;
 use crate::oracle::Matcher;
 use crate::prose::lease_words;
@@ -121,7 +121,7 @@ fn quiet_tick(history: &History, lives: &Lives, frame: usize) -> bool {
 
 /// Whether two entries' lives differ in their beginnings alone.
 fn alike(one: &EntryLife, other: &EntryLife) -> bool {
-    one.fields == other.fields
+    one.values == other.values
         && one.lease == other.lease
         && one.end == other.end
         && one.segments.len() == other.segments.len()
@@ -174,7 +174,7 @@ impl Bar {
     }
 
     fn name_width(&self) -> f64 {
-        let told = format!("{} {}", plain_fields(&self.life.fields), lease_words(self.life.lease));
+        let told = format!("{} {}", short_fields(&self.life.values), lease_words(self.life.lease));
         bold_width(&self.name()) + 6.0 + width(&told) + 8.0
     }
 

@@ -5,6 +5,10 @@ use super::hatches;
 use super::lives::Hold;
 use super::metrics::{hue, COMMITTED_FILL, GREY, INK};
 use super::svg::{line, path, rect, text};
+use crate::frame::short_fields;
+use crate::words::Values;
+
+const BLANK_PLACE: Values = Values { fields: [7, 1, 40, 0], blanks: 8 };
 
 fn sign(width: u32, height: u32, inner: &str) -> String {
     format!("<svg xmlns=\"http://www.w3.org/2000/svg\" class=\"hist\" width=\"{width}\" height=\"{height}\" viewBox=\"0 0 {width} {height}\" aria-hidden=\"true\">{inner}</svg>")
@@ -38,6 +42,8 @@ fn ink(width: &str) -> String {
 }
 
 fn entries() -> String {
+    let fields = short_fields(&BLANK_PLACE);
+    let name = format!("<text x=\"1\" y=\"16\"><tspan class=\"b\">E1</tspan><tspan dx=\"6\">{fields}</tspan></text>");
     let expired = line(6.0, 2.0, 6.0, 26.0, &ink("2.4")) + &glyphs::hourglass(17.0, 14.0, INK, INK);
     let taken =
         rect(1.0, 4.0, 12.0, 20.0, &format!("fill=\"{COMMITTED_FILL}\"")) + &line(13.0, 3.0, 13.0, 25.0, &ink("2.4"));
@@ -50,6 +56,7 @@ fn entries() -> String {
         + &text(42.0, 16.0, "dim", "", "clock 9");
     [
         head("Entries, in the space"),
+        item(&sign(72, 22, &name), "its number and fields; _ stands for a blank"),
         item(&bar(&Hold::Committed), "committed: all can find it"),
         item(&bar(&Hold::Read(vec![])), "with a read hold: all can read it, others cannot take it"),
         item(&bar(&Hold::Taken(1)), "with a take hold: nobody finds it"),

@@ -2,12 +2,12 @@
 //!
 //! All of it is read off the tables before and after each frame and its records; nothing is decided here.
 
-use crate::frame::{Class, Request};
+use crate::frame::Class;
 use crate::history::{History, Step};
 use crate::record::{
     Record, ABORTED, COMMITTED, CREATED, EXCEPTION, FOUND, NOTHING, REFUSED, TICKED, WAITING, WRITTEN,
 };
-use crate::words::{End, Entry, Fields, LookUp, Tables, FOREVER};
+use crate::words::{End, Entry, LookUp, Tables, Values, FOREVER};
 
 /// A frame, counted from 0, and a slot in it: slot 0 is the frame's own record, its exceptions and what expires; each
 /// later found or nothing of the step is one slot further.
@@ -36,7 +36,7 @@ pub enum Gone {
 #[derive(Clone, PartialEq, Eq, Debug)]
 pub struct EntryLife {
     pub number: u32,
-    pub fields: Fields,
+    pub values: Values,
     pub lease: End,
     /// Each hold from this moment on; none of an entry with lease 0.
     pub segments: Vec<(Moment, Hold)>,
@@ -152,12 +152,13 @@ fn after_slot_0(history: &History, frame: usize) -> Vec<Entry> {
 /// The entry that a step writes, as it was when written.
 fn written(step: &Step, before: &Tables, number: u32) -> Option<Entry> {
     let record = step.records.first().filter(|record| record.kind == WRITTEN && record.entry == number)?;
-    let Request { fields, duration, .. } = step.request()?;
-    let end = match duration {
+    let request = step.request()?;
+    let end = match request.duration {
         FOREVER => End::Never,
         lease => End::At(before.clock.saturating_add(lease)),
     };
-    Some(Entry { number, fields, end, private_to: record.transaction, taken_by: 0, read_by: Vec::new() })
+    let Values { fields, blanks } = request.values();
+    Some(Entry { number, fields, blanks, end, private_to: record.transaction, taken_by: 0, read_by: Vec::new() })
 }
 
 /// A found of a later slot, carried over to the entries.
@@ -234,9 +235,10 @@ impl Lives {
         let step = &history.steps[frame];
         let own = step.records.first().filter(|record| record.kind == WRITTEN);
         let entry = own.and_then(|own| written(step, history.before(frame), own.entry));
-        if let Some(Entry { number, fields, end, .. }) = entry {
+        if let Some(entry) = entry {
+            let (number, values, lease) = (entry.number, entry.values(), entry.end);
             let begin = Moment { frame, slot: 0 };
-            self.entries.push(EntryLife { number, fields, lease: end, segments: vec![], begin, end: None });
+            self.entries.push(EntryLife { number, values, lease, segments: vec![], begin, end: None });
         }
     }
 

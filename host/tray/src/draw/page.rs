@@ -56,7 +56,7 @@ fn in_short<'a>(rows: impl Iterator<Item = &'a Row>) -> Vec<String> {
 
 fn entry_row(entry: &Entry, tables: &Tables) -> Row {
     let holds = holds_words(entry, tables);
-    let full = format!("{}, {holds}, {}", plain_fields(&entry.fields), lease_words(entry.end));
+    let full = format!("{}, {holds}, {}", plain_fields(&entry.values()), lease_words(entry.end));
     Row { of: "E", number: entry.number, short: holds, full }
 }
 

@@ -6,7 +6,7 @@ use super::layout::{clock_label, Bar, Layout, Placed, System};
 use super::lives::{Gone, Hold, Moment, TransactionLife, Wait};
 use super::metrics::*;
 use super::svg::{attributes, group, line, n, path, rect, text};
-use crate::frame::{named_fields, operation_of, plain_fields, template_text};
+use crate::frame::{named_fields, operation_of, short_fields, template_text};
 use crate::history::History;
 use crate::prose::{lease_words, told};
 use crate::record::{ABORTED, COMMITTED, EXCEPTION, FOUND, NOTHING, REFUSED, WRITTEN};
@@ -495,7 +495,7 @@ impl<'a> Painter<'a> {
     fn entry_title(&self, bar: &Bar) -> String {
         let ended =
             bar.life.end.map_or(String::new(), |(at, _)| format!("; {} in frame {}", bar.end_word(), at.frame + 1));
-        format!("{}: {}; {}{ended}", bar.name(), named_fields(&bar.life.fields), lease_words(bar.life.lease))
+        format!("{}: {}; {}{ended}", bar.name(), named_fields(&bar.life.values), lease_words(bar.life.lease))
     }
 
     fn segments(&mut self, bar: &Bar, y: f64, height: f64) {
@@ -615,7 +615,7 @@ impl<'a> Painter<'a> {
             return;
         }
         let left = if begins { self.x(bar.life.begin) } else { GUTTER + 2.0 };
-        let fields = plain_fields(&bar.life.fields);
+        let fields = short_fields(&bar.life.values);
         if self.layout.compact {
             let told = format!("{} {fields}", bar.name());
             self.add(TEXT, &text(left + 4.0, y + height - 3.0, "h", "style=\"font-size:9px\"", &told));

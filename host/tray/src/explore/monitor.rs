@@ -9,7 +9,7 @@ use crate::oracle::{Matcher, Sought, Standing};
 use crate::panes::Script;
 use crate::record::{ABORTED, COMMITTED, EXCEPTION, FOUND, NOTHING};
 use crate::words::{
-    tables, Fields, Template, Words, ENTRIES, ENTRY_END, ENTRY_FIELDS, ENTRY_NUMBER, ENTRY_PRIVATE_TO, ENTRY_READERS,
+    entry_readers, entry_values, tables, Template, Words, ENTRIES, ENTRY_END, ENTRY_NUMBER, ENTRY_PRIVATE_TO,
     ENTRY_TAKEN_BY, TRANSACTIONS, TRANSACTION_NUMBER, TRANSACTION_OWNER, TRANSACTION_SLOT, WORD_CLOCK,
 };
 
@@ -21,7 +21,7 @@ fn entry_row(words: &Words, number: u32) -> Option<&[u32]> {
 fn holders(words: &Words, entry: &[u32]) -> u32 {
     let holds = |row: &&[u32]| {
         entry[ENTRY_TAKEN_BY] == row[TRANSACTION_NUMBER]
-            || entry[ENTRY_READERS] >> (row[TRANSACTION_SLOT] % 32) & 1 == 1
+            || entry_readers(entry) >> (row[TRANSACTION_SLOT] % 32) & 1 == 1
     };
     TRANSACTIONS.rows(words).filter(holds).fold(0, |mask, row| mask | 1 << (row[TRANSACTION_OWNER] % 32))
 }
@@ -40,8 +40,7 @@ fn remember(memory: &mut Vec<u32>, value: u32) {
 impl Monitors {
     pub fn count(&mut self, words: &Words, committed: bool, template: &Template) -> usize {
         let counted = ENTRIES.rows(words).filter(|row| !committed || row[ENTRY_PRIVATE_TO] == 0);
-        let fields = counted.map(|row| -> Fields { std::array::from_fn(|i| row[ENTRY_FIELDS + i]) });
-        fields.filter(|fields| self.matcher.matches(template, fields)).count()
+        counted.filter(|row| self.matcher.matches(template, &entry_values(row))).count()
     }
 
     /// Whether what is claimed where nothing more can happen, or of every situation, fails here.

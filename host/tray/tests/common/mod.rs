@@ -59,7 +59,8 @@ impl Random {
     }
 }
 
-/// A line of a history in which much happens: few kinds, short leases, and mostly the transactions' own parties.
+/// A line of a history in which much happens: few kinds, some blanks, short leases, and mostly the transactions' own
+/// parties.
 fn random_line(random: &mut Random, created: &mut Vec<u64>) -> String {
     let mut party = 1 + random.below(6);
     let mut inside = String::new();
@@ -68,16 +69,17 @@ fn random_line(random: &mut Random, created: &mut Vec<u64>) -> String {
         party = created[created.len() - 1 - back];
         inside = format!(" in {}", created.len() - back);
     }
-    let (kind, side) = (1 + random.below(2), random.below(3));
+    let kind = 1 + random.below(2);
     match random.below(14) {
         0..=3 => {
             let lease = random.pick(&["0", "1", "2", "3", "5", "forever", "forever"]);
-            format!("party {party} write {kind} {side} 4 9 lease {lease}{inside}")
+            let rest = random.pick(&["0 4 9", "1 4 9", "2 4 0", "1 4 blank", "2 4 blank", "blank blank blank"]);
+            format!("party {party} write {kind} {rest} lease {lease}{inside}")
         }
         4..=8 => {
             let look_up = random.pick(&["read", "take", "readIfExists", "takeIfExists"]);
             let timeout = random.pick(&["0", "0", "1", "2", "4", "forever"]);
-            let template = random.pick(&["any", "kind 1", "kind 2", "kind 1 side 1", "side 2"]);
+            let template = random.pick(&["any", "kind 1", "kind 2", "kind 1 side 1", "side 2", "place 0"]);
             format!("party {party} {look_up} {template} timeout {timeout}{inside}")
         }
         9..=10 => {

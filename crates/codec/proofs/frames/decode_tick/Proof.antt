@@ -16,17 +16,19 @@ returns c =
     (λ q. c .if1 .taken (q ∙ sym (c .before .length-of .ensures))))) (λ z. omega arith)
 
 returns-2 : tie.Need-returns-2
+unfolding layoutOf
 returns-2 c =
     let n = c .before .before .before in
     let e = n .before .before .before .pre in
-    refused _ _ (c .before .head-refusal .ensures ∙ sym (plain-head _ opTick (sym e, omega arith, omega arith) refl refl
+    refused _ _ (c .before .head-refusal .ensures ∙ sym (plain-head _ opTick (sym e, omega arith, omega arith) refl refl refl
     (n .if1 .left ∙ n .before .length-of .ensures))) (c .if2 .taken)
 
 returns-3 : tie.Need-returns-3
+unfolding layoutOf
 returns-3 c =
     let n = c .before .before .before in
     let e = n .before .before .before .pre in
-    tick-asks _ (plain-head _ opTick (sym e, omega arith, omega arith) refl refl
+    tick-asks _ (plain-head _ opTick (sym e, omega arith, omega arith) refl refl refl
     (n .if1 .left ∙ n .before .length-of .ensures) ∙ sym (c .before .head-refusal .ensures) ∙ c .if2 .left) e
 
 pub decode-tick-spec : {M : Type 1} → statement M

@@ -4,7 +4,7 @@ use native.Mathlib.Omega.{arith}
 use borrow.Author.Needs.{needs}
 use Rattle.rules.specs.Numbers.{opWrite}
 use Rattle.rules.specs.Frame.{frameLength, layoutOf}
-use Rattle.codec.proofs.FormLaws.{other-length, plain-head}
+use Rattle.codec.proofs.FormLaws.{other-length, write-head}
 use Rattle.codec.proofs.RequestLaws.{refused, write-asks}
 use Rattle.codec.proofs.frames.decode_write.Statement.{statement}
 use Rattle.codec.proofs.frames.decode_write.Tie as tie
@@ -17,20 +17,24 @@ returns c =
 
 returns-2 : tie.Need-returns-2
 returns-2 c =
-    let n = c .before .before .before in
+    let n = c .before .before .before .before .before in
     let e = n .before .before .before .pre in
     refused _ _ (c .before .head-refusal .ensures
-    ∙ sym (plain-head _ opWrite (sym e, omega arith, omega arith) refl refl
-    (n .if1 .left ∙ n .before .length-of .ensures))) (c .if2 .taken)
+    ∙ rw (c .before .before .is-bad-blanks .ensures, c .before .before .before .whole-fields .ensures)
+    (sym (write-head _ opWrite (sym e, omega arith, omega arith) refl
+    (n .if1 .left ∙ n .before .length-of .ensures)))) (c .if2 .taken)
 
 returns-3 : tie.Need-returns-3
 returns-3 c =
-    let txn = c .before .before .before in
-    let n = txn .before .before .before .before in
+    let txn = c .before .before in
+    let head = txn .before .before in
+    let fields = head .before .before .whole-fields .ensures in
+    let n = head .before .before .before .before in
     let e = n .before .before .before .pre in
-    rw (txn .whole-number .ensures, c .whole-number2 .ensures, c .before .before .whole-fields .ensures)
-    (write-asks _ (plain-head _ opWrite (sym e, omega arith, omega arith) refl refl
-    (n .if1 .left ∙ n .before .length-of .ensures) ∙ sym (txn .before .before .head-refusal .ensures)
+    rw (txn .whole-number .ensures, c .whole-number2 .ensures, fields)
+    (write-asks _ (write-head _ opWrite (sym e, omega arith, omega arith) refl
+    (n .if1 .left ∙ n .before .length-of .ensures)
+    ∙ sym (rw (head .before .is-bad-blanks .ensures, fields) at (head .head-refusal .ensures))
     ∙ txn .before .if2 .left) e)
 
 pub decode-write-spec : {M : Type 1} → statement M
@@ -42,8 +46,9 @@ decode-write-spec =
     returns
     (λ c. search needs)
     (λ c κs. search needs)
-    returns-2
     (λ c κs. search needs)
+    (λ c κs. search needs)
+    returns-2
     (λ c κs. search needs)
     (λ c. search needs)
     (λ c κs. search needs)

@@ -14,20 +14,24 @@ unfolding recordAt
 returns-2 c =
     let party = c .before in
     let kind = party .before in
-    let fields = kind .before in
-    let entry = fields .before in
+    let fields = kind .before .before in
+    let blanks = fields .before in
+    let entry = blanks .before in
     rw (
-      kind .byte-at .ensures,
-      party .byte-at2 .ensures,
-      c .byte-at3 .ensures,
+      kind .byte-at2 .ensures,
+      party .byte-at3 .ensures,
+      c .byte-at4 .ensures,
       entry .before .number-at .ensures,
       entry .number-at2 .ensures,
+      kind .before .mark-of .ensures,
       fields .fields-at .ensures,
+      blanks .byte-at .ensures,
     )
 
 pub record-at-spec : {M : Type 1} → statement M
 record-at-spec =
     tie.close
-    (tie.spec (λ c κs. search needs) returns (λ c. search needs) (λ c κs. search needs) (λ c. search needs)
-    (λ c κs. search needs) (λ c. search needs) (λ c κs. search needs) (λ c κs. search needs)
-    (λ c. search needs) (λ c κs. search needs) (λ c. search needs) (λ c κs. search needs) returns-2)
+    (tie.spec (λ c κs. search needs) returns (λ c. search needs) (λ c κs. search needs) (λ c. search needs) (λ c κs. search needs)
+    (λ c. search needs) (λ c κs. search needs) (λ c. search needs) (λ c κs. search needs)
+    (λ c κs. search needs) (λ c κs. search needs) (λ c. search needs) (λ c κs. search needs) (λ c. search needs)
+    (λ c κs. search needs) returns-2)

@@ -1,39 +1,50 @@
 -- `holds::holds::fields_match` meets its contract. Assumes nothing.
 use borrow.Author.Needs.{needs}
-use mathlib.Core.Path.{sym, _∙_}
+use mathlib.Core.Bool.{_&&_}
+use mathlib.Core.Path.{_≡_, sym, _∙_}
 use Rattle.rules.specs.Template.{matches}
+use Rattle.holds.proofs.MatchLaws.{match-is}
 use Rattle.holds.proofs.holds.fields_match.Statement.{statement}
 use Rattle.holds.proofs.holds.fields_match.Tie as tie
 
 returns : tie.Need-returns
-unfolding matches
 returns c =
-    let s = c .before .before .before in
-    let kind = sym (s .before .before .before .field-agrees .ensures) ∙ c .before .before .if1 .taken in
-    let side = sym (s .before .before .field-agrees2 .ensures) ∙ c .before .if2 .taken in
-    rw (kind, side, sym (s .before .field-agrees3 .ensures) ∙ c .if3 .taken) (s .field-agrees4 .ensures)
+    let a = c .before .before .args in
+    rw (match-is (a .mask) (a .want) (a .have), sym (c .before .is-blank-asked .ensures) ∙ c .if1 .taken)
+
+-- no blank is asked for: the four tests tell
+tested : (s : tie.After-field-agrees4)
+    → let b = s .before .before .before in let a = b .before .before .before .args in
+    matches (a .mask) (a .want) (a .have)
+    ≡ (b .field-agrees .result && s .before .before .field-agrees2 .result && s .before .field-agrees3 .result
+    && s .field-agrees4 .result)
+tested s =
+    let b = s .before .before .before in
+    let a = b .before .before .before .args in
+    rw (
+      match-is (a .mask) (a .want) (a .have),
+      sym (b .before .before .is-blank-asked .ensures) ∙ b .before .if1 .left,
+      sym (b .field-agrees .ensures),
+      sym (s .before .before .field-agrees2 .ensures),
+      sym (s .before .field-agrees3 .ensures),
+      sym (s .field-agrees4 .ensures),
+    )
 
 returns-2 : tie.Need-returns-2
-unfolding matches
 returns-2 c =
-    let s = c .before .before .before in
-    let kind = sym (s .before .before .before .field-agrees .ensures) ∙ c .before .before .if1 .taken in
-    let side = sym (s .before .before .field-agrees2 .ensures) ∙ c .before .if2 .taken in
-    rw (kind, side, sym (s .before .field-agrees3 .ensures) ∙ c .if3 .left)
+    rw (tested (c .before .before .before), c .before .before .if2 .taken, c .before .if3 .taken, c .if4 .taken)
 
 returns-3 : tie.Need-returns-3
-unfolding matches
-returns-3 c =
-    let s = c .before .before in
-    let kind = sym (s .before .before .before .field-agrees .ensures) ∙ c .before .if1 .taken in
-    rw (kind, sym (s .before .before .field-agrees2 .ensures) ∙ c .if2 .left)
+returns-3 c = rw (tested (c .before .before .before), c .before .before .if2 .taken, c .before .if3 .taken, c .if4 .left)
 
 returns-4 : tie.Need-returns-4
-unfolding matches
-returns-4 c = rw (sym (c .before .before .before .before .field-agrees .ensures) ∙ c .if1 .left)
+returns-4 c = rw (tested (c .before .before), c .before .if2 .taken, c .if3 .left)
+
+returns-5 : tie.Need-returns-5
+returns-5 c = rw (tested (c .before), c .if2 .left)
 
 pub fields-match-spec : {M : Type 1} → statement M
 fields-match-spec =
     tie.close
-    (tie.spec (λ c κs. search needs) (λ c κs. search needs) (λ c κs. search needs) (λ c κs. search needs)
-    returns returns-2 returns-3 returns-4)
+    (tie.spec (λ c κs. search needs) returns (λ c κs. search needs) (λ c κs. search needs) (λ c κs. search needs)
+    (λ c κs. search needs) returns-2 returns-3 returns-4 returns-5)

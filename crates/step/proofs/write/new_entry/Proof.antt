@@ -10,8 +10,13 @@ end-of-requires c κs = rw (c .clock .ensures) (c .before .pre)
 returns : tie.Need-returns
 unfolding newEntry
 returns c =
-    let ended = c .before .before .before in
-    (rw (c .next-entry .ensures, ended .end-of .ensures .0, ended .before .clock .ensures), ended .end-of .ensures .1)
+    let mark = c .before .before in
+    let ended = mark .before in (
+      rw (c .next-entry .ensures, mark .mark-of .ensures, ended .end-of .ensures .0, ended .before .clock .ensures),
+      ended .end-of .ensures .1,
+    )
 
 pub new-entry-spec : {M : Type 1} → statement M
-new-entry-spec = tie.close (tie.spec (λ c κs. search needs) end-of-requires (λ c κs. search needs) returns)
+new-entry-spec =
+    tie.close
+    (tie.spec (λ c κs. search needs) end-of-requires (λ c κs. search needs) (λ c κs. search needs) returns)

@@ -21,7 +21,9 @@ returns c =
     view-entries _ _
     (appended entryTable (s .args .space .now) (n .result) (entryWords (s .args .e)) refl (omega (arith, room s))
     (omega (arith, n .ensures .1))
-    (n .ensures .0) (entry-back (s .args .e) (record { readers-fit = omega (arith, s .good); end-fits = s .pre .1 }))
+    (n .ensures .0)
+    (entry-back (s .args .e)
+    (record { readers-fit = omega (arith, s .good); blanks-fit = omega (arith, s .good); end-fits = s .pre .1 }))
     (c .before .before .put-entry .ensures) (c .set-entry-count .ensures))
 
 pub add-entry-spec : {M : Type 1} → statement M
