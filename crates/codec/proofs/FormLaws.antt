@@ -1,25 +1,24 @@
 -- Bytes past the end; the form of a frame, operation by operation.
-use Prim.Native.Nat.{ℕ, _+_, _-_, _≤_, _<_}
-use mathlib.Core.Bool.{Bool, true, false, cond, not, _||_, or-false, or-true, or-assoc, and-false}
+use Prim.Native.Nat.{ℕ, _+_, _-_, _≤_}
+use mathlib.Core.Bool.{Bool, true, false, cond, not, _||_, or-false, or-true, or-assoc}
 use mathlib.Core.Path.{_≡_, refl, sym, ap, ap₂, _∙_}
-use mathlib.Core.Logic.{_⊎_, inl, inr, ⊎-elim}
+use mathlib.Core.Logic.{_⊎_, ⊎-elim}
 use mathlib.Core.List.{List, [], _∷_, _++_, append-nil}
 use native.Mathlib.Omega.{arith}
 use lib.Dec.{eqb, ltb}
 use lib.ListN.{length}
-use borrow.Author.Tests.{le-leb, lt-leb, lt-ltb, eq-eqb, ne-eqb, eqb-true, eqb-false}
-use Rattle.rules.specs.Numbers.{opWrite, opRead, opTakeIfExists, opCreate, opCommit, opAbort, opTick}
-use Rattle.rules.specs.Numbers.{lengthRefused, formRefused, partyRefused}
-use Rattle.rules.specs.Frame.{Frame, frameLength, decode, byteAt, numberAt, fieldsAt, isOperation, isLookUp, isCreate}
-use Rattle.rules.specs.Frame.{Layout, layouts, layoutOf, hasTemplate, hasBlanks, namesNoTxn}
+use borrow.Author.Tests.{le-leb, lt-ltb, eq-eqb, ne-eqb, eqb-true, eqb-false}
+use Rattle.rules.specs.Numbers.{opWrite, opRead, opTakeIfExists, opCreate, opCommit, opAbort, opTick, lengthRefused}
+use Rattle.rules.specs.Numbers.{formRefused, partyRefused}
+use Rattle.rules.specs.Frame.{Frame, frameLength, decode, byteAt, numberAt, fieldsAt, isOperation, Layout, layouts}
+use Rattle.rules.specs.Frame.{layoutOf, hasTemplate, hasBlanks, namesNoTxn}
 use Rattle.rules.specs.Records.{noFields, plain, recordAt}
 use Rattle.rules.specs.Refusals.{noOperation, wrongLength, badTemplate, badBlanks, malformed, wrongParty}
 use Rattle.rules.specs.Requests.{formRefusal}
-use Rattle.codec.specs.Head.{noParty, headRefusal}
 use Rattle.rules.proofs.ReadBack.{number-behind, fields-behind, record-behind}
 use Rattle.rules.proofs.BoolLaws.{bool-cases}
 use Rattle.rules.proofs.LayoutLaws.{lookUp-layout, write-form}
-use Rattle.rules.proofs.OperationLaws.{template-is, outside-is}
+use Rattle.codec.specs.Head.{noParty, headRefusal}
 
 -- ---- past the end all is 0: what reads from a place on reads of no bytes there
 past : {A : Type 0} (read : List ℕ → ℕ → A)

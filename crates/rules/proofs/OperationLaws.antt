@@ -8,8 +8,7 @@ use lib.Dec.{ltb}
 use lib.ListN.{length}
 use Rattle.rules.specs.Numbers.{opWrite, opRead, opTake, opReadIfExists, opTakeIfExists, opCreate, opCommit}
 use Rattle.rules.specs.Numbers.{opAbort, opTick}
-use Rattle.rules.specs.Frame.{layouts, layoutOf, frameLength, hasTemplate, namesNoTxn}
-use Rattle.rules.specs.Frame.{isOperation, isLookUp, isCreate, lookUpOp}
+use Rattle.rules.specs.Frame.{layouts, layoutOf, frameLength, isOperation, lookUpOp}
 use Rattle.rules.proofs.BoolLaws.{and-left, and-right}
 
 -- what holds of every operation
@@ -33,17 +32,6 @@ op-cases P op is p1 p2 p3 p4 p5 p6 p7 p8 p9 =
     go (suc (suc (suc (suc (suc (suc (suc (suc zero)))))))) l h = p8
     go (suc (suc (suc (suc (suc (suc (suc (suc (suc zero))))))))) l h = p9
     go (suc (suc (suc (suc (suc (suc (suc (suc (suc (suc n)))))))))) l h = absurd (omega arith)
-
-module _ (op : ℕ) (is : isOperation op ≡ true) where
-  -- look-ups alone have a template
-  pub template-is : hasTemplate op ≡ isLookUp op
-  unfolding layoutOf
-  template-is = op-cases (λ n. hasTemplate n ≡ isLookUp n) op is refl refl refl refl refl refl refl refl refl
-
-  -- create alone names no transaction
-  pub outside-is : namesNoTxn op ≡ isCreate op
-  unfolding layoutOf
-  outside-is = op-cases (λ n. namesNoTxn n ≡ isCreate n) op is refl refl refl refl refl refl refl refl refl
 
 -- a frame ends behind its first four bytes, its transaction, its lease or its fields
 pub length-cases : (P : ℕ → Type 0) (op : ℕ) → isOperation op ≡ true → P 4 → P 8 → P 12 → P 28 → P (frameLength op)

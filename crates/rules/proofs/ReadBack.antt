@@ -11,9 +11,8 @@ use Rattle.rules.specs.declared.Fields.{Fields}
 use Rattle.rules.specs.declared.Record.{Record}
 use Rattle.rules.specs.declared.Request.{Request}
 use Rattle.rules.specs.declared.Request.the-variants.{Write, Find, Create, Commit, Abort, Tick}
-use Rattle.rules.specs.Template.{bare}
-use Rattle.rules.specs.Frame.{Frame, numberAt, fieldsAt, fourBytes, layoutOf, frameLength}
-use Rattle.rules.specs.Frame.{decode, frameBytes, isOperation}
+use Rattle.rules.specs.Frame.{Frame, numberAt, fieldsAt, fourBytes, layoutOf, frameLength, decode, frameBytes}
+use Rattle.rules.specs.Frame.{isOperation}
 use Rattle.rules.specs.Numbers.{recordSize}
 use Rattle.rules.specs.Records.{recordBytes, recordAt, answerBytes}
 use Rattle.rules.specs.Requests.{frameOf}

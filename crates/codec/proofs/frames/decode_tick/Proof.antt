@@ -20,7 +20,8 @@ unfolding layoutOf
 returns-2 c =
     let n = c .before .before .before in
     let e = n .before .before .before .pre in
-    refused _ _ (c .before .head-refusal .ensures ∙ sym (plain-head _ opTick (sym e, omega arith, omega arith) refl refl refl
+    refused _ _ (c .before .head-refusal .ensures
+    ∙ sym (plain-head _ opTick (sym e, omega arith, omega arith) refl refl refl
     (n .if1 .left ∙ n .before .length-of .ensures))) (c .if2 .taken)
 
 returns-3 : tie.Need-returns-3

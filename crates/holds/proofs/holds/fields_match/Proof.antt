@@ -35,7 +35,8 @@ returns-2 c =
     rw (tested (c .before .before .before), c .before .before .if2 .taken, c .before .if3 .taken, c .if4 .taken)
 
 returns-3 : tie.Need-returns-3
-returns-3 c = rw (tested (c .before .before .before), c .before .before .if2 .taken, c .before .if3 .taken, c .if4 .left)
+returns-3 c =
+    rw (tested (c .before .before .before), c .before .before .if2 .taken, c .before .if3 .taken, c .if4 .left)
 
 returns-4 : tie.Need-returns-4
 returns-4 c = rw (tested (c .before .before), c .before .if2 .taken, c .if3 .left)
