@@ -156,7 +156,10 @@ pub fn record_at(bytes: &[u8], at: usize) -> Record
     }
     let txn = TxnId(number_at(bytes, at + TXN_AT));
     let entry = EntryId(number_at(bytes, at + ENTRY_AT));
-    let fields = mark_of(byte_at(bytes, at + BLANKS_AT), fields_at(bytes, at + FIELDS_AT));
+    let fields = mark_of(
+        byte_at(bytes, at + BLANKS_AT),
+        fields_at(bytes, at + FIELDS_AT),
+    );
     Record {
         kind: byte_at(bytes, at),
         party: byte_at(bytes, at + PARTY_AT),

@@ -125,8 +125,7 @@ narrow is =
       consistent-events (step-events m (i .frame) (i .area) (h .0 .ordered .txns)) (h .0),
       narrow-step i
           m h,
-    ))
-    (
+    )) (
       consistent-empty,
       (
         (λ t i. absurd (List·Memᴰ·not-nil i)),
