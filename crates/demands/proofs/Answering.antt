@@ -123,8 +123,7 @@ narrow is =
     made-keep (λ m. Consistent m × Narrow m)
     (λ i m h. (
       consistent-events (step-events m (i .frame) (i .area) (h .0 .ordered .txns)) (h .0),
-      narrow-step i
-          m h,
+      narrow-step i m h,
     )) (
       consistent-empty,
       (

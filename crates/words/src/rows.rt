@@ -439,7 +439,6 @@ pub fn wait_at(space: &Words, i: usize) -> LookUp
     }
 }
 
-// The template of the look-up in row i.
 // The end of the time of the look-up in row i, as a word: FOREVER is later than every tick.
 pub fn wait_end(space: &Words, i: usize) -> u32
     requires { ⌜ i < maxWaits ⌝ }
@@ -448,6 +447,7 @@ pub fn wait_end(space: &Words, i: usize) -> u32
     space[WAITS_AT + WAIT_WIDTH * i + 8]
 }
 
+// The template of the look-up in row i.
 pub fn wait_mask(space: &Words, i: usize) -> u8
     requires { ⌜ i < maxWaits ⌝ }
     ensures { λ r. ⌜ r ≡ waitRow (now (space .entry)) i .mask ⌝ }
