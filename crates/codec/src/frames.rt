@@ -4,7 +4,7 @@ ghost use Prim.Native.Nat.{_≤_};
 ghost use lib.ListN.{length};
 ghost use Rattle.rules.specs.Numbers.{opWrite, opRead, opTakeIfExists, opCreate, opCommit, opAbort, opTick};
 ghost use Rattle.rules.specs.Frame.{byteAt, frameLength};
-ghost use Rattle.rules.specs.Refusals.{badTemplate, badBlanks};
+ghost use Rattle.rules.specs.Refusals.{someFilled, badTemplate, badBlanks};
 ghost use Rattle.rules.specs.Requests.{Decodes};
 ghost use Rattle.codec.specs.Head.{noParty, headRefusal};
 use crate::bytes::byte_at;
@@ -45,26 +45,41 @@ pub(crate) fn party_of(frame: &[u8]) -> u8
     byte_at(frame, PARTY_AT)
 }
 
+// Whether a field is not 0 of those that must be.
+fn is_some_filled(kind: bool, side: bool, image: bool, place: bool, fields: Fields) -> bool
+    ensures { λ r. ⌜ r ≡ someFilled kind side image place fields ⌝ }
+{
+    let a = kind & (fields.kind != 0);
+    let b = side & (fields.side != 0);
+    let c = image & (fields.image != 0);
+    let d = place & (fields.place != 0);
+    a | b | c | d
+}
+
 // Whether a template's field is not 0 where its bit is 0.
 fn is_bad_template(mask: u8, fields: Fields) -> bool
     ensures { λ r. ⌜ r ≡ badTemplate mask fields ⌝ }
 {
-    let kind = (mask / 1 % 2 != 1) & (fields.kind != 0);
-    let side = (mask / 2 % 2 != 1) & (fields.side != 0);
-    let image = (mask / 4 % 2 != 1) & (fields.image != 0);
-    let place = (mask / 8 % 2 != 1) & (fields.place != 0);
-    kind | side | image | place
+    is_some_filled(
+        mask / 1 % 2 != 1,
+        mask / 2 % 2 != 1,
+        mask / 4 % 2 != 1,
+        mask / 8 % 2 != 1,
+        fields,
+    )
 }
 
 // Whether a write's field is not 0 where its bit says that it is blank.
 fn is_bad_blanks(mask: u8, fields: Fields) -> bool
     ensures { λ r. ⌜ r ≡ badBlanks mask fields ⌝ }
 {
-    let kind = (mask / 1 % 2 == 1) & (fields.kind != 0);
-    let side = (mask / 2 % 2 == 1) & (fields.side != 0);
-    let image = (mask / 4 % 2 == 1) & (fields.image != 0);
-    let place = (mask / 8 % 2 == 1) & (fields.place != 0);
-    kind | side | image | place
+    is_some_filled(
+        mask / 1 % 2 == 1,
+        mask / 2 % 2 == 1,
+        mask / 4 % 2 == 1,
+        mask / 8 % 2 == 1,
+        fields,
+    )
 }
 
 // Refusal 5: a party other than 1 to 16, or than 0 for tick.

@@ -28,27 +28,25 @@ noOperation bs f = eqb (length bs) 0 || not (isOperation (f .op))
 unfoldable pub wrongLength : List ℕ → Frame → Bool
 wrongLength bs f = not (eqb (length bs) (frameLength (f .op)))
 
--- a template field not 0 where its bit is 0
-abbrev pub unasked : Bool → ℕ → Bool
-unasked asked x = not asked && not (eqb x 0)
+-- a field is not 0 of those that must be
+abbrev pub filled : Bool → ℕ → Bool
+filled empty n = empty && not (eqb n 0)
 
+abbrev pub someFilled : Bool → Bool → Bool → Bool → Fields → Bool
+someFilled kind side image place fields =
+    filled kind (fields .kind)
+    || filled side (fields .side)
+    || filled image (fields .image)
+    || filled place (fields .place)
+
+-- "a template field not 0 where its bit is 0"
 abbrev pub badTemplate : ℕ → Fields → Bool
 badTemplate mask fields =
-    unasked (bit 0 mask) (fields .kind)
-    || unasked (bit 1 mask) (fields .side)
-    || unasked (bit 2 mask) (fields .image)
-    || unasked (bit 3 mask) (fields .place)
+    someFilled (not (bit 0 mask)) (not (bit 1 mask)) (not (bit 2 mask)) (not (bit 3 mask)) fields
 
 -- "a bit of 1 is blank, and the field must be 0" (document 02, T-08)
-abbrev pub filled : Bool → ℕ → Bool
-filled blank n = blank && not (eqb n 0)
-
 abbrev pub badBlanks : ℕ → Fields → Bool
-badBlanks mask fields =
-    filled (bit 0 mask) (fields .kind)
-    || filled (bit 1 mask) (fields .side)
-    || filled (bit 2 mask) (fields .image)
-    || filled (bit 3 mask) (fields .place)
+badBlanks mask fields = someFilled (bit 0 mask) (bit 1 mask) (bit 2 mask) (bit 3 mask) fields
 
 -- 4: byte 3 not 0; mask above 15; mask not 0 outside look-ups and writes; a bad template; a blank that is not 0; create
 -- naming a transaction
