@@ -1,6 +1,6 @@
 /* Document 01's sample tray through the C boundary, byte by byte, and its printed lines to standard output; null
  * pointers; what each function leaves in its buffers; the headers' builders, names and layout of the words; the lengths
- * of frames; the oldest entry first; blanks. */
+ * of frames; the oldest entry first; blanks; renewals. */
 #include <stdlib.h>
 #include "lines.h"
 #include "space_frames.h"
@@ -79,6 +79,11 @@ static void pass_nulls(void)
     check(memcmp(before, space, sizeof space) == 0, "refused frames leave the space as it was");
 }
 
+static int is_operation(unsigned operation)
+{
+    return (operation >= 1 && operation <= 9) || operation == 11;
+}
+
 static void build_frames(void)
 {
     check(space_frame_write(frame, 1, mark, 5, 0) == 28 && memcmp(frame, sample + 28, 28) == 0, "a write's frame");
@@ -93,28 +98,31 @@ static void build_frames(void)
           memcmp(frame, (uint8_t[]){7, 3, 0, 0, 2, 1, 0, 0}, 8) == 0, "a commit's frame");
     check(space_frame_abort(frame, 3, 258) == 8 &&
           memcmp(frame, (uint8_t[]){8, 3, 0, 0, 2, 1, 0, 0}, 8) == 0, "an abort's frame");
+    check(space_frame_renew(frame, 3, 258, 772) == 12 &&
+          memcmp(frame, (uint8_t[]){11, 3, 0, 0, 2, 1, 0, 0, 4, 3, 0, 0}, 12) == 0, "a renew's frame");
     space_empty(space);
     for (int operation = 0; operation < 256; operation++) { /* a length that the space does not refuse with 2 or 3 */
         size_t length = space_frame(frame, (uint8_t)operation, operation == SPACE_OP_TICK ? 0 : 1);
         uint64_t returned = space_step(space, frame, length, answers, SPACE_STEP_BYTES);
-        int there_is = operation >= 1 && operation <= 9;
+        int there_is = is_operation((unsigned)operation);
         check(there_is ? length > 0 && space_step_number(returned) != 2 && space_step_number(returned) != 3
                        : length == 0, "the lengths");
         check((strcmp(space_operation_name((uint8_t)operation), "?") != 0) == there_is, "the operations' names");
-        check((strcmp(space_record_name((uint8_t)operation), "?") != 0) == (there_is || operation == 15), "the kinds'");
-        int given = operation >= 1 && operation <= 16 && operation != 14;
+        int is_kind = (operation >= 1 && operation <= 9) || operation == 12 || operation == 15;
+        check((strcmp(space_record_name((uint8_t)operation), "?") != 0) == is_kind, "the kinds'");
+        int given = operation >= 1 && operation <= 20 && operation != 14 && operation != 17;
         check((strcmp(space_refusal_meaning((uint32_t)operation), "?") != 0) == given, "the refusals' meanings");
     }
 }
 
-/* Document 01's table of lengths, for every operation byte and every length up to 64. */
+/* The lengths of documents 01 and 02, for every operation byte and every length up to 64. */
 static void judge_lengths(void)
 {
-    static const size_t lengths[] = {0, 28, 28, 28, 28, 28, 12, 8, 8, 4};
+    static const size_t lengths[] = {0, 28, 28, 28, 28, 28, 12, 8, 8, 4, 0, 12};
     uint8_t any[64] = {0};
     for (unsigned operation = 0; operation < 256; operation++)
         for (size_t length = 1; length <= sizeof any; length++) {
-            int there_is = operation >= 1 && operation <= 9;
+            int there_is = is_operation(operation);
             any[0] = (uint8_t)operation;
             any[1] = operation == SPACE_OP_TICK ? 0 : 1;
             space_empty(space);
@@ -162,13 +170,15 @@ static void read_words(void)
           "the transactions' rows");
     check(row_is(SPACE_WAITING_AT, SPACE_WAITING_WORDS, 0,
                  (uint32_t[]){5, SPACE_OP_TAKE, SPACE_MASK_SIDE, 0, 2, 0, 0, 0, 4}), "the waiting look-up's row");
-    check(row_is(SPACE_ENTRIES_AT, SPACE_ENTRY_WORDS, 0, (uint32_t[]){1, 7, 1, 40, 9, 6, 0, 1, 0}) &&
-          row_is(SPACE_ENTRIES_AT, SPACE_ENTRY_WORDS, 1, (uint32_t[]){2, 0, 1, 0, 9, 7, 0, 0, 2 + 256 * 5}) &&
-          row_is(SPACE_ENTRIES_AT, SPACE_ENTRY_WORDS, 2, (uint32_t[]){4, 7, 1, 0, 9, SPACE_FOREVER, 2, 0, 256 * 4}),
+    check(row_is(SPACE_ENTRIES_AT, SPACE_ENTRY_WORDS, 0, (uint32_t[]){1, 7, 1, 40, 9, 6, 0, 1, 65536}) &&
+          row_is(SPACE_ENTRIES_AT, SPACE_ENTRY_WORDS, 1, (uint32_t[]){2, 0, 1, 0, 9, 7, 0, 0, 2 + 256 * 5 + 65536}) &&
+          row_is(SPACE_ENTRIES_AT, SPACE_ENTRY_WORDS, 2,
+                 (uint32_t[]){4, 7, 1, 0, 9, SPACE_FOREVER, 2, 0, 256 * 4 + 65536 * 3}),
           "the entries' rows");
     const uint32_t *second = space + SPACE_ENTRIES_AT + SPACE_ENTRY_WORDS;
-    check(space_entry_readers(second) == 2 && space_entry_blanks(second) == (SPACE_MASK_KIND | SPACE_MASK_IMAGE),
-          "readers and blanks by name");
+    check(space_entry_readers(second) == 2 && space_entry_blanks(second) == (SPACE_MASK_KIND | SPACE_MASK_IMAGE) &&
+          space_entry_writer(second) == 1 && space_entry_writer(second + SPACE_ENTRY_WORDS) == 3,
+          "readers, blanks and writer by name");
     check(SPACE_WORDS == 758, "the words of a space");
 }
 
@@ -239,7 +249,9 @@ static void judge_masks(void)
                 check(space[SPACE_WORD_ENTRY_COUNT] == stored, "stored, if it has a lease");
                 check(!stored || space_entry_blanks(space + SPACE_ENTRIES_AT) == mask, "the mask is the blanks");
             }
-        for (uint8_t operation = SPACE_OP_CREATE; operation <= SPACE_OP_TICK; operation++) {
+        for (uint8_t operation = SPACE_OP_CREATE; operation <= SPACE_OP_RENEW; operation++) {
+            if (!is_operation(operation))
+                continue;
             size_t length = space_frame(frame, operation, operation == SPACE_OP_TICK ? 0 : 1);
             frame[2] = (uint8_t)mask;
             check((step(length).refusal == SPACE_REFUSAL_BAD_FORM) == (mask != 0), "4, by another frame's mask");
@@ -283,11 +295,91 @@ static void serve_blanks(void)
     check(space_record_at(answers, 0).blanks == SPACE_MASK_PLACE, "the blanks after an abort");
 }
 
+static uint32_t count_entries(void)
+{
+    return space[SPACE_WORD_ENTRY_COUNT];
+}
+
+/* Every lease about the ends of its range, from a clock that is not 0: the record to the last byte, and the end. */
+static void renew_entries(void)
+{
+    static const uint32_t leases[] = {1, 2, 300, SPACE_FOREVER - 3, SPACE_FOREVER};
+    static const uint8_t renewed[SPACE_RECORD_BYTES] = {12, 3, 0, 0, 0, 0, 0, 0, 2};
+    space_empty(space);
+    step(space_frame_write(frame, 1, mark, SPACE_FOREVER, 0));              /* entry 1 */
+    step(space_frame_write_blanks(frame, 3, SPACE_MASK_PLACE, mark, 7, 0)); /* entry 2 */
+    step(space_frame_tick(frame));
+    step(space_frame_tick(frame));
+    const uint32_t *row = space + SPACE_ENTRIES_AT + SPACE_ENTRY_WORDS;
+    for (size_t i = 0; i < sizeof leases / sizeof leases[0]; i++) {
+        memset(answers, 0xa5, SPACE_STEP_BYTES);
+        size_t length = space_frame_renew(frame, 3, 2, leases[i]);
+        check(space_step(space, frame, length, answers, SPACE_STEP_BYTES) == 1, "a renewal's returned number");
+        check(memcmp(answers, renewed, sizeof renewed) == 0, "a renewal's record");
+        check(all(answers + sizeof renewed, SPACE_STEP_BYTES - sizeof renewed, 0xa5), "bytes after it");
+        check(row[SPACE_ENTRY_END] == (leases[i] == SPACE_FOREVER ? SPACE_FOREVER : 2 + leases[i]), "clock + lease");
+        check(space_entry_writer(row) == 3 && space_entry_blanks(row) == SPACE_MASK_PLACE, "the rest of its row");
+    }
+    step(space_frame_renew(frame, 3, 2, 0));
+    check(memcmp(answers, renewed, sizeof renewed) == 0 && count_entries() == 1, "lease 0 removes it in this step");
+    check(step(space_frame_renew(frame, 3, 2, 1)).refusal == SPACE_REFUSAL_NO_ENTRY, "it is there no more");
+    check(space[SPACE_ENTRIES_AT] == 1 && found(SPACE_OP_READ, 2, 0) == 1, "the other is left");
+}
+
+/* An entry outlives the end that it had, and ends at its new one; so does one whose end is put forward. */
+static void outlive_leases(void)
+{
+    space_empty(space);
+    step(space_frame_write(frame, 1, mark, 2, 0));                          /* entry 1, ends at 2 */
+    step(space_frame_write(frame, 1, mark, 9, 0));                          /* entry 2, ends at 9 */
+    step(space_frame_tick(frame));
+    step(space_frame_renew(frame, 1, 1, 3));                                /* ends at 4 */
+    step(space_frame_renew(frame, 1, 2, 2));                                /* ends at 3 */
+    for (uint32_t clock = 2; clock <= 4; clock++) {
+        step(space_frame_tick(frame));
+        check(count_entries() == 4 - clock, "each ends at its new end");
+    }
+}
+
+/* 6, 18, 19, 20 and 10, in this order; 7 and 8 pass a renewal by. The lease is too late in each case, so that 10 would
+ * apply as well. */
+static void judge_renewals(void)
+{
+    static const struct { uint8_t party; uint32_t entry; uint32_t number; } cases[] = {
+        {3, 1, SPACE_REFUSAL_PARTY_WAITS}, {3, 9, SPACE_REFUSAL_PARTY_WAITS},
+        {1, 0, SPACE_REFUSAL_NO_ENTRY}, {1, 5, SPACE_REFUSAL_NO_ENTRY}, {2, SPACE_FOREVER, SPACE_REFUSAL_NO_ENTRY},
+        {2, 1, SPACE_REFUSAL_NOT_WRITER}, {16, 2, SPACE_REFUSAL_NOT_WRITER}, {2, 3, SPACE_REFUSAL_NOT_WRITER},
+        {1, 1, SPACE_REFUSAL_ENTRY_HELD}, {1, 2, SPACE_REFUSAL_ENTRY_HELD}, {1, 3, SPACE_REFUSAL_ENTRY_HELD},
+        {1, 4, SPACE_REFUSAL_TOO_LATE}};
+    static uint32_t before[SPACE_WORDS];
+    space_empty(space);
+    step(space_frame_tick(frame));
+    step(space_frame_write(frame, 1, mark, SPACE_FOREVER, 0));              /* entry 1 */
+    step(space_frame_write(frame, 1, mark, SPACE_FOREVER, 0));              /* entry 2 */
+    step(space_frame_create(frame, 1, SPACE_FOREVER));                      /* transaction 1 */
+    step(space_frame_write(frame, 1, mark, SPACE_FOREVER, 1));              /* entry 3, private */
+    check(found(SPACE_OP_TAKE, 1, 1) == 1 && found(SPACE_OP_READ, 1, 1) == 2, "its own holds");
+    step(space_frame_write(frame, 1, mark, SPACE_FOREVER, 0));              /* entry 4 */
+    step(space_frame_look_up(frame, SPACE_OP_TAKE, 3, SPACE_MASK_SIDE, (uint32_t[4]){0, 2, 0, 0}, SPACE_FOREVER, 0));
+    memcpy(before, space, sizeof space);
+    for (size_t i = 0; i < sizeof cases / sizeof cases[0]; i++) {
+        size_t length = space_frame_renew(frame, cases[i].party, cases[i].entry, SPACE_FOREVER - 1);
+        check(step(length).refusal == cases[i].number, "the order of a renewal's refusals");
+        check(memcmp(before, space, sizeof space) == 0, "a refused renewal leaves the space as it was");
+    }
+    check(step(space_frame_renew(frame, 1, 4, SPACE_FOREVER - 2)).kind == SPACE_RECORD_RENEWED, "the longest lease");
+    step(space_frame_commit(frame, 1, 1));
+    check(step(space_frame_renew(frame, 1, 3, 1)).kind == SPACE_RECORD_RENEWED, "private no more");
+    check(step(space_frame_renew(frame, 1, 2, 1)).kind == SPACE_RECORD_RENEWED, "held no more");
+    check(step(space_frame_renew(frame, 1, 1, 1)).refusal == SPACE_REFUSAL_NO_ENTRY, "taken");
+}
+
 /* Words that frames did not make are read as host/space.h tells. */
 static void step_on_odd_words(void)
 {
     static uint32_t odd[SPACE_WORDS];
     static uint8_t odd_answers[SPACE_STEP_BYTES];
+    static const uint32_t numbers[] = {11, 6, 8, 19, 20, 0, 0, 0, 0};
     space_empty(space);
     for (int i = 0; i < SPACE_MAX_ENTRIES; i++)
         step(space_frame_write_blanks(frame, 1, SPACE_MASK_IMAGE, mark, SPACE_FOREVER, 0));
@@ -306,20 +398,23 @@ static void step_on_odd_words(void)
         odd[SPACE_WAITING_AT + SPACE_WAITING_WORDS * row + SPACE_WAITING_MASK] += 256;
     }
     for (uint32_t row = 0; row < SPACE_MAX_ENTRIES; row++)
-        odd[SPACE_ENTRIES_AT + SPACE_ENTRY_WORDS * row + SPACE_ENTRY_READERS] += 65536; /* blanks modulo 256 */
-    for (int i = 0; i < 6; i++) {
+        odd[SPACE_ENTRIES_AT + SPACE_ENTRY_WORDS * row + SPACE_ENTRY_READERS] += 16777216; /* writer modulo 256 */
+    for (int i = 0; i < 9; i++) {
         size_t length = i == 0   ? space_frame_write(frame, 1, mark, 1, 0)         /* 11 */
                         : i == 1 ? space_frame_write(frame, 3, mark, 1, 0)         /* 6 */
                         : i == 2 ? space_frame_commit(frame, 1, 1)                 /* 8 */
-                        : i == 3 ? space_frame_look_up(frame, SPACE_OP_TAKE, 2, 0, mark, 0, 1)
-                        : i == 4 ? space_frame_commit(frame, 2, 1)
+                        : i == 3 ? space_frame_renew(frame, 2, 64, 1)              /* 19 */
+                        : i == 4 ? space_frame_renew(frame, 1, 1, 1)               /* 20 */
+                        : i == 5 ? space_frame_renew(frame, 1, 64, 1)
+                        : i == 6 ? space_frame_look_up(frame, SPACE_OP_TAKE, 2, 0, mark, 0, 1)
+                        : i == 7 ? space_frame_commit(frame, 2, 1)
                                  : space_frame_write(frame, 1, (uint32_t[4]){7, 2, 0, 0}, 1, 0); /* serves both */
         memset(answers, 0xa5, SPACE_STEP_BYTES);
         memset(odd_answers, 0xa5, SPACE_STEP_BYTES);
         uint64_t returned = space_step(space, frame, length, answers, SPACE_STEP_BYTES);
         check(space_step(odd, frame, length, odd_answers, SPACE_STEP_BYTES) == returned, "odd words: returned");
         check(memcmp(answers, odd_answers, sizeof odd_answers) == 0, "odd words: the answers");
-        check(returned == (i == 0 ? 1 + 65536 * 11 : i == 1 ? 1 + 65536 * 6 : i == 2 ? 1 + 65536 * 8 : i == 5 ? 3 : 1),
+        check(space_step_number(returned) == numbers[i] && space_step_records(returned) == (i == 8 ? 3 : 1),
               "odd words: what each frame gives");
     }
 }
@@ -382,6 +477,9 @@ int main(void)
     judge_masks();
     find_blanks();
     serve_blanks();
+    renew_entries();
+    outlive_leases();
+    judge_renewals();
     step_on_odd_words();
     step_where_none_can_wait();
     use_zeroed_words();

@@ -47,7 +47,8 @@ static void release(uint8_t *memory)
         free(memory);
 }
 
-/* A frame of any operation, its fields but the kind 0; in a write some of these are blank. */
+/* A frame of any operation, its fields but the kind 0; in a write some of these are blank. A renew has an entry's
+ * number in place of a transaction's. */
 static size_t put_frame(uint8_t *frame, int operation, int party, uint32_t transaction, uint32_t duration)
 {
     int is_look_up = operation >= SPACE_OP_READ && operation <= SPACE_OP_TAKE_IF_EXISTS;
@@ -64,9 +65,12 @@ static size_t put_frame(uint8_t *frame, int operation, int party, uint32_t trans
 /* A random frame, garbled in some cases. */
 static size_t make_frame(uint8_t frame[SPACE_MAX_FRAME_BYTES])
 {
-    int operation = 1 + (int)below(9);
+    static const int operations[] = {1, 2, 3, 4, 5, 6, 7, 8, 9, SPACE_OP_RENEW};
+    int operation = operations[below(10)];
     int party = operation == SPACE_OP_TICK ? 0 : 1 + (int)below(5);
-    uint32_t transaction = operation == SPACE_OP_CREATE || below(2) ? 0 : below(9);
+    uint32_t transaction = operation == SPACE_OP_RENEW               ? below(30) /* an entry */
+                           : operation == SPACE_OP_CREATE || below(2) ? 0
+                                                                      : below(9);
     memset(frame, 0, SPACE_MAX_FRAME_BYTES);
     size_t length = put_frame(frame, operation, party, transaction, below(9) ? below(6) : odd_number());
     if (!below(12))
@@ -129,7 +133,7 @@ static void read_records(const uint8_t *answers, uint32_t records, int odd)
         uint32_t any = record[SPACE_RECORD_AT_BLANKS];
         for (int at = 4; at < SPACE_RECORD_BYTES; at += 4)
             any |= space_get_word(record + at);
-        if (record[0] == 0 || (record[0] > SPACE_RECORD_TICKED && !refused))
+        if (record[0] == 0 || (record[0] > SPACE_RECORD_TICKED && record[0] != SPACE_RECORD_RENEWED && !refused))
             fail("a record", i);
         if (!(odd && found) && !blanks_fit(space_record_at(answers, i)))
             fail("a record's blanks", i);
@@ -189,6 +193,13 @@ static void run_longest_step(void)
         fail("the longest step", returned);
 }
 
+/* 0, or a refusal of a frame. */
+static int is_frames_number(uint32_t number)
+{
+    return number <= SPACE_REFUSAL_NUMBERS_USED_UP ||
+           (number >= SPACE_REFUSAL_NO_ENTRY && number <= SPACE_REFUSAL_ENTRY_HELD);
+}
+
 static void run_steps(void)
 {
     uint32_t *space = (uint32_t *)(void *)buffer(0, 4 * SPACE_WORDS);
@@ -203,8 +214,7 @@ static void run_steps(void)
         uint8_t *frame = buffer(1, frame_len), *answers = buffer(2, answers_len);
         memcpy(frame, made, frame_len);
         uint64_t returned = space_step(space, frame, frame_len, answers, answers_len);
-        if (space_step_records(returned) > SPACE_MAX_STEP_RECORDS ||
-            space_step_number(returned) > SPACE_REFUSAL_NUMBERS_USED_UP)
+        if (space_step_records(returned) > SPACE_MAX_STEP_RECORDS || !is_frames_number(space_step_number(returned)))
             fail("a step", returned);
         read_records(answers, space_step_records(returned), odd);
         release(frame);

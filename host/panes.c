@@ -77,7 +77,8 @@ static void send(struct pane *sender, const uint8_t *frame, size_t length)
     }
 }
 
-/* Sets a mark in every seventh round, with a lease of three ticks. The first has no place yet. */
+/* Sets a mark in every seventh round, with a lease of three ticks, and renews it until it is refused: then somebody
+ * holds it, or it is gone. The first has no place yet. */
 static void set_marks(struct pane *pane)
 {
     uint8_t frame[SPACE_MAX_FRAME_BYTES];
@@ -85,6 +86,8 @@ static void set_marks(struct pane *pane)
     uint8_t blanks = round_number == 1 ? SPACE_MASK_PLACE : 0;
     if (round_number % 7 == 1)
         send(pane, frame, space_frame_write_blanks(frame, pane->party, blanks, fields, 3, 0));
+    else if (pane->last.kind == SPACE_RECORD_WRITTEN || pane->last.kind == SPACE_RECORD_RENEWED)
+        send(pane, frame, space_frame_renew(frame, pane->party, pane->last.entry, 3));
 }
 
 /* Takes the oldest mark and writes a finding for it, with the same blanks, both in one transaction of four ticks. */

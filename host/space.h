@@ -17,8 +17,9 @@ extern "C" {
 /* Raised with each change of what a host sees: functions, frames, records, numbers, limits, the layout of the words.
  * 2: of several available entries the one with the lowest number is found. 3: no refusal has the number 14.
  * 4: an abort of the transaction in which its party's look-up waits is carried out. 5: a waiting IfExists look-up with
- * no conflicting entry left gets nothing at once. 6: a write's mask tells blank fields, so does byte 3 of a found. */
-#define SPACE_VERSION 6
+ * no conflicting entry left gets nothing at once. 6: a write's mask tells blank fields, so does byte 3 of a found.
+ * 7: an entry remembers the party that wrote it, which can renew it: operation 11, kind 12, refusals 18 to 20. */
+#define SPACE_VERSION 7
 
 #define SPACE_MAX_ENTRIES 64         /* entries stored at most */
 #define SPACE_MAX_TRANSACTIONS 8     /* transactions live at most */
@@ -33,6 +34,7 @@ extern "C" {
 
 /* Frame: byte 0 operation, 1 party (0 for tick), 2 mask, 3 zero, then words at these offsets. */
 #define SPACE_FRAME_AT_TRANSACTION 4
+#define SPACE_FRAME_AT_ENTRY 4       /* of a renew, which names no transaction */
 #define SPACE_FRAME_AT_DURATION 8    /* lease or timeout */
 #define SPACE_FRAME_AT_FIELDS 12     /* kind, side, image, place */
 
@@ -45,7 +47,8 @@ enum space_operation {
     SPACE_OP_CREATE = 6,
     SPACE_OP_COMMIT = 7,
     SPACE_OP_ABORT = 8,
-    SPACE_OP_TICK = 9
+    SPACE_OP_TICK = 9,
+    SPACE_OP_RENEW = 11              /* 10 is no operation */
 };
 
 /* Lengths of frames. */
@@ -55,6 +58,7 @@ enum space_operation {
 #define SPACE_COMMIT_BYTES 8
 #define SPACE_ABORT_BYTES 8
 #define SPACE_TICK_BYTES 4
+#define SPACE_RENEW_BYTES 12
 #define SPACE_MAX_FRAME_BYTES 28
 
 /* Tray: a count of frames, a pair of offset and length for each, the frames. */
@@ -88,11 +92,12 @@ enum space_record_kind {
     SPACE_RECORD_ABORTED = 7,
     SPACE_RECORD_EXCEPTION = 8,
     SPACE_RECORD_TICKED = 9,
+    SPACE_RECORD_RENEWED = 12,
     SPACE_RECORD_REFUSED = 15
 };
 
-/* Numbers 1 to 13 are of a frame, 15 and 16 of a tray; 0 is no refusal. 14 is never given out. docs/MANUAL.md says what
- * to do about each. */
+/* Numbers 1 to 13 and 18 to 20 are of a frame, 15 and 16 of a tray; 0 is no refusal. 14 and 17 are never given out.
+ * docs/MANUAL.md says what to do about each. A renew is judged by 1 to 6, 18, 19, 20 and 10, in this order. */
 enum space_refusal {
     SPACE_REFUSAL_AREA_TOO_SMALL = 1,
     SPACE_REFUSAL_BAD_OPERATION = 2,
@@ -108,7 +113,10 @@ enum space_refusal {
     SPACE_REFUSAL_TRANSACTIONS_FULL = 12,
     SPACE_REFUSAL_NUMBERS_USED_UP = 13,
     SPACE_REFUSAL_BAD_TRAY = 15,
-    SPACE_REFUSAL_BAD_PAIR = 16
+    SPACE_REFUSAL_BAD_PAIR = 16,
+    SPACE_REFUSAL_NO_ENTRY = 18,     /* no stored entry has the number that a renew names */
+    SPACE_REFUSAL_NOT_WRITER = 19,   /* another party wrote it */
+    SPACE_REFUSAL_ENTRY_HELD = 20    /* it is private or held, be it by the party's own transaction */
 };
 
 /* The words of a space, to be read only: the clock, the next numbers, the rows in use of each table, then the tables.
@@ -121,16 +129,18 @@ enum space_refusal {
 #define SPACE_WORD_TRANSACTION_COUNT 4
 #define SPACE_WORD_WAITING_COUNT 5
 
-/* Stored entries, by number. Readers: bit s for a read hold of the transaction in slot s. Blanks: mask bits. */
+/* Stored entries, by number. Readers: bit s for a read hold of the transaction in slot s. Blanks: mask bits. Writer:
+ * the party that wrote it. */
 #define SPACE_ENTRIES_AT 6
 #define SPACE_ENTRY_NUMBER 0
 #define SPACE_ENTRY_FIELDS 1         /* kind, side, image, place */
 #define SPACE_ENTRY_END 5
 #define SPACE_ENTRY_PRIVATE_TO 6     /* transaction; 0: committed */
 #define SPACE_ENTRY_TAKEN_BY 7       /* transaction with a take hold; 0: none */
-#define SPACE_ENTRY_READERS 8        /* readers + SPACE_BLANKS_UNIT * blanks */
+#define SPACE_ENTRY_READERS 8        /* readers + SPACE_BLANKS_UNIT * blanks + SPACE_WRITER_UNIT * writer */
 #define SPACE_ENTRY_WORDS 9
 #define SPACE_BLANKS_UNIT 256
+#define SPACE_WRITER_UNIT 65536
 
 /* Live transactions, by number. */
 #define SPACE_TRANSACTIONS_AT (SPACE_ENTRIES_AT + SPACE_ENTRY_WORDS * SPACE_MAX_ENTRIES)
@@ -166,12 +176,12 @@ void space_empty(uint32_t space[SPACE_WORDS]);
  * for number 1 (answers_len under 700). Bytes of `answers` after the last record keep their contents. `frame` is only
  * read.
  * On words made in any other way the call ends and keeps to its buffers, and a refused frame is answered in the same
- * way. The words are read as tables: counts above the limits as the limits, a party, a mask, readers and blanks modulo
- * 256, a slot modulo 8, a waiting look-up's operation that is not 2 to 5 as 2. A frame that is carried out gives what
- * the rules give for these tables if they are sound, as all are that frames make: entries and transactions stand by
- * number, below the next numbers; what holds an entry is live; who waits is a party of 1 to 16, once, outside
- * transactions or in a live one of its own; no lease and no deadline is over; nobody waits who has an available entry,
- * or, of the IfExists kinds, who has no conflicting one (`Sound`, crates/rules/specs/Sound.antt). */
+ * way. The words are read as tables: counts above the limits as the limits, a party, a mask, readers, blanks and a
+ * writer modulo 256, a slot modulo 8, a waiting look-up's operation that is not 2 to 5 as 2. A frame that is carried
+ * out gives what the rules give for these tables if they are sound, as all are that frames make: entries and
+ * transactions stand by number, below the next numbers; what holds an entry is live; who waits is a party of 1 to 16,
+ * once, outside transactions or in a live one of its own; no lease and no deadline is over; nobody waits who has an
+ * available entry, or, of the IfExists kinds, who has no conflicting one (`Sound`, crates/rules/specs/Sound.antt). */
 uint64_t space_step(uint32_t space[SPACE_WORDS], const uint8_t *frame, size_t frame_len,
                     uint8_t *answers, size_t answers_len);
 
@@ -198,6 +208,11 @@ static inline uint8_t space_entry_readers(const uint32_t *row)
 static inline uint8_t space_entry_blanks(const uint32_t *row)
 {
     return (uint8_t)(row[SPACE_ENTRY_READERS] / SPACE_BLANKS_UNIT);
+}
+
+static inline uint8_t space_entry_writer(const uint32_t *row)
+{
+    return (uint8_t)(row[SPACE_ENTRY_READERS] / SPACE_WRITER_UNIT);
 }
 
 /* The word that begins at `at`, and the writing of one. */

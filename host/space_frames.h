@@ -10,7 +10,7 @@
 extern "C" {
 #endif
 
-/* The length of an operation's frame; 0 if the operation is not 1-9. */
+/* The length of an operation's frame; 0 if the operation is not 1-9 or 11. */
 static inline size_t space_frame_bytes(uint8_t operation)
 {
     switch (operation) {
@@ -21,6 +21,7 @@ static inline size_t space_frame_bytes(uint8_t operation)
     case SPACE_OP_COMMIT: return SPACE_COMMIT_BYTES;
     case SPACE_OP_ABORT: return SPACE_ABORT_BYTES;
     case SPACE_OP_TICK: return SPACE_TICK_BYTES;
+    case SPACE_OP_RENEW: return SPACE_RENEW_BYTES;
     default: return 0;
     }
 }
@@ -98,6 +99,16 @@ static inline size_t space_frame_tick(uint8_t *frame)
     return space_frame(frame, SPACE_OP_TICK, 0);
 }
 
+/* The party renews an entry that it wrote: it ends at clock + lease then, with SPACE_FOREVER never; with lease 0 it is
+ * removed. */
+static inline size_t space_frame_renew(uint8_t *frame, uint8_t party, uint32_t entry, uint32_t lease)
+{
+    size_t length = space_frame(frame, SPACE_OP_RENEW, party);
+    space_put_word(frame + SPACE_FRAME_AT_ENTRY, entry);
+    space_put_word(frame + SPACE_FRAME_AT_DURATION, lease);
+    return length;
+}
+
 struct space_record {
     uint8_t kind, party, refusal, blanks;
     uint32_t transaction, entry, fields[4];
@@ -124,14 +135,14 @@ static inline struct space_record space_record_at(const uint8_t *answers, uint32
 static inline const char *space_operation_name(uint8_t operation)
 {
     static const char *const names[] = {"?", "write", "read", "take", "readIfExists", "takeIfExists", "create",
-                                        "commit", "abort", "tick"};
+                                        "commit", "abort", "tick", "?", "renew"};
     return operation < sizeof names / sizeof names[0] ? names[operation] : "?";
 }
 
 static inline const char *space_record_name(uint8_t kind)
 {
     static const char *const names[] = {"?", "written", "found", "nothing", "waiting", "created", "committed",
-                                        "aborted", "exception", "ticked", "?", "?", "?", "?", "?", "refused"};
+                                        "aborted", "exception", "ticked", "?", "?", "renewed", "?", "?", "refused"};
     return kind < sizeof names / sizeof names[0] ? names[kind] : "?";
 }
 
@@ -146,7 +157,7 @@ static inline const char *space_refusal_meaning(uint32_t number)
     static const char *const meanings[] = {
         "?",
         "the answers area has under 700 bytes",
-        "the frame is empty, or its operation is not 1-9",
+        "the frame is empty, or its operation is not 1-9 or 11",
         "the frame's length is not its operation's",
         "byte 3, the mask, a field that must be 0 or create's transaction is not as it must be",
         "the party is not 1-16, or not 0 for tick",
@@ -160,7 +171,11 @@ static inline const char *space_refusal_meaning(uint32_t number)
         "the numbers are used up",
         "?", /* 14 is never given out */
         "the tray is too short, too long or has too many frames",
-        "a pair of the tray is out of order or runs past its end"};
+        "a pair of the tray is out of order or runs past its end",
+        "?", /* nor is 17 */
+        "no stored entry has that number",
+        "another party wrote the entry",
+        "the entry is private or held"};
     return number < sizeof meanings / sizeof meanings[0] ? meanings[number] : "?";
 }
 

@@ -1,16 +1,15 @@
 -- A frame's bytes, part after part.
 use Prim.Native.Nat.{ℕ, _≤_, _<_}
+use mathlib.Core.Bool.{true}
 use mathlib.Core.Path.{_≡_, sym, ap, _∙_}
 use mathlib.Core.List.{List, [], _∷_, _++_}
 use native.Mathlib.Omega.{arith}
 use lib.ListN.{length, take}
 use borrow.Author.Tests.{le-leb, lt-leb}
-use Rattle.rules.specs.Numbers.{opWrite, opTick}
-use Rattle.rules.specs.Frame.{Frame, fourBytes, frameLength, frameBytes}
+use Rattle.rules.specs.Frame.{Frame, fourBytes, frameLength, frameBytes, isOperation}
 use Rattle.rules.proofs.OperationLaws.{length-cases}
 use Rattle.rules.proofs.ReadBack.{frame-length}
 use Rattle.codec.specs.Area.{over, fieldsBytes, FramePut}
-use Rattle.codec.proofs.FormLaws.{is-operation}
 use Rattle.codec.proofs.FrontLaws.{front-none, front-all}
 
 -- where a frame may end
@@ -21,9 +20,8 @@ pub record Ends (n : ℕ) : Type 0 where
   pub lease : 12 ≤ n → n < 28 → n ≡ 12
   pub fields : n ≤ 28
 
-pub ends : (op n : ℕ) → n ≡ frameLength op → opWrite ≤ op → op ≤ opTick → Ends n
-ends op n e l h =
-    rw e (length-cases Ends op (is-operation op l h) (omega arith) (omega arith) (omega arith) (omega arith))
+pub ends : (op n : ℕ) → n ≡ frameLength op → isOperation op ≡ true → Ends n
+ends op n e is = rw e (length-cases Ends op is (omega arith) (omega arith) (omega arith) (omega arith))
 
 abbrev pub allBytes : Frame → List ℕ
 allBytes f =
@@ -32,10 +30,10 @@ allBytes f =
     ++ fourBytes (f .leaseOrTimeout)
     ++ fieldsBytes (f .fields)
 
-module _ (f : Frame) (old : List ℕ) (n : ℕ) (e : n ≡ frameLength (f .op)) (l : opWrite ≤ f .op)
-    (h : f .op ≤ opTick) where
+module _ (f : Frame) (old : List ℕ) (n : ℕ) (e : n ≡ frameLength (f .op))
+    (is : isOperation (f .op) ≡ true) where
   long : length (frameBytes f) ≡ n
-  long = frame-length f (is-operation (f .op) l h) ∙ sym e
+  long = frame-length f is ∙ sym e
 
   pub frame-none : length old < n → FramePut f old old 0
   frame-none o = front-none _ _ _ (lt-leb (length (frameBytes f)) (length old) (omega (arith, long)))

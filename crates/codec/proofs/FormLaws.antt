@@ -1,17 +1,17 @@
 -- Bytes past the end; the form of a frame, operation by operation.
 use Prim.Native.Nat.{ℕ, _+_, _-_, _≤_}
-use mathlib.Core.Bool.{Bool, true, false, cond, not, _||_, or-false, or-true, or-assoc}
+use mathlib.Core.Bool.{Bool, true, false, cond, not, _||_, or-false, or-true, or-assoc, true≢false}
 use mathlib.Core.Path.{_≡_, refl, sym, ap, ap₂, _∙_}
 use mathlib.Core.Logic.{_⊎_, ⊎-elim}
 use mathlib.Core.List.{List, [], _∷_, _++_, append-nil}
 use native.Mathlib.Omega.{arith}
 use lib.Dec.{eqb, ltb}
 use lib.ListN.{length}
-use borrow.Author.Tests.{le-leb, lt-ltb, eq-eqb, ne-eqb, eqb-true, eqb-false}
-use Rattle.rules.specs.Numbers.{opWrite, opRead, opTakeIfExists, opCreate, opCommit, opAbort, opTick, lengthRefused}
+use borrow.Author.Tests.{le-leb, eq-eqb, ne-eqb, eqb-true, eqb-false}
+use Rattle.rules.specs.Numbers.{opWrite, opRead, opTakeIfExists, opCreate, opCommit, opAbort, lengthRefused}
 use Rattle.rules.specs.Numbers.{formRefused, partyRefused}
-use Rattle.rules.specs.Frame.{Frame, frameLength, decode, byteAt, numberAt, fieldsAt, isOperation, Layout, layouts}
-use Rattle.rules.specs.Frame.{layoutOf, hasTemplate, hasBlanks, namesNoTxn}
+use Rattle.rules.specs.Frame.{Frame, frameLength, decode, byteAt, numberAt, fieldsAt, isOperation, Layout, layoutOf}
+use Rattle.rules.specs.Frame.{hasTemplate, hasBlanks, namesNoTxn}
 use Rattle.rules.specs.Records.{noFields, plain, recordAt}
 use Rattle.rules.specs.Refusals.{noOperation, wrongLength, badTemplate, badBlanks, malformed, wrongParty}
 use Rattle.rules.specs.Requests.{formRefusal}
@@ -39,8 +39,9 @@ unfolding recordAt numberAt
 record-past = past recordAt record-behind
 
 -- ---- operations
-pub is-operation : (op : ℕ) → opWrite ≤ op → op ≤ opTick → isOperation op ≡ true
-is-operation op l h = rw (lt-ltb 0 op (omega arith), lt-ltb op (length layouts) (omega arith))
+-- what has a layout that is an operation's is one
+as-operation : (op n : ℕ) → layoutOf op ≡ layoutOf n → isOperation n ≡ true → isOperation op ≡ true
+as-operation op n e t = ap (λ (y : Layout). not (eqb (y .size) 0)) e ∙ t
 
 -- an abort is laid out as a commit
 ending-layout : (op : ℕ) → opCommit ≤ op → op ≤ opAbort → layoutOf op ≡ layoutOf opCommit
@@ -49,6 +50,14 @@ ending-layout op l h =
     ⊎-elim (λ e. ap layoutOf (eqb-true op opCommit e))
     (λ e. let abort : op ≡ opAbort = omega (arith, eqb-false op opCommit e) in ap layoutOf abort)
     (bool-cases (eqb op opCommit))
+
+pub looks-up : (op : ℕ) → opRead ≤ op → op ≤ opTakeIfExists → isOperation op ≡ true
+unfolding layoutOf
+looks-up op l h = as-operation op opRead (lookUp-layout op (rw (le-leb _ _ l, le-leb _ _ h))) refl
+
+pub ends-one : (op : ℕ) → opCommit ≤ op → op ≤ opAbort → isOperation op ≡ true
+unfolding layoutOf
+ends-one op l h = as-operation op opCommit (ending-layout op l h) refl
 
 -- ---- refusal 4: with a template, with blanks, with a transaction that must be 0, and with none of these
 -- a mask that is 0 is not above 15
@@ -79,16 +88,16 @@ module _ (f : Frame) where
   plain-form t b o = rw (t, b, o) (simp or-false no-mask)
 
 -- ---- the first of 3 to 5 that applies to a frame with an operation
-pub form-is : (bs : List ℕ) (op : ℕ) → (op ≡ byteAt bs 0) × (opWrite ≤ op) × (op ≤ opTick)
+pub form-is : (bs : List ℕ) (op : ℕ) → (op ≡ byteAt bs 0) × (isOperation op ≡ true)
     → {long form party : Bool} → eqb (length bs) (frameLength op) ≡ long → malformed (decode bs) ≡ form
     → wrongParty (decode bs) ≡ party
     → formRefusal bs ≡ cond (not long) lengthRefused (cond form formRefused (cond party partyRefused 0))
-unfolding formRefusal wrongLength noOperation decode
-form-is [] op p a b c = absurd (omega (arith, p))
+unfolding formRefusal wrongLength noOperation decode layoutOf
+form-is [] op p a b c = absurd (true≢false (sym (p .1) ∙ ap isOperation (p .0)))
 form-is (x ∷ bs) op p a b c =
     rw (
       ne-eqb (length (x ∷ bs)) 0 (λ z. omega arith),
-      is-operation x (omega (arith, p)) (omega (arith, p)),
+      ap isOperation (sym (p .0)) ∙ p .1,
       ap (λ n. eqb (length (x ∷ bs)) (frameLength n)) (sym (p .0)) ∙ a,
       b,
       c,
@@ -104,7 +113,7 @@ unfolding frameLength
 ending-length op l h = ap (λ (y : Layout). y .size) (ending-layout op l h)
 
 -- so where it has another length, or the length of its operation
-module _ (bs : List ℕ) (op : ℕ) (is : (op ≡ byteAt bs 0) × (opWrite ≤ op) × (op ≤ opTick)) where
+module _ (bs : List ℕ) (op : ℕ) (is : (op ≡ byteAt bs 0) × (isOperation op ≡ true)) where
   pub other-length : (length bs ≡ frameLength op → ⊥) → formRefusal bs ≡ lengthRefused
   other-length h = form-is bs op is (ne-eqb (length bs) (frameLength op) h) refl refl
 
@@ -118,7 +127,7 @@ module _ (bs : List ℕ) (op : ℕ) (is : (op ≡ byteAt bs 0) × (opWrite ≤ o
       → formRefusal bs ≡ headRefusal bs op (ltb 15 (byteAt bs 2) || badTemplate (byteAt bs 2) (fieldsAt bs 12))
   unfolding decode
   find-head l m h =
-      right-length _ h (find-form (decode bs) (omega (arith, is)) (omega (arith, is))
+      right-length _ h (find-form (decode bs) (omega (arith, is .0)) (omega (arith, is .0))
       ∙ or-assoc (not (eqb (byteAt bs 3) 0)) (ltb 15 (byteAt bs 2)) (badTemplate (byteAt bs 2) (fieldsAt bs 12)))
 
   pub create-head : op ≡ opCreate → length bs ≡ frameLength op

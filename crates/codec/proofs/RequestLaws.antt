@@ -1,20 +1,20 @@
 -- What the decoder answers: the refusal, or the request that a frame in order stands for.
 use Prim.Native.Nat.{ℕ, _≤_, _<_}
-use mathlib.Core.Bool.{true, false, not, _&&_, _||_, or-true, and-false}
-use mathlib.Core.Logic.{_⊎_, inl, inr}
+use mathlib.Core.Bool.{true, false, not, _&&_, _||_, or-true}
 use mathlib.Core.Option.{some}
 use mathlib.Core.Path.{_≡_, refl, sym, ap, _∙_}
 use mathlib.Core.List.{List}
 use native.Mathlib.Omega.{arith}
 use lib.Dec.{eqb, ltb}
-use lib.ListN.{length}
-use borrow.Author.Tests.{le-leb, le-ltb, eq-eqb, ne-eqb, eqb-true, not-false}
-use Rattle.rules.specs.Numbers.{opWrite, opRead, opTakeIfExists, opCreate, opCommit, opAbort, opTick, operationRefused}
+use lib.ListN.{length, List·getD-eq-default}
+use borrow.Author.Tests.{le-leb, eq-eqb, ne-eqb, eqb-true, not-false}
+use Rattle.rules.specs.Numbers.{opWrite, opRead, opTakeIfExists, opCreate, opCommit, opAbort, opTick, opRenew}
+use Rattle.rules.specs.Numbers.{operationRefused}
 use Rattle.rules.specs.declared.Request.{Request}
-use Rattle.rules.specs.declared.Request.the-variants.{Write, Find, Create, Commit, Abort, Tick}
+use Rattle.rules.specs.declared.Request.the-variants.{Write, Find, Create, Commit, Abort, Renew, Tick}
 use Rattle.rules.specs.declared.Decoded.the-variants.{Asks, Refused}
 use Rattle.rules.specs.Frame.{Frame, decode, byteAt, numberAt, fieldsAt, layoutOf, frameLength, hasTemplate, namesNoTxn}
-use Rattle.rules.specs.Frame.{hasBlanks, layouts, isOperation, isTake, isIfExists}
+use Rattle.rules.specs.Frame.{hasBlanks, Layout, layouts, isOperation, isTake, isIfExists}
 use Rattle.rules.specs.Refusals.{formRows, noOperation, wrongLength, badTemplate, badBlanks, malformed, wrongParty}
 use Rattle.rules.specs.Requests.{plainFrame, frameOf, formRefusal, Decodes}
 use Rattle.rules.proofs.BoolLaws.{or-left, or-right, and-false-right}
@@ -26,13 +26,17 @@ pub refused : (bs : List ℕ) (n : ℕ) → n ≡ formRefusal bs → (n ≡ 0 �
 refused bs n e h = record { number = e; frame = rw (ne-eqb (formRefusal bs) 0 (λ z. h (e ∙ z))) }
 
 -- it has no operation
-pub no-operation : (bs : List ℕ) → (byteAt bs 0 ≡ 0) ⊎ (opTick < byteAt bs 0) → Decodes bs (Refused operationRefused)
+pub no-operation : (bs : List ℕ) → isOperation (byteAt bs 0) ≡ false → Decodes bs (Refused operationRefused)
 unfolding formRefusal noOperation decode
-no-operation bs o = refused bs operationRefused (rw (none (byteAt bs 0) o, or-true)) (λ z. omega arith)
-  where
-    none : (op : ℕ) → (op ≡ 0) ⊎ (opTick < op) → isOperation op ≡ false
-    none op (inl e) = rw e
-    none op (inr h) = rw (le-ltb op (length layouts) h, and-false)
+no-operation bs o = refused bs operationRefused (rw (o, or-true)) (λ z. omega arith)
+
+-- 0, 10 and what is above 11
+pub unused : (op n : ℕ) → op ≡ n → isOperation n ≡ false → isOperation op ≡ false
+unused op n e t = ap isOperation e ∙ t
+
+pub above : (op : ℕ) → opRenew < op → isOperation op ≡ false
+unfolding layoutOf
+above op h = ap (λ (y : Layout). not (eqb (y .size) 0)) (List·getD-eq-default layouts (layoutOf 0) h)
 
 -- a frame that 4 lets pass
 record Formed (f : Frame) : Type 0 where
@@ -127,6 +131,11 @@ module _ (bs : List ℕ) (clear : formRefusal bs ≡ 0) where
   pub abort-asks : byteAt bs 0 ≡ opAbort → Decodes bs (Asks (Abort (byteAt bs 1) (record { 0 = numberAt bs 4 })))
   unfolding frameLength layoutOf
   abort-asks e = asks _ (plain opAbort e refl refl (omega arith) ∙ rw (past opAbort 8 e (omega arith)))
+
+  pub renew-asks : byteAt bs 0 ≡ opRenew
+      → Decodes bs (Asks (Renew (byteAt bs 1) (record { 0 = numberAt bs 4 }) (numberAt bs 8)))
+  unfolding frameLength layoutOf
+  renew-asks e = asks _ (plain opRenew e refl refl (omega arith))
 
   pub tick-asks : byteAt bs 0 ≡ opTick → Decodes bs (Asks Tick)
   unfolding frameLength layoutOf wrongParty decode

@@ -3,7 +3,7 @@ use Prim.Native.Nat.{ℕ}
 use mathlib.Core.Bool.{cond, _||_}
 use mathlib.Core.Path.{_≡_}
 use lib.Dec.{eqb, leb, ltb}
-use Rattle.rules.specs.Numbers.{opTakeIfExists, opCreate, opAbort, opTick}
+use Rattle.rules.specs.Numbers.{opTakeIfExists, opCreate, opAbort, opRenew}
 use Rattle.rules.specs.Frame.{frameLength}
 
 -- "The constant table of frame lengths is to go; the length is worked out from the operation instead." A frame ends
@@ -11,9 +11,9 @@ use Rattle.rules.specs.Frame.{frameLength}
 -- operation has no length.
 unfoldable pub lengthByRule : ℕ → ℕ
 lengthByRule op =
-    cond (eqb op 0 || ltb opTick op) 0
+    cond (eqb op 0 || eqb op 10 || ltb opRenew op) 0
     (cond (leb op opTakeIfExists) 28
-    (cond (leb op opCreate) 12
+    (cond (leb op opCreate || eqb op opRenew) 12
     (cond (leb op opAbort) 8 4)))
 
 -- "Every frame is judged as before": it is the length of document 01's table, for every operation byte 0 to 255, and

@@ -1,8 +1,7 @@
 // A request's frame, written as bytes.
 ghost use mathlib.Core.Path.{_≡_};
-ghost use Prim.Native.Nat.{_≤_};
-ghost use Rattle.rules.specs.Numbers.{opWrite, opTick};
-ghost use Rattle.rules.specs.Frame.{lookUpOp};
+ghost use mathlib.Core.Bool.{true};
+ghost use Rattle.rules.specs.Frame.{isOperation, lookUpOp};
 ghost use Rattle.rules.specs.Records.{noFields};
 ghost use Rattle.rules.specs.Requests.{frame, plainFrame, frameOf};
 ghost use Rattle.codec.specs.Area.{FramePut};
@@ -21,6 +20,7 @@ use rules::numbers::OP_COMMIT;
 use rules::numbers::OP_CREATE;
 use rules::numbers::OP_READ;
 use rules::numbers::OP_READ_IF_EXISTS;
+use rules::numbers::OP_RENEW;
 use rules::numbers::OP_TAKE;
 use rules::numbers::OP_TAKE_IF_EXISTS;
 use rules::numbers::OP_TICK;
@@ -28,7 +28,7 @@ use rules::numbers::OP_WRITE;
 
 // The operation of a look-up, by its kind.
 fn look_up_op(takes: bool, if_exists: bool) -> u8
-    ensures { λ r. ⌜ (r ≡ lookUpOp takes «if_exists») × (opWrite ≤ r) × (r ≤ opTick) ⌝ }
+    ensures { λ r. ⌜ (r ≡ lookUpOp takes «if_exists») × (isOperation r ≡ true) ⌝ }
 {
     if takes {
         if if_exists {
@@ -55,7 +55,7 @@ fn put_numbers(
     lease: u32,
     fields: Fields,
 ) -> usize
-    requires { ⌜ (opWrite ≤ op) × (op ≤ opTick) ⌝ }
+    requires { ⌜ isOperation op ≡ true ⌝ }
     ensures { λ n. ⌜ FramePut (frame op party mask txn lease fields) (now (out .entry)) (now (out .exit)) n ⌝ }
 {
     let n = length_of(op);
@@ -91,7 +91,7 @@ fn no_fields() -> Fields
 
 // One without mask and fields.
 fn put_plain(out: &mut [u8], op: u8, party: u8, txn: u32, lease: u32) -> usize
-    requires { ⌜ (opWrite ≤ op) × (op ≤ opTick) ⌝ }
+    requires { ⌜ isOperation op ≡ true ⌝ }
     ensures { λ n. ⌜ FramePut (plainFrame op party txn lease) (now (out .entry)) (now (out .exit)) n ⌝ }
 {
     put_numbers(out, op, party, 0, txn, lease, no_fields())
@@ -112,6 +112,7 @@ pub fn put_frame(out: &mut [u8], q: Request) -> usize
         Request::Create(party, lease) => put_plain(out, OP_CREATE, party, 0, lease),
         Request::Commit(party, txn) => put_plain(out, OP_COMMIT, party, txn.0, 0),
         Request::Abort(party, txn) => put_plain(out, OP_ABORT, party, txn.0, 0),
+        Request::Renew(party, entry, lease) => put_plain(out, OP_RENEW, party, entry.0, lease),
         Request::Tick => put_plain(out, OP_TICK, 0, 0, 0),
     }
 }

@@ -2,7 +2,7 @@
 ghost use mathlib.Core.Path.{_≡_};
 ghost use Prim.Native.Nat.{_≤_};
 ghost use lib.ListN.{length};
-ghost use Rattle.rules.specs.Numbers.{opWrite, opRead, opTakeIfExists, opCreate, opCommit, opAbort, opTick};
+ghost use Rattle.rules.specs.Numbers.{opWrite, opRead, opTakeIfExists, opCreate, opCommit, opAbort, opTick, opRenew};
 ghost use Rattle.rules.specs.Frame.{byteAt, frameLength};
 ghost use Rattle.rules.specs.Refusals.{someFilled, badTemplate, badBlanks};
 ghost use Rattle.rules.specs.Requests.{Decodes};
@@ -10,6 +10,7 @@ ghost use Rattle.codec.specs.Head.{noParty, headRefusal};
 use crate::bytes::byte_at;
 use crate::bytes::whole_fields;
 use crate::bytes::whole_number;
+use crate::places::ENTRY_NAMED_AT;
 use crate::places::FIELDS_AT;
 use crate::places::FIELDS_END;
 use crate::places::LEASE_AT;
@@ -18,6 +19,7 @@ use crate::places::PARTY_AT;
 use crate::places::TXN_AT;
 use crate::places::ZERO_AT;
 use rules::Decoded;
+use rules::EntryId;
 use rules::Fields;
 use rules::FindRequest;
 use rules::Request;
@@ -31,6 +33,7 @@ use rules::numbers::OP_COMMIT;
 use rules::numbers::OP_CREATE;
 use rules::numbers::OP_READ;
 use rules::numbers::OP_READ_IF_EXISTS;
+use rules::numbers::OP_RENEW;
 use rules::numbers::OP_TAKE;
 use rules::numbers::OP_TAKE_IF_EXISTS;
 use rules::numbers::OP_TICK;
@@ -107,18 +110,21 @@ fn head_refusal(frame: &[u8], op: u8, bad: bool) -> u8
     0
 }
 
+// Between tick and renew, and no operation.
+const UNUSED: u8 = 10;
+
 // The length of an operation's frames, worked out from the operation: a frame ends where the first part would begin
 // that its operation's frames do not have (fields, lease or timeout, transaction); 0 if it is no operation.
 pub(crate) fn length_of(op: u8) -> usize
     ensures { λ r. ⌜ r ≡ frameLength op ⌝ }
 {
-    if (op == 0) | (OP_TICK < op) {
+    if (op == 0) | (op == UNUSED) | (OP_RENEW < op) {
         return 0;
     }
     if op <= OP_TAKE_IF_EXISTS {
         return FIELDS_END;
     }
-    if op <= OP_CREATE {
+    if (op <= OP_CREATE) | (op == OP_RENEW) {
         return FIELDS_AT;
     }
     if op <= OP_ABORT {
@@ -229,6 +235,21 @@ fn decode_tick(frame: &[u8]) -> Decoded
     Decoded::Asks(Request::Tick)
 }
 
+fn decode_renew(frame: &[u8]) -> Decoded
+    requires { ⌜ byteAt (now frame) 0 ≡ opRenew ⌝ }
+    ensures { λ r. ⌜ Decodes (now (frame .entry)) r ⌝ }
+{
+    if frame.len() != length_of(OP_RENEW) {
+        return Decoded::Refused(LENGTH_REFUSED);
+    }
+    let n = head_refusal(frame, OP_RENEW, frame[MASK_AT] != 0);
+    if n != 0 {
+        return Decoded::Refused(n);
+    }
+    let entry = EntryId(whole_number(frame, ENTRY_NAMED_AT));
+    Decoded::Asks(Request::Renew(frame[PARTY_AT], entry, whole_number(frame, LEASE_AT)))
+}
+
 // What a frame asks for, or the first of the refusals 2 to 5 that applies.
 pub fn decode(frame: &[u8]) -> Decoded
     ensures { λ r. ⌜ Decodes (now (frame .entry)) r ⌝ }
@@ -243,6 +264,7 @@ pub fn decode(frame: &[u8]) -> Decoded
         OP_CREATE => decode_create(frame),
         OP_COMMIT..=OP_ABORT => decode_ending(frame, op),
         OP_TICK => decode_tick(frame),
+        OP_RENEW => decode_renew(frame),
         _ => Decoded::Refused(OPERATION_REFUSED),
     }
 }

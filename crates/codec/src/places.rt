@@ -15,6 +15,9 @@ pub(crate) const ZERO_AT: usize = 3;
 
 pub(crate) const LEASE_AT: usize = 8;
 
+// Where a renewal has an entry's number, others have a transaction's.
+pub(crate) const ENTRY_NAMED_AT: usize = 4;
+
 // Of a record.
 pub(crate) const REFUSAL_AT: usize = 2;
 

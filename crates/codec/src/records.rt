@@ -1,8 +1,8 @@
 // Answer records, and their 28 bytes: written, and read.
 ghost use mathlib.Core.Path.{_≡_};
 ghost use Rattle.rules.specs.Template.{markOf, bare};
-ghost use Rattle.rules.specs.Records.{noMark, plain, written, found, refused, recordAt};
-ghost use Rattle.rules.specs.declared.Request.the-variants.{Write};
+ghost use Rattle.rules.specs.Records.{noMark, plain, written, found, renewed, refused, recordAt};
+ghost use Rattle.rules.specs.declared.Request.the-variants.{Write, Renew};
 ghost use Rattle.rules.specs.Requests.{frameOf};
 ghost use Rattle.codec.specs.Area.{recordPut};
 use crate::bytes::byte_at;
@@ -28,6 +28,7 @@ use rules::TxnId;
 use rules::WriteRequest;
 use rules::numbers::KIND_FOUND;
 use rules::numbers::KIND_REFUSED;
+use rules::numbers::KIND_RENEWED;
 use rules::numbers::KIND_WRITTEN;
 use rules::numbers::RECORD_SIZE;
 
@@ -123,6 +124,22 @@ pub fn found_record(w: LookUp, e: Entry) -> Record
     Record {
         kind: KIND_FOUND,
         party: w.party,
+        refusal: 0,
+        txn,
+        entry,
+        fields,
+    }
+}
+
+// An entry has another end.
+pub fn renewed_record(party: u8, entry: EntryId, lease: u32) -> Record
+    ensures { λ r. ⌜ r ≡ renewed (frameOf (Renew party entry lease)) ⌝ }
+{
+    let txn = TxnId(0);
+    let fields = no_mark();
+    Record {
+        kind: KIND_RENEWED,
+        party,
         refusal: 0,
         txn,
         entry,

@@ -10,6 +10,7 @@ use native.Mathlib.Nat.{pow-succ'}
 use borrow.Author.Tests.{eqb-true, eqb-false, ltb-false, not-false}
 use lib.Dec.{eqb, ltb}
 use lib.ListN.{length}
+use Rattle.rules.specs.declared.Entry.{Entry}
 use Rattle.rules.specs.declared.Txn.{Txn}
 use Rattle.rules.specs.declared.LookUp.{LookUp}
 use Rattle.rules.specs.Numbers.{maxParty}
@@ -37,7 +38,7 @@ use Rattle.demands.proofs.ByRule.{space-follows, run-of}
 use Rattle.demands.proofs.JudgedProof.{number-is, refused-model}
 use Rattle.sound.proofs.Events.{Heard, Events, over, then}
 use Rattle.sound.proofs.EventsProof.{step-events}
-use Rattle.sound.proofs.Becomes.{waits-all, txns-all, kept-all}
+use Rattle.sound.proofs.Becomes.{waits-all, txns-all, written-all}
 use Rattle.sound.proofs.ConsistentProof.{consistent-events, consistent-empty, consistent-event}
 use Rattle.demands.proofs.ByEvents.{consistent}
 use Rattle.demands.proofs.Capacities.{bounded}
@@ -92,8 +93,11 @@ NarrowTxn t = (t .party < 256) × (t .slot < 8)
 abbrev NarrowWait : LookUp → Type 0
 NarrowWait w = (w .party < 256) × (w .mask < 256)
 
+abbrev NarrowEntry : Entry → Type 0
+NarrowEntry e = (e .fields .blanks < 256) × (e .writer < 256)
+
 abbrev Narrow : Model → Type 0
-Narrow m = All NarrowTxn (m .txns) × All NarrowWait (m .waits) × All (λ e. e .fields .blanks < 256) (m .entries)
+Narrow m = All NarrowTxn (m .txns) × All NarrowWait (m .waits) × All NarrowEntry (m .entries)
 
 narrow-events : {f : Frame} {m n : Model} {hs : List Heard} → f .party < 256 → f .mask < 256 → Events f m hs n
     → Consistent m → Narrow m → Narrow n
@@ -103,7 +107,7 @@ narrow-events p k (then {m} e rest) s h =
     narrow-events p k rest (consistent-event e s) (
       txns-all NarrowTxn e (λ _ _. (p, slot-fits (m .txns))) (h .0),
       waits-all NarrowWait e (λ _ _. (p, k)) (h .1),
-      kept-all (λ x. x .fields .blanks < 256) e (s .ordered) (λ _ _ _. k) (h .2),
+      written-all (λ n x w. (x .blanks < 256) × (w < 256)) e (s .ordered) (λ _ _. (k, p)) (h .2),
     )
 
 narrow-step : (i : Input) (m : Model) → Consistent m × Narrow m → Narrow (step m (i .frame) (i .area) .model)

@@ -24,6 +24,7 @@ use Rattle.rules.specs.Records.{found, nothing, aborted, exception, isTicked}
 use Rattle.rules.specs.Write.{stored}
 use Rattle.rules.specs.LookUp.{lookUpOf, givesNothing, asked}
 use Rattle.rules.specs.Transactions.{create, commit, abort}
+use Rattle.rules.specs.Renew.{renew}
 use Rattle.rules.specs.Tick.{dropEnded}
 use Rattle.rules.specs.Closing.{closeWaits}
 use Rattle.rules.specs.Refusals.{refusal}
@@ -41,7 +42,7 @@ use Rattle.sound.proofs.AllLaws.{out-or}
 use Rattle.sound.proofs.HoldLaws.{equal-or, eqb-cases}
 use Rattle.sound.proofs.EachLaws.{Each, same-party}
 use Rattle.sound.proofs.Events.{Admitted, Closes, Heard, asking, saying, says, Event, refuses, asks, writes, is-found}
-use Rattle.sound.proofs.Events.{is-nothing, is-waiting, creates, commits, aborts, ticks, excepts, expires}
+use Rattle.sound.proofs.Events.{is-nothing, is-waiting, creates, commits, aborts, renews, ticks, excepts, expires}
 use Rattle.sound.proofs.Becomes.{clock-moves}
 use Rattle.sound.proofs.EventsProof.{over-is, Shut, AtOnce, Rested, Carries, step-carries}
 use Rattle.sound.proofs.Consistent.{owner-inside}
@@ -121,7 +122,7 @@ shut-or w a t i inside =
 -- it waits on, or is closed
 waits-or : {f : Frame} {m n : Model} {hs : List Heard} (w : LookUp) → Event f m hs n → Consistent m → List·Memᴰ w (m .waits)
     → List·Memᴰ w (n .waits) ⊎ (anyb (shuts w) hs ≡ true)
-unfolding stored create commit abort dropEnded aborted exception
+unfolding stored create commit abort renew dropEnded aborted exception
 waits-or w (refuses m bs area q) s i = inl i
 waits-or w (asks m t a) s i = inl (Memᴰ·append-left _ i)
 waits-or w (writes m t a) s i = inl i
@@ -134,6 +135,7 @@ waits-or w (is-nothing m v ws o c) s i =
 waits-or w (is-waiting m v j q n d c) s i = inl i
 waits-or w (creates m t a) s i = inl i
 waits-or w (commits m t a) s i = inl i
+waits-or w (renews m t a) s i = inl i
 waits-or {f} w (aborts m t a) s i =
     let y = a .ends (abort-ends (f .op) t) in
     shut-or w (aborted f) (f .txn) i

@@ -21,7 +21,7 @@ use Rattle.rules.specs.Sound.{ByNumber, At, TxnsOk, Consistent}
 use Rattle.rules.specs.Time.{EndFits}
 use Rattle.rules.proofs.BoolLaws.{bool-cases, and-left, and-right}
 use Rattle.rules.proofs.ListLaws.{any-mem, none-mem}
-use Rattle.rules.proofs.LayoutLaws.{write-leases, lookUp-leases, create-leases}
+use Rattle.rules.proofs.LayoutLaws.{write-leases, renew-leases, lookUp-leases, create-leases}
 use Rattle.rules.proofs.ReaderLaws.{bit-of-zero, no-bits}
 use Rattle.demands.specs.Machine.{Input}
 use Rattle.demands.specs.Bounds.{ReadByLive, OwnTakeHold, Timely}
@@ -46,7 +46,8 @@ timely-event {f} e s h =
           let l = h .clock in ⊎-elim (λ c. omega (arith, c .0)) (λ c. omega (arith, c .0, c .3 .ticks-on (c .2)))
           (clock-moves e);
       entries =
-          kept-all (λ k. EndFits (k .end)) e (s .ordered) (λ t a _. a .in-time (write-leases (f .op) t)) (h .entries);
+          kept-all (λ k. EndFits (k .end)) e (s .ordered) (λ t a _. a .in-time (write-leases (f .op) t))
+          (λ t a _ _ _. a .in-time (renew-leases (f .op) t)) (h .entries);
       txns = txns-all (λ x. EndFits (x .end)) e (λ t a. a .in-time (create-leases (f .op) t)) (h .txns);
       waits = waits-all (λ w. EndFits (w .deadline)) e (λ t a. a .in-time (lookUp-leases (f .op) t)) (h .waits);
     }

@@ -17,10 +17,11 @@ use Rattle.rules.specs.Numbers.{opWrite, forever}
 use Rattle.rules.specs.State.{Model, empty}
 use Rattle.rules.specs.Frame.{Frame, byteAt, numberAt, decode, isWrite, isLookUp}
 use Rattle.rules.specs.Records.{noMark, plain, written, found, nothing, waiting, created, committed, aborted}
-use Rattle.rules.specs.Records.{exception, ticked, refused}
+use Rattle.rules.specs.Records.{exception, ticked, renewed, refused}
 use Rattle.rules.specs.Write.{newEntry, stored}
 use Rattle.rules.specs.LookUp.{lookUpOf}
 use Rattle.rules.specs.Transactions.{create, commit, abort}
+use Rattle.rules.specs.Renew.{renew}
 use Rattle.rules.specs.Tick.{dropEnded}
 use Rattle.rules.specs.Refusals.{badBlanks, malformed, refusal}
 use Rattle.rules.specs.Step.{step}
@@ -35,8 +36,9 @@ use Rattle.demands.specs.History.{recordsOf}
 use Rattle.demands.proofs.Runs.{runs, answersTo}
 use Rattle.sound.proofs.AllLaws.{all-none, all-cons, all-append, out-mem}
 use Rattle.sound.proofs.Events.{Heard, asking, saying, heard, Event, refuses, asks, writes, is-found, is-nothing}
-use Rattle.sound.proofs.Events.{is-waiting, creates, commits, aborts, ticks, excepts, expires, Events, over, then}
-use Rattle.sound.proofs.Becomes.{kept-all, waits-all, txns-all}
+use Rattle.sound.proofs.Events.{is-waiting, creates, commits, aborts, renews, ticks, excepts, expires, Events, over}
+use Rattle.sound.proofs.Events.{then}
+use Rattle.sound.proofs.Becomes.{written-all, waits-all, txns-all}
 use Rattle.sound.proofs.EventsProof.{step-events}
 use Rattle.sound.proofs.ConsistentProof.{consistent-event, consistent-events, consistent-empty}
 use Rattle.demands.proofs.JudgedProof.{refusal-fits}
@@ -145,6 +147,10 @@ written-in : (f : Frame) (n : ℕ) → FrameIn f → n < 4294967296 → InRange 
 unfolding written
 written-in f n h l = range (written f n) (omega arith) (h .party) (omega arith) (h .txn) l none-in
 
+renewed-in : (f : Frame) → FrameIn f → InRange (renewed f)
+unfolding renewed
+renewed-in f h = range (renewed f) (omega arith) (h .party) (omega arith) (omega arith) (h .txn) none-in
+
 refused-in : (bs : List ℕ) (n : ℕ) → FrameIn (decode bs) → n < 256 → InRange (refused bs n)
 unfolding refused decode
 refused-in bs n h l = range (refused bs n) (omega arith) (h .party) l (omega arith) (omega arith) none-in
@@ -163,7 +169,7 @@ says-in h = all-cons h (all-none HeardIn)
 module _ {f : Frame} (h : FrameIn f) where
   heard-in : {m n : Model} {hs : List Heard} → Event f m hs n → Ranged m
       → All HeardIn hs × ((n .nextEntry ≤ forever) × (n .nextTxn ≤ forever))
-  unfolding stored create commit abort dropEnded nothing waiting created committed aborted exception ticked
+  unfolding stored create commit abort renew dropEnded nothing waiting created committed aborted exception ticked
   heard-in (refuses m bs area q) r = (
     says-in (refused-in bs (refusal m bs area) (subst⁻¹ FrameIn q h)
         (let l = refusal-fits m bs area in omega arith)),
@@ -183,6 +189,7 @@ module _ {f : Frame} (h : FrameIn f) where
       (says-in (plain-in 5 _ _ (omega arith) (h .party) (omega arith)), (r .next .0, omega arith))
   heard-in (commits m t a) r = (says-in (plain-in 6 _ _ (omega arith) (h .party) (h .txn)), r .next)
   heard-in (aborts m t a) r = (says-in (plain-in 7 _ _ (omega arith) (h .party) (h .txn)), r .next)
+  heard-in (renews m t a) r = (says-in (renewed-in f h), r .next)
   heard-in (ticks m t a) r = (says-in (plain-in 9 0 0 (omega arith) (omega arith) (omega arith)), r .next)
   heard-in (excepts m t k i q) r =
       let l = r .txns t i in (says-in (plain-in 8 _ _ (omega arith) (l .1) (l .0)), r .next)
@@ -194,8 +201,8 @@ module _ {f : Frame} (h : FrameIn f) where
       record {
         next = heard-in e r .1;
         entries =
-            kept-all KeptIn e (s .ordered)
-            (λ t a _. let l = a .entry-number t in (omega arith, (h .fields, blanks-in f t (a .formed)))) (r .entries);
+            written-all (λ n x w. (n < 4294967296) × MarkIn x) e (s .ordered)
+            (λ t a. let l = a .entry-number t in (omega arith, (h .fields, blanks-in f t (a .formed)))) (r .entries);
         txns = txns-all TxnIn e (λ t a. let l = a .txn-number t in (omega arith, h .party)) (r .txns);
         waits = waits-all WaitIn e (λ t a. (h .txn, h .party)) (r .waits);
       }

@@ -4,14 +4,16 @@ use Rattle.rules.specs.Template.{bit, matches}
 use Rattle.rules.specs.Holds.{liveTxn, addReader, dropReader, readByOther, visible, available, conflicts}
 use Rattle.rules.specs.Frame.{numberAt, decode, layoutOf, frameLength, serves}
 use Rattle.rules.specs.Records.{written, found, nothing, waiting, created, committed, aborted, exception, ticked}
-use Rattle.rules.specs.Records.{refused}
+use Rattle.rules.specs.Records.{renewed, refused}
 use Rattle.rules.specs.LookUp.{lookUpOf, removes, withHold, marked, handOut, givesNothing, answerFound}
 use Rattle.rules.specs.LookUp.{answerNothing, answerWaiting, answer, lookUp}
 use Rattle.rules.specs.Transactions.{freeSlot, create, released, withoutTxn, commit, abort}
+use Rattle.rules.specs.Renew.{storedEntry, renewEntries, renew}
 use Rattle.rules.specs.Service.{serve, service}
 use Rattle.rules.specs.Tick.{endedTxns, abortAll, dropEnded, lapsed, tick}
 use Rattle.rules.specs.Closing.{isOver, closeWaits}
 use Rattle.rules.specs.Refusals.{noOperation, wrongLength, malformed, wrongParty, partyWaits, notLive, notOwn, noLease}
+use Rattle.rules.specs.Refusals.{noEntry, notWriter, notFree}
 use Rattle.rules.specs.Refusals.{tooLate, entriesFull, txnsFull, noNumber, refusal}
 use Rattle.rules.specs.Write.{newEntry, stored, write}
 use Rattle.rules.specs.Step.{ownPart, finish, commitFrame, abortFrame, carriedOut, refusedWith, accepted, step}
@@ -25,7 +27,7 @@ unfolding until reached bit matches liveTxn addReader dropReader readByOther vis
     freeSlot create released withoutTxn commit abort serve service endedTxns abortAll dropEnded lapsed isOver
     closeWaits tick noOperation wrongLength malformed wrongParty partyWaits notLive notOwn noLease tooLate entriesFull
     txnsFull noNumber refusal newEntry stored write ownPart finish commitFrame abortFrame carriedOut refusedWith
-    accepted step
+    accepted step renewed storedEntry renewEntries renew noEntry notWriter notFree
 all-rules = tt
 
 -- and the trays'

@@ -15,7 +15,7 @@ use Rattle.rules.specs.Records.{noFields, recordBytes}
 use Rattle.rules.specs.Step.{step}
 use Rattle.rules.specs.Tray.{runTray, hostNumber}
 use Rattle.rules.specs.Print.{digits, line, recordLine, doneLine, printed}
-use Rattle.demands.specs.Frames.{write-blank, Found-blank}
+use Rattle.demands.specs.Frames.{write-blank, Found-blank, renew-by, Renewed}
 use Rattle.demands.specs.Frames.{F, E, long, write-by, read-by, take-by, create-by, commit-by, abort-by, a-tick}
 use Rattle.demands.specs.Frames.{times, Written, Found, Nothing, Created, Committed, Aborted, Exception, Ticked}
 use Rattle.demands.specs.Frames.{Refused}
@@ -136,6 +136,8 @@ refusals : Refused-with
     ((empty, [], 2)
     ∷ (empty, 0 ∷ 5 ∷ [], 2)
     ∷ (empty, 10 ∷ 5 ∷ [], 2)
+    ∷ (empty, 12 ∷ 5 ∷ [], 2)
+    ∷ (empty, take 11 (renew-by 1 1 9), 3)
     ∷ (empty, 9 ∷ 0 ∷ 0 ∷ [], 3)
     -- byte 3, a mask above 15, a blank that is not 0, a template's field without its bit, a transaction in a create
     ∷ (empty, 9 ∷ 0 ∷ 0 ∷ 1 ∷ [], 4)
@@ -148,6 +150,8 @@ refusals : Refused-with
     ∷ (empty, create-by 17 9, 5)
     ∷ (empty, 9 ∷ 1 ∷ 0 ∷ 0 ∷ [], 5)
     ∷ (one-waits, create-by 1 9, 6)
+    ∷ (one-waits, renew-by 1 1 9, 6)
+    ∷ (withClock 4294967294 empty, renew-by 1 1 9, 18)
     ∷ (empty, write-by 1 1 9 E, 7)
     ∷ (empty, commit-by 1 0, 7)
     ∷ (empty, create-by 1 0, 9)
@@ -246,6 +250,25 @@ pub record Blanks : Type 0 where
 blanks : Blanks
 unfolding all-rules answers answersFrom
 blanks = record { null-rule = refl; kept = refl }
+
+-- "Renewing a mark"
+pub record Renewing : Type 0 where
+  -- E, which would end at 2, is renewed by 3 at clock 1: found at 3, gone at 4
+  pub from-now : later 3 (write-by 1 0 2 E ∷ a-tick ∷ renew-by 1 1 3 ∷ a-tick ∷ a-tick ∷ read-by 2 0 0 7 ∷ a-tick
+      ∷ read-by 2 0 0 7 ∷ [])
+      ≡ (Ticked ∷ []) ∷ (Ticked ∷ []) ∷ (Found 2 0 1 E ∷ []) ∷ (Ticked ∷ []) ∷ (Nothing 2 0 ∷ []) ∷ []
+  -- lease 0 removes it in this step; then no stored entry has that number
+  pub removes : later 1 (write-by 1 0 9 E ∷ renew-by 1 1 0 ∷ read-by 2 0 0 7 ∷ renew-by 1 1 9 ∷ [])
+      ≡ (Renewed 1 1 ∷ []) ∷ (Nothing 2 0 ∷ []) ∷ (Refused 1 18 ∷ []) ∷ []
+  -- by its writer alone, and while nobody holds it; a hold of the party's own bars it too
+  pub barred : later 1 (write-by 1 0 9 E ∷ renew-by 2 1 5 ∷ create-by 1 9 ∷ read-by 1 1 0 7 ∷ renew-by 1 1 5
+      ∷ commit-by 1 1 ∷ renew-by 1 1 5 ∷ [])
+      ≡ (Refused 2 19 ∷ []) ∷ (Created 1 1 ∷ []) ∷ (Found 1 1 1 E ∷ []) ∷ (Refused 1 20 ∷ []) ∷ (Committed 1 1 ∷ [])
+      ∷ (Renewed 1 1 ∷ []) ∷ []
+
+renewing : Renewing
+unfolding all-rules answers answersFrom
+renewing = record { from-now = refl; removes = refl; barred = refl }
 
 -- the bytes of a record
 found-bytes : recordBytes (Found-blank 2 0 1 1 (F 0 1 40 258))

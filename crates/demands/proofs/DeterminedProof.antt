@@ -1,9 +1,9 @@
 -- A space that meets demands 1 and 2 answers as the rules do; so demand 3 follows.
 use Prim.Native.Nat.{ℕ, suc, _*_, _≤_, _<_}
-use mathlib.Core.Bool.{true, false, _||_}
+use mathlib.Core.Bool.{Bool, true, false, _&&_, _||_}
 use mathlib.Core.Logic.{_⊎_, inl, inr, ⊎-elim}
 use mathlib.Core.Path.{_≡_, refl, sym, ap, ap₂, _∙_, subst, subst⁻¹}
-use mathlib.Core.Option.{Option, none}
+use mathlib.Core.Option.{Option, none, some}
 use mathlib.Core.List.{List, [], _∷_, _++_, map, List·Memᴰ, Memᴰ·of-map, Memᴰ·cast}
 use native.Mathlib.Omega.{arith}
 use borrow.Author.Tests.{eqb-true, eqb-false, eq-eqb, leb-false}
@@ -13,26 +13,28 @@ use Rattle.rules.specs.declared.Entry.{Entry}
 use Rattle.rules.specs.declared.Record.{Record}
 use Rattle.rules.specs.declared.Txn.{Txn}
 use Rattle.rules.specs.declared.TxnId.{TxnId}
-use Rattle.rules.specs.Lists.{filterb, anyb, distinct}
+use Rattle.rules.specs.Lists.{filterb, findb, anyb, distinct}
 use Rattle.rules.specs.State.{Model, empty}
 use Rattle.rules.specs.Holds.{liveTxn}
 use Rattle.rules.specs.Numbers.{maxTxns}
-use Rattle.rules.specs.Frame.{decode, isCreate}
+use Rattle.rules.specs.Frame.{entryNamed, decode, isCreate}
 use Rattle.rules.specs.Records.{waiting, refused, answerBytes, areaAfter}
 use Rattle.rules.specs.Transactions.{privateTo}
+use Rattle.rules.specs.Renew.{hasNumber, storedEntry}
+use Rattle.rules.specs.Refusals.{isMissing, noEntry, isBy, notWriter, isFree, notFree}
 use Rattle.rules.specs.Refusals.{partyWaits, notLive, isOf, notOwn, tooLate, entriesFull, txnsFull, noNumber, refusal}
 use Rattle.rules.specs.Step.{Outcome, step, accepted}
 use Rattle.rules.specs.Allowed.{Answered}
 use Rattle.rules.specs.SerialRun.{Logged, Kept, keptOf, Run, committedIn, numbersOf}
 use Rattle.rules.specs.Sound.{Ascending, TxnsOk, Consistent}
-use Rattle.rules.proofs.ListLaws.{mem-any}
-use Rattle.rules.proofs.BoolLaws.{bool-cases, and-false-right}
+use Rattle.rules.proofs.ListLaws.{mem-any, any-find, find-some, any-none, none-any, some-any}
+use Rattle.rules.proofs.BoolLaws.{option-cases, bool-cases, and-false-right}
 use Rattle.rules.proofs.RefusalLaws.{clear}
 use Rattle.rules.proofs.DistinctLaws.{distinct-filter}
 use Rattle.demands.specs.Machine.{Handed, Machine, answeredBy, theRules}
 use Rattle.demands.specs.History.{logged, History, begun, handed, handedOf, answersOf, Made, inputsOf}
 use Rattle.demands.specs.Judged.{Judged}
-use Rattle.demands.specs.Book.{LiveTold, Book, Booked}
+use Rattle.demands.specs.Book.{LiveTold, writerOf, Book, Booked}
 use Rattle.demands.specs.Told.{Told, AsTold, Explained}
 use Rattle.demands.specs.Demands.{Demand1, Demand2, Demand3}
 use Rattle.demands.specs.Consequences.{Consequences}
@@ -47,7 +49,7 @@ use Rattle.demands.proofs.JudgedProof.{number-is, refused-record, no-re
 use Rattle.sound.proofs.OwnPartLaws.{step-accepted}
 use Rattle.demands.proofs.SaidProof.{said-given}
 use Rattle.demands.proofs.Twins.{same-test, cond-both, Matched, matched-filter, matched-map, SameLive, live-ind}
-use Rattle.demands.proofs.Twins.{other-live, Like, Twins, Roomy, said-twins}
+use Rattle.demands.proofs.Twins.{matched-any, other-live, zero-same, Like, Twins, Roomy, said-twins}
 
 -- ---- two spaces with the same log are twins
 
@@ -74,22 +76,26 @@ same-taker a b f g =
     (λ q. let z = eqb-false b 0 q in g b (omega arith) refl) (bool-cases (eqb b 0)))
     (λ p. let z = eqb-false a 0 p in sym (f a (omega arith) refl)) (bool-cases (eqb a 0))
 
-module _ {r : Run} {m n : Model} (x : Explained r m) (y : Explained r n) where
+module _ {b : Book} {r : Run} {m n : Model} (p : Booked b m) (q : Booked b n) (x : Explained r m)
+    (y : Explained r n) where
   like-told : (e u : Entry) → List·Memᴰ e (m .entries) → List·Memᴰ u (n .entries) → (z : Told) → AsTold (m .txns) e z
       → AsTold (n .txns) u z → Like (m .txns) (n .txns) e u
-  like-told e u i j z p q =
+  like-told e u i j z v w =
+      let same = v .kept ∙ sym (w .kept) in
       record {
-        kept = p .kept ∙ sym (q .kept);
-        owner = ap (λ (k : ℕ). record { 0 = k }) (p .«private_to» ∙ sym (q .«private_to»));
+        kept = same;
+        owner = ap (λ (k : ℕ). record { 0 = k }) (v .«private_to» ∙ sym (w .«private_to»));
         taker =
             ap (λ (k : ℕ). record { 0 = k })
-            (same-taker (e .«taken_by» .0) (u .«taken_by» .0) (λ t k h. q .«taken_by» t k .1 (p .«taken_by» t k .0 h))
-            (λ t k h. p .«taken_by» t k .1 (q .«taken_by» t k .0 h)));
+            (same-taker (e .«taken_by» .0) (u .«taken_by» .0) (λ t k h. w .«taken_by» t k .1 (v .«taken_by» t k .0 h))
+            (λ t k h. v .«taken_by» t k .1 (w .«taken_by» t k .0 h)));
+        writer =
+            p .writers e i ∙ ap (λ (k : Kept). writerOf (k .number) (b .writers)) same ∙ sym (q .writers u j);
         held = record {
-          bits = λ a b k l h.
-              same-test _ _ (λ t. q .readers b l .1
-              (subst (λ (c : ℕ). List·Memᴰ c (z .readers)) h (p .readers a k .0 t)))
-              (λ t. p .readers a k .1 (subst⁻¹ (λ (c : ℕ). List·Memᴰ c (z .readers)) h (q .readers b l .0 t)));
+          bits = λ a c k l h.
+              same-test _ _ (λ t. w .readers c l .1
+              (subst (λ (d : ℕ). List·Memᴰ d (z .readers)) h (v .readers a k .0 t)))
+              (λ t. v .readers a k .1 (subst⁻¹ (λ (d : ℕ). List·Memᴰ d (z .readers)) h (w .readers c l .0 t)));
           live = λ k. x .holders-live e k i;
           live′ = λ k. y .holders-live u k j;
         };
@@ -124,7 +130,7 @@ twins-told m n p q x y s =
         ok′ = subst⁻¹ (λ k. TxnsOk k (n .txns)) txn (s .txns-ok);
         live = live;
       };
-      entries = entries-told x y;
+      entries = entries-told p q x y;
     }
 
 -- ---- twins refuse alike
@@ -143,10 +149,38 @@ no-more es xs same d h =
           (eq-eqb (x .0 .id .0) p (sym (same (e .0) (x .0) (x .2)) ∙ e .2))),
     )
 
+-- the entry that a frame names, if it is stored, is the same but for its readers' bits
+named-same : (m n : Model) (k : ℕ) → Twins m n
+    → ((x y : Entry) → List·Memᴰ x (n .entries) → List·Memᴰ y (n .entries) → x .id .0 ≡ y .id .0 → x ≡ y)
+    → (T : Option Entry → Bool)
+    → ((e x : Entry) → Like (m .txns) (n .txns) e x → T (some e) ≡ T (some x))
+    → T (storedEntry k (m .entries)) ≡ T (storedEntry k (n .entries))
+unfolding storedEntry
+named-same m n k t unique T same = go (option-cases (findb (hasNumber k) (m .entries)))
+  where
+    any : anyb (hasNumber k) (m .entries) ≡ anyb (hasNumber k) (n .entries)
+    any =
+        matched-any (t .entries) (hasNumber k) (hasNumber k)
+        (λ e x l. ap (λ (j : Kept). eqb (j .number) k) (l .kept))
+
+    go : (findb (hasNumber k) (m .entries) ≡ none) ⊎ ((e : Entry) × (findb (hasNumber k) (m .entries) ≡ some e))
+        → T (findb (hasNumber k) (m .entries)) ≡ T (findb (hasNumber k) (n .entries))
+    go (inl q) =
+        ap T (q ∙ sym (any-none (hasNumber k) (n .entries) (sym any ∙ none-any (hasNumber k) (m .entries) q)))
+    go (inr (e, q)) =
+        let found = find-some (hasNumber k) (m .entries) q in
+        let x = t .entries .forth e (found .0) in
+        let y = any-find (hasNumber k) (n .entries) (sym any ∙ some-any (hasNumber k) (m .entries) q) in
+        let other = find-some (hasNumber k) (n .entries) (y .1) in
+        let number = sym (ap (λ (j : Kept). j .number) (x .2 .kept)) ∙ eqb-true _ k (found .1) in
+        let one = unique (x .0) (y .0) (x .1) (other .0) (number ∙ sym (eqb-true _ k (other .1))) in
+        ap T q ∙ same e (x .0) (x .2) ∙ ap (λ z. T (some z)) one ∙ ap T (sym (y .1))
+
 refusal-same : (m n : Model) (bs : List ℕ) (area : ℕ) → Twins m n → length (m .entries) ≡ length (n .entries)
+    → ((x y : Entry) → List·Memᴰ x (n .entries) → List·Memᴰ y (n .entries) → x .id .0 ≡ y .id .0 → x ≡ y)
     → refusal m bs area ≡ refusal n bs area
-unfolding refusal partyWaits notLive notOwn liveTxn tooLate entriesFull txnsFull noNumber
-refusal-same m n bs area t entries =
+unfolding refusal noEntry notWriter notFree partyWaits notLive notOwn liveTxn tooLate entriesFull txnsFull noNumber
+refusal-same m n bs area t entries unique =
     let f = decode bs in
     let waits : m .waits ≡ n .waits = ap (λ k. k .waits) (t .same) in
     let clock : m .clock ≡ n .clock = ap (λ k. k .clock) (t .same) in
@@ -165,7 +199,16 @@ refusal-same m n bs area t entries =
     (m .txns) (n .txns) live in
     let txns =
     live-ind (λ ts us. length ts ≡ length us) refl (λ x y ts us q below. ap suc below) (m .txns) (n .txns) live in
-    rw (waits, any, own, clock, entries, txns, next-entry, next-txn)
+    let named = named-same m n (entryNamed f) t unique in
+    let missing = named isMissing (λ e x l. refl) in
+    let by = named (isBy (f .party)) (λ e x l. ap (λ w. eqb w (f .party)) (l .writer)) in
+    let free = named isFree (λ e x l. free-same l) in
+    rw (waits, missing, by, free, any, own, clock, entries, txns, next-entry, next-txn)
+  where
+    free-same : {e x : Entry} → Like (m .txns) (n .txns) e x → isFree (some e) ≡ isFree (some x)
+    free-same l =
+        ap₂ (λ a b. a && b) (ap₂ (λ (a b : TxnId). eqb (a .0) 0 && eqb (b .0) 0) (l .owner) (l .taker))
+        (zero-same (t .peers .live) (l .held))
 
 -- ---- twins answer alike
 
@@ -232,6 +275,7 @@ module _ (S : Machine) (d1 : Demand1 S) (d2 : Demand2 S) where
     same-refusal : (h : Handed)
         → refusal (S .view t) (h .frame) (length (h .area)) ≡ refusal n (h .frame) (length (h .area))
     same-refusal h = refusal-same (S .view t) n (h .frame) (length (h .area)) twins same-length
+        (λ x y i j. ascend-unique (λ (e : Entry). e .id .0) (stands .0) i j)
 
     module _ {h : Handed} {u : S .State} {a : Answered} (p : S .Steps t h u a) where
       abbrev code : ℕ

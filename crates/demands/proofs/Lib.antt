@@ -24,6 +24,7 @@ pub mod SerialRunAgree
 pub mod SerialRunWrite
 pub mod SerialRunFound
 pub mod SerialRunEnd
+pub mod SerialRunRenew
 pub mod SerialRunProof
 -- a space whose steps the rules give meets the demands
 pub mod Follows

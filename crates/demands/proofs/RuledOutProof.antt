@@ -14,28 +14,30 @@ use Rattle.rules.specs.Lists.{anyb}
 use Rattle.rules.specs.State.{Model, empty}
 use Rattle.rules.specs.Frame.{decode, fourBytes}
 use Rattle.rules.specs.Records.{noFields}
+use Rattle.rules.specs.Time.{reached}
 use Rattle.rules.specs.Refusals.{refusal}
 use Rattle.rules.specs.Step.{step, carriedOut}
 use Rattle.rules.specs.Allowed.{Answered}
 use Rattle.rules.specs.Template.{markOf}
 use Rattle.rules.specs.SerialRun.{Logged, Kept, sameFields, isKept, failed, taking, carryOut, carryOutAll, perform}
 use Rattle.rules.specs.SerialRun.{listOf, thrownAway, lastTakes, advanced, follow, followAll, wasRefused, noteLookUp}
-use Rattle.rules.specs.SerialRun.{followLog, serialRun, left, committedIn, Serial}
+use Rattle.rules.specs.SerialRun.{followLog, serialRun, left, committedIn, Serial, renewing}
 use Rattle.rules.specs.Sound.{Ascending}
 use Rattle.rules.proofs.ListLaws.{none-mem}
 use Rattle.rules.proofs.BoolLaws.{and-left, and-right}
 use Rattle.demands.specs.Machine.{Handed, Stepper, StepsBy, answeredBy, spaceOf}
 use Rattle.demands.specs.History.{History, begun, handed, Made}
-use Rattle.demands.specs.Book.{enters, entersAll, arrives, keepBook, bookOf}
+use Rattle.demands.specs.Book.{writerOf, enters, entersAll, arrives, keepBook, bookOf}
 use Rattle.demands.specs.Told.{Told, readsNumber, whoTakes, whoReads, committedTold, privateTold, told}
 use Rattle.demands.specs.Demands.{Demand1, Demand2, Demand3}
 use Rattle.demands.specs.Frames.{E, write-by, read-by, take-by, readIfExists-by, create-by, commit-by, abort-by}
-use Rattle.demands.specs.Frames.{F, a-tick, write-blank}
+use Rattle.demands.specs.Frames.{F, a-tick, write-blank, renew-by}
 use Rattle.demands.specs.RuledOut.{saysNothing, saysWaiting, refusesAll, sameRecord, storesNothing}
 use Rattle.demands.specs.RuledOut.{firstFrameOnly, oneMore, losesCommit, putsBackLate, ownReadBars, nothingFirst}
 use Rattle.demands.specs.RuledOut.{showsPrivate, ignoresWrites, writesTwice, ticksAtWrites, neverExpires}
 use Rattle.demands.specs.RuledOut.{lastExceptionFirst, lastServedFirst, servesEnded, newestFirst, waitsInVain}
 use Rattle.demands.specs.RuledOut.{givesUpFirst, byParty, nothingsByParty, newestInService, takesLongCommits}
+use Rattle.demands.specs.RuledOut.{renewsFromTheWrite, renewsHeld, renewsAnothers, leavesLease0, forgetsWriter}
 use Rattle.demands.specs.RuledOut.{matchesBlanks, losesBlanks, leavesByte3, takesFilledBlanks, refusesBlanks}
 use Rattle.demands.specs.RuledOut.{gives14, keepsWithdrawn, withdrawnGetsNothing, abortsAny, RuledOut}
 use Rattle.sound.proofs.AllLaws.{all-none, all-cons, all-map}
@@ -73,13 +75,15 @@ played does m [] = begun m
 played does m (f ∷ fs) =
     handed (handIn f) (answerTo does m f) (one-step does m f) (played does (does m f 700 .model) fs)
 
-pub from-empty : (does : Stepper) (fs : List (List ℕ)) → Made (spaceOf does) (logOf does empty fs) (lastOf does empty fs)
+pub from-empty : (does : Stepper) (fs : List (List ℕ)) → Made (spaceOf does) (logOf does empty fs)
+    (lastOf does empty fs)
 from-empty does fs = (empty, refl, played does empty fs)
 
 -- the serial run, and what it tells, computed
 unfoldable all-told : Unit {0}
 unfolding sameFields isKept failed taking carryOut carryOutAll perform listOf thrownAway lastTakes advanced follow
-    followAll wasRefused noteLookUp followLog serialRun left committedIn readsNumber whoTakes whoReads committedTold
+    followAll wasRefused noteLookUp renewing followLog serialRun left committedIn readsNumber whoTakes whoReads
+    committedTold
     privateTold told
 all-told = tt
 
@@ -159,7 +163,9 @@ unfolding all-rules all-told lastOf logOf answeredBy orderedb saysNothing saysWa
     storesNothing firstFrameOnly losesCommit putsBackLate ownReadBars nothingFirst showsPrivate ignoresWrites
     writesTwice ticksAtWrites neverExpires lastExceptionFirst lastServedFirst servesEnded newestFirst newestInService
     takesLongCommits gives14 keepsWithdrawn withdrawnGetsNothing abortsAny waitsInVain givesUpFirst nothingsByParty
-    matchesBlanks losesBlanks leavesByte3 takesFilledBlanks refusesBlanks byParty enters entersAll arrives keepBook bookOf
+    matchesBlanks losesBlanks leavesByte3 takesFilledBlanks refusesBlanks
+    renewsFromTheWrite renewsHeld renewsAnothers leavesLease0 forgetsWriter writerOf byParty enters entersAll arrives
+    keepBook bookOf
 each-ruled-out =
     record {
       says-nothing = λ d.
@@ -194,7 +200,8 @@ each-ruled-out =
       puts-back-late = λ d.
           let s =
           by-serial putsBackLate d (write-by 1 0 1 E ∷ create-by 1 9 ∷ take-by 1 1 0 7 ∷ a-tick ∷ abort-by 1 1 ∷ []) in
-          List·Memᴰ·not-nil (s .same (record { number = 1; fields = markOf 0 E; end = Tick 1 }) .1 (List·Memᴰ·head refl));
+          List·Memᴰ·not-nil (s .same (record { number = 1; fields = markOf 0 E; end = Tick 1 }) .1
+              (List·Memᴰ·head refl));
       own-read-bars = λ d.
           by-said ownReadBars d (write-by 1 0 9 E ∷ create-by 1 9 ∷ read-by 1 1 0 7 ∷ []) (take-by 1 1 0 7) refl refl
           (kindAt 0) (λ (q : 2 ≡ 3). omega arith);
@@ -281,5 +288,26 @@ each-ruled-out =
           let q : _≡_ {A = ℕ} 0 4 = by-judged takesFilledBlanks d [] (write-blank 1 0 9 1 E) in omega arith;
       refuses-blanks = λ d.
           let q : _≡_ {A = ℕ} 4 0 = by-judged refusesBlanks d [] (write-blank 1 0 9 8 (F 7 1 40 0)) in omega arith;
+      -- E, written with lease 9 at clock 0, and renewed by 5: it ends at 5, and not at 14
+      renews-from-the-write = λ d.
+          let s = by-serial renewsFromTheWrite d (write-by 1 0 9 E ∷ renew-by 1 1 5 ∷ []) in
+          let k : Kept = record { number = 1; fields = markOf 0 E; end = Tick 5 } in
+          true≢false (none-mem (λ x. reached 13 (x .end)) refl (s .same k .0 (List·Memᴰ·head refl)));
+      renews-held = λ d.
+          let q : _≡_ {A = ℕ} 0 20 =
+          by-judged renewsHeld d (write-by 1 0 9 E ∷ create-by 2 9 ∷ read-by 2 1 0 7 ∷ []) (renew-by 1 1 5) in omega
+          arith;
+      renews-anothers = λ d.
+          let q : _≡_ {A = ℕ} 0 19 = by-judged renewsAnothers d (write-by 1 0 9 E ∷ []) (renew-by 2 1 5) in omega arith;
+      -- what is told ends now, and is stored
+      leaves-lease-0 = λ d.
+          let fs = write-by 1 0 9 E ∷ renew-by 1 1 0 ∷ [] in
+          let s = d .told (logOf leavesLease0 empty fs) (lastOf leavesLease0 empty fs) (from-empty leavesLease0 fs) in
+          List·Memᴰ·not-nil (s .stored-told _ (List·Memᴰ·head refl) .1);
+      forgets-writer = λ d.
+          let fs = create-by 1 9 ∷ write-by 1 1 9 E ∷ commit-by 1 1 ∷ [] in
+          let b =
+          d .booked (logOf forgetsWriter empty fs) (lastOf forgetsWriter empty fs) (from-empty forgetsWriter fs) in
+          let q : _≡_ {A = ℕ} 0 1 = b .writers _ (List·Memᴰ·head refl) in omega arith;
       answers-none = λ d. d .answers [] empty (empty, refl, begun empty) (handIn a-tick) .2;
     }

@@ -19,6 +19,7 @@ use Rattle.rules.specs.Write.{stored, write}
 use Rattle.rules.specs.LookUp.{lookUpOf, givesNothing, answer, answerFound, answerNothing, answerWaiting, lookUp}
 use Rattle.rules.specs.Transactions.{create, commit, abort}
 use Rattle.rules.specs.Service.{Served, serve, service}
+use Rattle.rules.specs.Renew.{renew}
 use Rattle.rules.specs.Tick.{tick, endedTxns, abortAll, dropEnded, lapsed as lapsedPart}
 use Rattle.rules.specs.Closing.{isOver, closeWaits}
 use Rattle.rules.specs.Refusals.{refusal}
@@ -26,14 +27,15 @@ use Rattle.rules.specs.Step.{step, Outcome, ownPart, finish, carriedOut, accept
 use Rattle.rules.proofs.ListLaws.{none-any, any-none}
 use Rattle.rules.proofs.BoolLaws.{cond-cases}
 use Rattle.rules.proofs.LayoutLaws.{lookUp-cases, write-serves, lookUp-serves, create-serves, commit-serves}
-use Rattle.rules.proofs.LayoutLaws.{abort-serves, tick-serves}
+use Rattle.rules.proofs.LayoutLaws.{abort-serves, renew-serves, tick-serves}
 use Rattle.rules.proofs.StepCases.{own-cases, serve-ind, serve-none, serve-some}
 use Rattle.rules.proofs.RefusalLaws.{clear, is-one}
 use Rattle.demands.specs.Said.{endNow, entriesLeft, inVain, Own, writes, finds, finds-none, waits, creates}
-use Rattle.demands.specs.Said.{commits, aborts, ticks, Serves, gone-through, is-found, waits-on, isServed}
+use Rattle.demands.specs.Said.{commits, aborts, renews, ticks, Serves, gone-through, is-found, waits-on, isServed}
 use Rattle.demands.specs.Said.{Service, follows, follows-not, exceptions, lapsed, nothings, Ends, in-order, Said}
 use Rattle.demands.specs.Said.{own-first}
 use Rattle.sound.proofs.OrderLaws.{Numbered, InOrder, numbered-filter, handed-numbered, freed-numbered, stored-order}
+use Rattle.sound.proofs.OrderLaws.{renewed-numbered}
 use Rattle.demands.proofs.OldestLaws.{oldest-said, oldest-given}
 use Rattle.sound.proofs.OwnPartLaws.{step-accepted, part-at, part-lookUp}
 
@@ -57,6 +59,7 @@ own-serves {f} (waits t u g) = lookUp-serves f t ∙ sym (lookUp-not-served f t)
 own-serves {f} (creates t) = create-serves f t ∙ sym (served-at f (eqb-true (f .op) 6 t))
 own-serves {f} (commits t) = commit-serves f t ∙ sym (served-at f (eqb-true (f .op) 7 t))
 own-serves {f} (aborts t) = abort-serves f t ∙ sym (served-at f (eqb-true (f .op) 8 t))
+own-serves {f} (renews t) = renew-serves f t ∙ sym (served-at f (eqb-true (f .op) 11 t))
 own-serves {f} (ticks t) = tick-serves f t ∙ sym (served-at f (eqb-true (f .op) 9 t))
 
 -- ---- the end of a step, in its parts
@@ -97,7 +100,7 @@ module _ (f : Frame) (m : Model) where
 -- ---- the entries stand by number still, when service begins
 
 own-order : {f : Frame} {m n : Model} {a : Record} → Own f m a n → InOrder m → InOrder n
-unfolding stored create commit abort
+unfolding stored create commit abort renew
 own-order {f} {m} (writes t) h = stored-order m f h
 own-order {f} {m} (finds e t o) h = handed-numbered (m .txns) (lookUpOf m f) e (m .entries) h
 own-order (finds-none t u g) h = h
@@ -105,6 +108,7 @@ own-order (waits t u g) h = h
 own-order (creates t) h = h
 own-order {f} {m} (commits t) h = freed-numbered (m .txns) (f .txn) _ (m .entries) h
 own-order {f} {m} (aborts t) h = freed-numbered (m .txns) (f .txn) _ (m .entries) h
+own-order {f} {m} (renews t) h = renewed-numbered m f h
 own-order (ticks t) h = h
 
 abortAll-order : (ts : List Txn) (m : Model) → InOrder m → InOrder (abortAll ts m)
@@ -132,10 +136,10 @@ answer-own f m h t none q =
 
 own-said : (m : Model) (f : Frame) → InOrder m → isOperation (f .op) ≡ true
     → Own f m (ownPart m f .own) (ownPart m f .model)
-unfolding write lookUp create commitFrame abortFrame tick
+unfolding write lookUp create commitFrame abortFrame renew tick
 own-said m f h is =
     own-cases (λ (c : Carried). Own f m (c .own) (c .model)) m f is writes (λ t. answer-own f m h t _ refl) creates
-    commits aborts ticks
+    commits aborts renews ticks
 
 service-said : (f : Frame) (m : Model) → InOrder m
     → let d = servedBy f m in Service f m (d .records) (d .model .waits) (d .model .entries)
@@ -211,7 +215,7 @@ none-given f m b t u g =
 
 own-given : {f : Frame} {m n : Model} {a : Record} → Own f m a n → InOrder m
     → ownPart m f ≡ record { model = n; own = a }
-unfolding write create commitFrame abortFrame tick lookUp answer answerFound answerNothing answerWaiting
+unfolding write create commitFrame abortFrame renew tick lookUp answer answerFound answerNothing answerWaiting
 own-given {f} {m} (writes t) h = part-at m f (eqb-true (f .op) 1 t)
 own-given {f} {m} (finds e t o) h =
     part-lookUp m f t ∙ ap (answer m (lookUpOf m f) (f .leaseOrTimeout)) (oldest-given h o)
@@ -220,6 +224,7 @@ own-given {f} {m} (waits t u g) h = none-given f m false t u g
 own-given {f} {m} (creates t) h = part-at m f (eqb-true (f .op) 6 t)
 own-given {f} {m} (commits t) h = part-at m f (eqb-true (f .op) 7 t)
 own-given {f} {m} (aborts t) h = part-at m f (eqb-true (f .op) 8 t)
+own-given {f} {m} (renews t) h = part-at m f (eqb-true (f .op) 11 t)
 own-given {f} {m} (ticks t) h = part-at m f (eqb-true (f .op) 9 t)
 
 pub said-given : {f : Frame} {m : Model} {rs : List Record} → Said f m rs → InOrder m → carriedOut m f .records ≡ rs

@@ -14,33 +14,34 @@ use Rattle.rules.specs.declared.Record.{Record}
 use Rattle.rules.specs.declared.Txn.{Txn}
 use Rattle.rules.specs.declared.LookUp.{LookUp}
 use Rattle.rules.specs.Lists.{filterb, anyb, distinct, All}
-use Rattle.rules.specs.Time.{reached}
+use Rattle.rules.specs.Time.{until, reached}
 use Rattle.rules.specs.State.{Model, empty, withClock}
-use Rattle.rules.specs.Frame.{Frame, isTake}
+use Rattle.rules.specs.Frame.{Frame, entryNamed, isTake}
 use Rattle.rules.specs.Records.{written, found, nothing, waiting, created, committed, aborted, exception, ticked}
-use Rattle.rules.specs.Records.{refused}
+use Rattle.rules.specs.Records.{renewed, refused}
 use Rattle.rules.specs.Write.{newEntry, stored}
 use Rattle.rules.specs.Holds.{available}
 use Rattle.rules.specs.LookUp.{lookUpOf, handOut}
 use Rattle.rules.specs.Transactions.{create, commit, abort, privateTo}
+use Rattle.rules.specs.Renew.{renewEntries, renew}
 use Rattle.rules.specs.Tick.{dropEnded}
 use Rattle.rules.specs.SerialRun.{Kept, Operation, adds, finds, Pending, Run, start, isKept, withPending, failed}
 use Rattle.rules.specs.SerialRun.{taking, carryOut, carryOutAll, perform, listOf, thrownAway, lastTakes, advanced}
 use Rattle.rules.specs.SerialRun.{follow, followAll, noteLookUp, followLog, serialRun, left, keptOf, committedIn}
-use Rattle.rules.specs.SerialRun.{numbersOf, Serial, writtenBy}
+use Rattle.rules.specs.SerialRun.{numbersOf, Serial, writtenBy, renewing}
 use Rattle.rules.specs.Sound.{Ascending, ByNumber, Ok, Consistent}
 use Rattle.rules.proofs.BoolLaws.{cond-cases}
-use Rattle.rules.proofs.LayoutLaws.{lookUp-not-abort, commit-ends, abort-ends}
+use Rattle.rules.proofs.LayoutLaws.{lookUp-not-abort, commit-ends, abort-ends, write-names}
 use Rattle.rules.proofs.ListLaws.{filter-append, filter-filter, filter-same, mem-filter, filter-mem, any-mem}
 use Rattle.rules.proofs.ListLaws.{any-filter, all-false, count, count-append, count-cons, count-filter, count-map}
-use Rattle.rules.proofs.ListLaws.{count-mem}
+use Rattle.rules.proofs.ListLaws.{count-mem, mem-any}
 use Rattle.demands.specs.Machine.{Input}
 use Rattle.demands.proofs.Runs.{runs, made}
 use Rattle.sound.proofs.AllLaws.{all-none, all-snoc, all-filter, all-map, out-mem, out-all}
 use Rattle.sound.proofs.AscendingLaws.{ascend-filter, ascending-distinct}
 use Rattle.sound.proofs.HoldLaws.{equal-or, eqb-cases, not-so}
 use Rattle.sound.proofs.Events.{Heard, Event, refuses, asks, writes, is-found, is-nothing, is-waiting, creates, commits}
-use Rattle.sound.proofs.Events.{aborts, ticks, excepts, expires}
+use Rattle.sound.proofs.Events.{aborts, renews, ticks, excepts, expires, Renewable}
 use Rattle.sound.proofs.Consistent.{live-above}
 use Rattle.demands.proofs.ByEvents.{Reader, hearsAll, reads-log, made-keep, consistent, lasting}
 use Rattle.demands.proofs.SerialRunOps.{after, afterAll, CanOne, Can, carryOut-can, carryOutAll-can, isNumber}
@@ -48,6 +49,7 @@ use Rattle.demands.proofs.SerialRunOps.{total, addsIt, total-carryOut, 
 use Rattle.demands.proofs.SerialRunAgree.{Agree, AgreeIn, put, Performs, agree-now, agree-put}
 use Rattle.demands.proofs.SerialRunWrite.{performs-write, agree-create}
 use Rattle.demands.proofs.SerialRunFound.{performs-found, can-now}
+use Rattle.demands.proofs.SerialRunRenew.{only-one, turned, agree-renew}
 use Rattle.demands.proofs.SerialRunEnd.{agree-tick, agree-expire, without, agree-abort, agree-commit}
 
 -- what carrying out leaves alone
@@ -245,22 +247,61 @@ took f {m} {r} w e s j i av k h =
     (performs-found s (h .agree) w e i av (⊎-elim inl (λ x. inr (x .0, x .1, x .2)) (s .owned w j))) (s .txns-ok .above)
     (can-now s (h .agree) w e i av) (λ c. omega (arith, h .once c)) (λ c l. omega (arith, h .fresh c l)))
 
+-- a renewed record
+renewed-too : (f : Frame) {m : Model} {r : Run} → Consistent m → Renewable f m → TracksIn m r
+    → Tracks (m .clock) (renewEntries m f) (m .txns) (m .nextEntry) (follow f (renewed f) r)
+unfolding follow renewed renewing
+renewed-too f {m} {r} s x h =
+    subst⁻¹ (λ c. Tracks (m .clock) (renewEntries m f) (m .txns) (m .nextEntry)
+    (renewing n (until c (f .leaseOrTimeout)) r)) (h .same-clock) (rw there (record {
+      same-clock = h .same-clock;
+      ok = h .ok;
+      once = λ i. omega (arith, h .once i, as-often i);
+      fresh = λ i l. omega (arith, h .fresh i l, as-often i);
+      agree = agree-renew f m s x (h .agree) alone;
+    }))
+  where
+    n : ℕ
+    n = entryNamed f
+
+    its : List·Memᴰ (keptOf (x .entry)) (r .kept)
+    its = h .agree .set .stored-kept (x .entry) (x .stored) (x .committed)
+
+    there : anyb (λ (k : Kept). eqb (k .number) (entryNamed f)) (r .kept) ≡ true
+    there = mem-any (λ (k : Kept). eqb (k .number) (entryNamed f)) its (eq-eqb _ _ (x .number))
+
+    alone : (k : Kept) → List·Memᴰ k (r .kept) → k .number ≡ entryNamed f → k ≡ keptOf (x .entry)
+    alone k i q =
+        only-one (isNumber (entryNamed f)) (let l = h .once (entryNamed f) in omega arith) i (eq-eqb _ _ q) its
+        (eq-eqb _ _ (x .number))
+
+    as-often : (i : ℕ) → count (isNumber i) (map (turned f m s x) (r .kept)) ≡ count (isNumber i) (r .kept)
+    as-often i =
+        count-map (isNumber i) (turned f m s x) (r .kept)
+        ∙ ap length (filter-same (λ k. isNumber i (turned f m s x k)) (isNumber i)
+        (λ k. cond-cases (λ (j : Kept). isNumber i j ≡ isNumber i k) (eqb (k .number) (entryNamed f)) (λ _. refl)
+        (λ _. refl)) (r .kept))
+
 -- what the run knows of the look-ups: following a record changes nothing of it
 follow-asked : (f : Frame) (a : Record) (r : Run) → follow f a r .asked ≡ r .asked
-unfolding follow perform thrownAway advanced
+unfolding follow perform thrownAway advanced renewing failed
 follow-asked f a r =
     cond-cases Q (eqb (a .kind) 1) (λ _. performs _)
     (λ _. cond-cases Q (eqb (a .kind) 2) (λ _. performs _)
     (λ _. cond-cases Q (eqb (a .kind) 6)
     (λ _. carryOutAll-alone (listOf (a .txn .0) r) (thrownAway (a .txn .0) r) .asked)
     (λ _. cond-cases Q (eqb (a .kind) 7 || eqb (a .kind) 8) (λ _. refl)
-    (λ _. cond-cases Q (eqb (a .kind) 9) (λ _. refl) (λ _. refl)))))
+    (λ _. cond-cases Q (eqb (a .kind) 9) (λ _. refl)
+    (λ _. cond-cases Q (eqb (a .kind) 12) (λ _. renews) (λ _. refl))))))
   where
     Q : Run → Type 0
     Q q = q .asked ≡ r .asked
 
     performs : (o : Operation) → perform (a .txn .0) o r .asked ≡ r .asked
     performs o = cond-cases Q (eqb (a .txn .0) 0) (λ _. carryOut-alone o r .asked) (λ _. refl)
+
+    renews : renewing (a .entry .0) (until (r .clock) (f .leaseOrTimeout)) r .asked ≡ r .asked
+    renews = cond-cases Q (anyb (λ (k : Kept). eqb (k .number) (a .entry .0)) (r .kept)) (λ _. refl) (λ _. refl)
 
 abbrev Knows : List LookUp → Run → Type 0
 Knows ws r = All (λ w. lastTakes (w .party) (r .asked) ≡ w .takes) ws
@@ -290,7 +331,7 @@ serials =
 -- each event is followed
 linked-event : {f : Frame} {m n : Model} {hs : List Heard} (r : Run) → Event f m hs n → Consistent m → Linked m r
     → Linked n (hearsAll serials f hs r)
-unfolding serials stored create commit abort dropEnded lookUpOf follow nothing waiting created committed aborted
+unfolding serials stored create commit abort renew dropEnded lookUpOf follow nothing waiting created committed aborted
     exception ticked refused advanced lastTakes thrownAway
 linked-event {f} r (refuses m bs area q) s h = h
 linked-event {f} r (asks m t a) s h =
@@ -304,7 +345,7 @@ linked-event {f} r (asks m t a) s h =
     }
 linked-event {f} r (writes m t a) s h =
     record {
-      tracks = wrote f s (⊎-elim inl (λ x. inr (x .0, x .1, x .2)) (a .inside)) (h .tracks);
+      tracks = wrote f s (⊎-elim inl (λ x. inr (x .0, x .1, x .2)) (a .inside (write-names (f .op) t))) (h .tracks);
       knows = still-knows f (written f (m .nextEntry)) (m .waits) r (h .knows);
     }
 linked-event {f} r (is-found m w e ws o i av) s h =
@@ -330,6 +371,11 @@ linked-event {f} r (aborts m t a) s h =
       tracks =
           thrown r (f .txn) (h .tracks) (agree-abort s (h .tracks .agree) (f .txn) (live-above s (y .0, y .1, y .2)));
       knows = all-filter (λ w. not (eqb (w .txn .0) (f .txn))) (m .waits) (λ w i _. h .knows w i);
+    }
+linked-event {f} r (renews m t a) s h =
+    record {
+      tracks = renewed-too f s (a .renewable t) (h .tracks);
+      knows = still-knows f (renewed f) (m .waits) r (h .knows);
     }
 linked-event {f} r (ticks m t a) s h =
     let k = h .tracks in

@@ -4,8 +4,7 @@ use mathlib.Core.Bool.{false, cond, _&&_, and-false}
 use mathlib.Core.Logic.{⊎-elim}
 use mathlib.Core.Path.{_≡_, refl, sym, ap, _∙_, subst⁻¹}
 use mathlib.Core.List.{List, [], _∷_}
-use native.Mathlib.Omega.{arith}
-use borrow.Author.Tests.{eqb-true, lt-leb}
+use borrow.Author.Tests.{eqb-true, eqb-false, lt-leb}
 use lib.Dec.{eqb}
 use lib.ListN.{length}
 use Rattle.rules.specs.Numbers.{maxWaits}
@@ -17,14 +16,14 @@ use Rattle.rules.specs.Step.{Outcome, step, carriedOut, accepted, refusedWith}
 use Rattle.rules.specs.Allowed.{Answered}
 use Rattle.rules.specs.SerialRun.{Logged}
 use Rattle.rules.proofs.BoolLaws.{bool-cases}
-use Rattle.rules.proofs.RefusalLaws.{first-append, clear}
+use Rattle.rules.proofs.RefusalLaws.{first-append, first-without, clear}
 use Rattle.rules.proofs.SoundLaws.{room-left}
 use Rattle.demands.specs.Machine.{Handed, Stepper, StepsBy, answeredBy, spaceOf, theRules}
 use Rattle.demands.specs.History.{History, begun, handed, Made}
 use Rattle.demands.specs.Tidied.{waitsRefused, mustWait, waitsFull, refusalBefore, stepBefore, theRulesBefore}
 use Rattle.demands.specs.Tidied.{Tidied}
 use Rattle.sound.proofs.SoundProof.{sound-empty, sound-step}
-use Rattle.demands.proofs.JudgedProof.{refusal-fits, number-is}
+use Rattle.demands.proofs.JudgedProof.{number-is}
 
 module _ (m : Model) (sound : Sound m) (bs : List ℕ) (area : ℕ) where
   not-full : refusal m bs area ≡ 0 → waitsFull m (decode bs) ≡ false
@@ -47,7 +46,8 @@ module _ (m : Model) (sound : Sound m) (bs : List ℕ) (area : ℕ) where
   same-step = ap (λ n. cond (eqb n 0) (accepted (carriedOut m (decode bs))) (refusedWith m bs n)) same-refusal
 
 -- a step of the one is a step of the other, and leaves a sound space
-module _ (does other : Stepper) (same : (m : Model) → Sound m → (bs : List ℕ) (area : ℕ) → does m bs area ≡ other m bs area)
+module _ (does other : Stepper) (same : (m : Model) → Sound m → (bs : List ℕ) (area : ℕ)
+    → does m bs area ≡ other m bs area)
     (kept : (m : Model) → Sound m → (bs : List ℕ) (area : ℕ) → Sound (does m bs area .model)) where
   steps-too : (m : Model) → Sound m → (h : Handed) (n : Model) (a : Answered) → StepsBy does m h n a
       → StepsBy other m h n a × Sound n
@@ -80,7 +80,7 @@ sound-before : (log : List Logged) (m : Model) → Made theRulesBefore log m →
 sound-before = made-too stepBefore step same-step kept-before
 
 pub the-number-is-tidied : Tidied
-unfolding answeredBy
+unfolding answeredBy refusal
 the-number-is-tidied =
     record {
       not-applies = λ log m r bs area. not-full m (sound-before log m r .1) bs area;
@@ -89,7 +89,9 @@ the-number-is-tidied =
           let area = length (h .area) in
           let q = steps-too stepBefore step same-step kept-before m s h n a p .0 in
           let number = ap (λ (x : Answered). x .number) (q .answered) ∙ number-is m (h .frame) area in
-          omega (arith, refusal-fits m (h .frame) area);
+          eqb-false (refusal m (h .frame) area) waitsRefused (first-without waitsRefused (rows m (h .frame) area) refl
+          refl)
+          (sym number ∙ e);
       same = λ log m. (
         λ r. sound-before log m r .0,
         λ r. made-too step stepBefore (λ n s bs area. sym (same-step n s bs area)) kept-now log m r .0,

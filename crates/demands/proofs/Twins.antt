@@ -14,6 +14,7 @@ use Rattle.rules.specs.declared.Entry.{Entry}
 use Rattle.rules.specs.declared.Record.{Record}
 use Rattle.rules.specs.declared.Txn.{Txn}
 use Rattle.rules.specs.declared.TxnId.{TxnId}
+use Rattle.rules.specs.declared.Until.{Until}
 use Rattle.rules.specs.declared.LookUp.{LookUp}
 use Rattle.rules.specs.Lists.{filterb, anyb, All}
 use Rattle.rules.specs.Time.{until, reached}
@@ -21,20 +22,22 @@ use Rattle.rules.specs.Template.{bit}
 use Rattle.rules.specs.State.{Model, withEntries, withTxns, withWaits, withClock, withNextEntry, withNextTxn}
 use Rattle.rules.specs.Holds.{liveTxn, addReaderOf, dropReaderOf, readByOther, visible, available, conflicts}
 use Rattle.rules.specs.Holds.{someAvailable, someConflicts}
-use Rattle.rules.specs.Frame.{Frame, isCreate, isTick}
+use Rattle.rules.specs.Frame.{Frame, entryNamed, isCreate, isTick}
 use Rattle.rules.specs.Numbers.{kindException, maxTxns}
 use Rattle.rules.specs.Records.{plain, written, found, nothing, waiting, created, exception}
 use Rattle.rules.specs.Write.{newEntry, stored}
 use Rattle.rules.specs.LookUp.{lookUpOf, removes, withHold, marked, isEntry, handOut, givesNothing}
 use Rattle.rules.specs.Transactions.{create, noTxn, released, withoutTxn, commit, abort, privateTo, takenBy}
+use Rattle.rules.specs.Renew.{hasNumber, endingAt, renewEntries, renew}
 use Rattle.rules.specs.Tick.{abortAll}
-use Rattle.rules.specs.SerialRun.{Kept, keptOf}
+use Rattle.rules.specs.SerialRun.{Kept, keptOf, keptTo}
 use Rattle.rules.specs.Sound.{At, TxnsOk}
 use Rattle.rules.proofs.ListLaws.{mem-filter, filter-mem, any-mem, mem-any, filter-same}
 use Rattle.rules.proofs.ReaderLaws.{bit-of-zero, no-bits}
 use Rattle.demands.specs.Book.{LiveTold}
 use Rattle.demands.specs.Said.{endNow, entriesLeft, inVain, Own, writes, finds, finds-none, waits, creates}
-use Rattle.demands.specs.Said.{commits, aborts, ticks, Serves, gone-through, is-found, waits-on, Service, follows}
+use Rattle.demands.specs.Said.{commits, aborts, renews, ticks, Serves, gone-through, is-found, waits-on, Service}
+use Rattle.demands.specs.Said.{follows}
 use Rattle.demands.specs.Said.{follows-not, exceptions, lapsed, givenNothing, nothings, Ends, in-order, Said}
 use Rattle.demands.specs.Said.{own-first, Oldest}
 use Rattle.sound.proofs.AllLaws.{all-filter, all-map, all-snoc}
@@ -99,7 +102,7 @@ module _ {A B : Type 0} {R : A → B → Type 0} {xs : List A} {ys : List B} (h 
             (x, Memᴰ·append-right xs (List·Memᴰ·head refl), r);
       }
 
-  matched-any : (p : A → Bool) (q : B → Bool) → ((x : A) (y : B) → R x y → p x ≡ q y) → anyb p xs ≡ anyb q ys
+  pub matched-any : (p : A → Bool) (q : B → Bool) → ((x : A) (y : B) → R x y → p x ≡ q y) → anyb p xs ≡ anyb q ys
   matched-any p q same =
       same-test _ _ (λ t. let x = any-mem p xs t in let y = h .forth (x .0) (x .1) in mem-any q (y .1)
       (sym (same (x .0) (y .0) (y .2)) ∙ x .2))
@@ -238,7 +241,7 @@ zero-forth ts us {r} {q} s h z = no-bits q (λ k. not-so (bit k q) (one k))
         h .bits (x .0) (y .0) (x .1) (y .1) (ap (λ l. l .number) (x .2)) ∙ rw (y .2) b in
         true≢false (sym set ∙ ap (bit (x .0 .slot)) z ∙ bit-of-zero (x .0 .slot))
 
-zero-same : {ts us : List Txn} {r q : ℕ} → SameLive ts us → Held ts us r q → eqb r 0 ≡ eqb q 0
+pub zero-same : {ts us : List Txn} {r q : ℕ} → SameLive ts us → Held ts us r q → eqb r 0 ≡ eqb q 0
 zero-same {ts} {us} {r} {q} s h =
     same-test _ _ (λ t. eq-eqb q 0 (zero-forth ts us s h (eqb-true r 0 t)))
     (λ t. eq-eqb r 0 (zero-forth us ts (sym s) (held-sym h) (eqb-true q 0 t)))
@@ -249,6 +252,7 @@ pub record Like (ts us : List Txn) (e x : Entry) : Type 0 where
   pub kept : keptOf e ≡ keptOf x
   pub owner : e .«private_to» ≡ x .«private_to»
   pub taker : e .«taken_by» ≡ x .«taken_by»
+  pub writer : e .writer ≡ x .writer
   pub held : Held ts us (e .readers) (x .readers)
 
 module _ {k : ℕ} {ts us : List Txn} (p : Peers k ts us) where
@@ -311,6 +315,7 @@ module _ {k : ℕ} {ts us : List Txn} (p : Peers k ts us) where
         kept = l .kept;
         owner = l .owner;
         taker = ap (λ (o : TxnId). cond (w .takes) (w .txn) o) (l .taker);
+        writer = l .writer;
         held =
             cond-both (Held ts us) (w .takes) (w .takes) refl (held-dropped p (w .txn .0) (l .held))
             (held-added p (w .txn .0) (l .held));
@@ -344,6 +349,7 @@ module _ {k : ℕ} {ts us : List Txn} (p : Peers k ts us) where
         kept = l .kept;
         owner = ap (λ (o : TxnId). cond (eqb (o .0) t) noTxn o) (l .owner);
         taker = ap (λ (o : TxnId). cond (eqb (o .0) t) noTxn o) (l .taker);
+        writer = l .writer;
         held = held-gone p t (l .held);
       }
 
@@ -397,6 +403,7 @@ stored-twins f {m} {n} t =
             kept = ap (λ k. keptOf (newEntry k f)) (t .same);
             owner = refl;
             taker = refl;
+            writer = refl;
             held = none-held (m .txns) (n .txns);
           }));
     }
@@ -568,7 +575,8 @@ module _ {ts us : List Txn} {x y : Txn} (p : Peers (x .id .0) ts us) (same : liv
       → Matched (Like (ts ++ (x ∷ [])) (us ++ (y ∷ []))) es xs
   entries-snoc h =
       matched-so h (Like (ts ++ (x ∷ [])) (us ++ (y ∷ [])))
-      (λ e u l. record { kept = l .kept; owner = l .owner; taker = l .taker; held = held-snoc (l .held) })
+      (λ e u l. record { kept = l .kept; owner = l .owner; taker = l .taker; writer = l .writer; held = held-snoc
+      (l .held) })
 
 create-twins : (f : Frame) {m n : Model} → Twins m n → length (m .txns) < maxTxns → length (n .txns) < maxTxns
     → Twins (create m f .model) (create n f .model)
@@ -583,6 +591,33 @@ create-twins f {m} {n} t r r′ =
       same = ap (λ k. withNextTxn (k .nextTxn + 1) k) (t .same);
       peers = peers-snoc (t .peers) new free free′;
       entries = entries-snoc (t .peers) new free free′ (t .entries);
+    }
+
+renew-twins : (f : Frame) {m n : Model} → Twins m n → Twins (renew m f .model) (renew n f .model)
+unfolding renew renewEntries
+renew-twins f {m} {n} t =
+    let k = entryNamed f in
+    let clock : m .clock ≡ n .clock = ap (λ (j : Model). j .clock) (t .same) in
+    let end : Model → Until = λ j. until (j .clock) (f .leaseOrTimeout) in
+    let same : (e x : Entry) → Like (m .txns) (n .txns) e x → hasNumber k e ≡ hasNumber k x =
+    λ e x l. ap (λ (j : Kept). eqb (j .number) k) (l .kept) in
+    record {
+      same = t .same;
+      peers = t .peers;
+      entries =
+          cond-both (Matched (Like (m .txns) (n .txns))) (eqb (f .leaseOrTimeout) 0) (eqb (f .leaseOrTimeout) 0) refl
+          (matched-filter (t .entries) (λ e. not (hasNumber k e)) (λ e. not (hasNumber k e))
+          (λ e x l. ap not (same e x l)))
+          (matched-map (t .entries) (Like (m .txns) (n .txns)) (λ e. cond (hasNumber k e) (endingAt (end m) e) e)
+          (λ e. cond (hasNumber k e) (endingAt (end n) e) e)
+          (λ e x l. cond-both (Like (m .txns) (n .txns)) (hasNumber k e) (hasNumber k x) (same e x l)
+          (record {
+            kept = ap₂ (λ (j : Kept) (c : ℕ). keptTo (until c (f .leaseOrTimeout)) j) (l .kept) clock;
+            owner = l .owner;
+            taker = l .taker;
+            writer = l .writer;
+            held = l .held;
+          }) l));
     }
 
 -- there is room for a transaction, if the frame creates one
@@ -630,6 +665,7 @@ own-twins {f} t r r′ (creates o) = (
 )
 own-twins {f} t r r′ (commits o) = (_, commits o, commit-twins (f .txn) t)
 own-twins {f} t r r′ (aborts o) = (_, aborts o, abort-twins (f .txn) t)
+own-twins {f} t r r′ (renews o) = (_, renews o, renew-twins f t)
 own-twins t r r′ (ticks o) = (_, ticks o, clock-twins t)
 
 pub said-twins : {f : Frame} {m n : Model} {rs : List Record} → Twins m n → Roomy f m → Roomy f n → Said f m rs

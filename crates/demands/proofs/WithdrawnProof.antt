@@ -14,7 +14,7 @@ use Rattle.rules.specs.State.{Model}
 use Rattle.rules.specs.Frame.{Frame, layoutOf, decode, isAbort}
 use Rattle.rules.specs.Holds.{liveTxn}
 use Rattle.rules.specs.Refusals.{withdraws, partyWaits, notLive, notOwn, noLease, tooLate, entriesFull, txnsFull}
-use Rattle.rules.specs.Refusals.{noNumber, refusal}
+use Rattle.rules.specs.Refusals.{noNumber, noEntry, notWriter, notFree, refusal}
 use Rattle.rules.specs.Step.{carriedOut, accepted, refusedWith, step}
 use Rattle.rules.specs.Sound.{LiveOf, TxnsOk, Consistent}
 use Rattle.rules.proofs.ListLaws.{mem-any, all-false, none-mem, any-find, find-some}
@@ -30,7 +30,7 @@ use Rattle.demands.specs.Withdrawn.{waitedBefore, aheadOf6, behind6, ref
 -- an abort of a live transaction of the party is let pass by the rows behind 6
 none-for : (m : Model) (f : Frame) → f .op ≡ opAbort → eqb (f .txn) 0 ≡ false → {n : ℕ} → TxnsOk n (m .txns)
     → LiveOf (f .txn) (f .party) (m .txns) → firstRow (behind6 m f) ≡ 0
-unfolding notLive notOwn noLease tooLate entriesFull txnsFull noNumber layoutOf liveTxn
+unfolding noEntry notWriter notFree notLive notOwn noLease tooLate entriesFull txnsFull noNumber layoutOf liveTxn
 none-for m f o z ok live =
     let mine : Txn → Bool = λ x. eqb (x .id .0) (f .txn) in
     let any = mem-any mine (live .1) (eq-eqb (live .0 .id .0) (f .txn) (live .2)) in

@@ -1,5 +1,5 @@
 -- The words of a model: every model that fits them is the view of some words.
-use Prim.Native.Nat.{ℕ, zero, suc, _+_, _-_, _*_, _≤_, _<_, min, _/_, _%_}
+use Prim.Native.Nat.{ℕ, zero, suc, _+_, _-_, _*_, _≤_, _<_, min}
 use mathlib.Core.Bool.{Bool, true, false}
 use mathlib.Core.Path.{_≡_, refl, sym, ap, ap₂, _∙_}
 use mathlib.Core.List.{List, [], _∷_, _++_, map, append-assoc, append-nil, List·Memᴰ·head, List·Memᴰ·tail}
@@ -21,6 +21,7 @@ use Rattle.rules.specs.Words.{upTo, row, table, untilOf, untilWord, entryOf, tx
 use Rattle.rules.specs.Words.{entryWords, txnWords, waitWords, entriesAt, entryWidth, txnsAt, txnWidth, waitsAt}
 use Rattle.rules.specs.Words.{waitWidth}
 use Rattle.rules.specs.Time.{EndFits}
+use Rattle.rules.proofs.NumberLaws.{three-bytes}
 
 -- ---- a table of words, with zeros behind its rows
 
@@ -104,7 +105,7 @@ op-back false false = (refl, refl)
 
 -- what the words of a row hold
 abbrev EntryFits : Entry → Type 0
-EntryFits e = (e .readers < 256) × (e .fields .blanks < 256) × EndFits (e .end)
+EntryFits e = (e .readers < 256) × ((e .fields .blanks < 256) × (e .writer < 256)) × EndFits (e .end)
 
 abbrev TxnFits : Txn → Type 0
 TxnFits t = (t .party < 256) × (t .slot < 8) × EndFits (t .end)
@@ -114,11 +115,9 @@ WaitFits w = (w .party < 256) × (w .mask < 256) × EndFits (w .deadline)
 
 entry-back : (e : Entry) → EntryFits e → entryOf (entryWords e) ≡ e
 unfolding entryOf
-entry-back e (r, b, f) =
-    let low : (e .readers + 256 * e .fields .blanks) % 256 ≡ e .readers = omega arith in
-    let high : (e .readers + 256 * e .fields .blanks) / 256 ≡ e .fields .blanks = omega arith in
-    let byte : e .fields .blanks % 256 ≡ e .fields .blanks = omega arith in
-    rw (until-back (e .end) f, low, high, byte)
+entry-back e (r, (b, w), f) =
+    let parts = three-bytes (e .readers) (e .fields .blanks) (e .writer) r b w in
+    rw (until-back (e .end) f, parts .0, parts .1, parts .2)
 
 txn-back : (t : Txn) → TxnFits t → txnOf (txnWords t) ≡ t
 unfolding txnOf

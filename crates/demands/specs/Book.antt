@@ -2,9 +2,10 @@
 use Prim.Native.Nat.{ℕ, _+_}
 use mathlib.Core.Bool.{Bool, true, not, cond, _&&_, _||_}
 use mathlib.Core.Path.{_≡_}
-use mathlib.Core.List.{List, [], _∷_, _++_, map}
+use mathlib.Core.List.{List, [], _∷_, _++_, map, List·Memᴰ}
 use lib.Dec.{eqb}
 use lib.ListN.{length}
+use Rattle.rules.specs.declared.Entry.{Entry}
 use Rattle.rules.specs.declared.LookUp.{LookUp}
 use Rattle.rules.specs.declared.Record.{Record}
 use Rattle.rules.specs.declared.Txn.{Txn}
@@ -24,10 +25,17 @@ pub record LiveTold : Type 0 where
   pub party : ℕ
   pub end : Until
 
+-- "Each entry now remembers the party that wrote it" (document 02, T-05): an entry's number, and the party
+pub record WrittenBy : Type 0 where
+  pub number : ℕ
+  pub party : ℕ
+
 pub record Book : Type 0 where
   pub clock : ℕ
   pub nextEntry : ℕ
   pub nextTxn : ℕ
+  -- the latest first
+  pub writers : List WrittenBy
   pub live : List LiveTold
   -- the look-ups that have had no closing answer, by arrival
   pub waiting : List LookUp
@@ -35,7 +43,12 @@ pub record Book : Type 0 where
   pub right : Bool
 
 abbrev pub newBook : Book
-newBook = record { clock = 0; nextEntry = 1; nextTxn = 1; live = []; waiting = []; right = true }
+newBook = record { clock = 0; nextEntry = 1; nextTxn = 1; writers = []; live = []; waiting = []; right = true }
+
+-- the party that wrote the entry with a number, as told
+unfoldable pub writerOf : ℕ → List WrittenBy → ℕ
+writerOf n [] = 0
+writerOf n (w ∷ older) = let rest = writerOf n older in cond (eqb (w .number) n) (w .party) rest
 
 -- whether a record names a look-up: by its party and its transaction
 abbrev pub names : Record → LookUp → Bool
@@ -76,6 +89,9 @@ enters f a b =
       clock = cond (eqb (a .kind) kindTicked) (b .clock + 1) (b .clock);
       nextEntry = cond (eqb (a .kind) kindWritten) (b .nextEntry + 1) (b .nextEntry);
       nextTxn = cond (eqb (a .kind) kindCreated) (b .nextTxn + 1) (b .nextTxn);
+      writers =
+          cond (eqb (a .kind) kindWritten) (record { number = a .entry .0; party = a .party } ∷ b .writers)
+              (b .writers);
       live = liveAfter f a b;
       waiting = waitingAfter a b;
       right = b .right && rightly a b;
@@ -91,6 +107,7 @@ withAsked w b =
       clock = b .clock;
       nextEntry = b .nextEntry;
       nextTxn = b .nextTxn;
+      writers = b .writers;
       live = b .live;
       waiting = b .waiting ++ (w ∷ []);
       right = b .right;
@@ -108,12 +125,13 @@ keepBook (l ∷ ls) b = let f = decode (l .frame) in keepBook ls (entersAll f (l
 unfoldable pub bookOf : List Logged → Book
 bookOf log = keepBook log newBook
 
--- every record is right by the book; and the space's clock, next numbers, live transactions and waiting look-ups are
--- what frames and records tell
+-- every record is right by the book; and the space's clock, next numbers, live transactions, waiting look-ups and the
+-- writer of each stored entry are what frames and records tell
 pub record Booked (b : Book) (m : Model) : Type 0 where
   pub right : b .right ≡ true
   pub clock : b .clock ≡ m .clock
   pub next-entry : b .nextEntry ≡ m .nextEntry
   pub next-txn : b .nextTxn ≡ m .nextTxn
+  pub writers : (e : Entry) → List·Memᴰ e (m .entries) → e .writer ≡ writerOf (e .id .0) (b .writers)
   pub live : b .live ≡ map (λ (t : Txn). record { number = t .id .0; party = t .party; end = t .end }) (m .txns)
   pub waiting : b .waiting ≡ m .waits

@@ -32,7 +32,8 @@ pub record Demand2 (S : Machine) : Type 0 where
   pub said : EveryStep S (λ t h u a. CarriedOut S t h → Said (frameIn h) (S .view t) (a .records))
   -- the count that is returned is that of the records written
   pub counted : EveryStep S (λ t h u a. a .count ≡ length (a .records))
-  -- the space's clock, next numbers, live transactions and waiting look-ups are what the frames and records alone tell;
+  -- the space's clock, next numbers, live transactions, waiting look-ups and its entries' writers are what the frames
+  -- and records alone tell;
   -- each found and nothing closes exactly one open look-up, and numbers are counted, each from 1
   pub booked : EveryState S (λ log t. Booked (bookOf log) (S .view t))
   -- its stored entries, to whom they are private, by whom taken and read, are what the serial run's set and the live

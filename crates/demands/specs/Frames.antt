@@ -5,8 +5,9 @@ use Rattle.rules.specs.declared.Fields.{Fields}
 use Rattle.rules.specs.declared.Mark.{Mark}
 use Rattle.rules.specs.declared.Record.{Record}
 use Rattle.rules.specs.Numbers.{opWrite, opRead, opTake, opReadIfExists, opTakeIfExists, opCreate, opCommit, opAbort}
-use Rattle.rules.specs.Numbers.{opTick, kindWritten, kindFound, kindNothing, kindWaiting, kindCreated, kindCommitted}
-use Rattle.rules.specs.Numbers.{kindAborted, kindException, kindTicked, kindRefused}
+use Rattle.rules.specs.Numbers.{opTick, opRenew, kindWritten, kindFound, kindNothing, kindWaiting, kindCreated}
+use Rattle.rules.specs.Numbers.{kindCommitted}
+use Rattle.rules.specs.Numbers.{kindAborted, kindException, kindTicked, kindRenewed, kindRefused}
 use Rattle.rules.specs.Records.{noMark, plain}
 use Rattle.rules.specs.Template.{markOf}
 use Rattle.rules.specs.Frame.{fourBytes}
@@ -44,6 +45,10 @@ readIfExists-by party t timeout k = long opReadIfExists party t timeout 1 (F k 0
 abbrev pub takeIfExists-by : ℕ → ℕ → ℕ → ℕ → List ℕ
 takeIfExists-by party t timeout k = long opTakeIfExists party t timeout 1 (F k 0 0 0)
 
+-- by party: the entry, and the lease
+abbrev pub renew-by : ℕ → ℕ → ℕ → List ℕ
+renew-by party n lease = (opRenew ∷ party ∷ 0 ∷ 0 ∷ []) ++ fourBytes n ++ fourBytes lease
+
 abbrev pub create-by : ℕ → ℕ → List ℕ
 create-by party lease = (opCreate ∷ party ∷ 0 ∷ 0 ∷ []) ++ fourBytes 0 ++ fourBytes lease
 
@@ -78,6 +83,9 @@ Found party t n x = answer kindFound party 0 t n (markOf 0 x)
 
 abbrev pub Found-blank : ℕ → ℕ → ℕ → ℕ → Fields → Record
 Found-blank party t n blanks x = answer kindFound party 0 t n (markOf blanks x)
+
+abbrev pub Renewed : ℕ → ℕ → Record
+Renewed party n = answer kindRenewed party 0 0 n noMark
 
 abbrev pub Nothing : ℕ → ℕ → Record
 Nothing party t = plain kindNothing party t

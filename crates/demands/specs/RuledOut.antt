@@ -1,8 +1,9 @@
 -- What the demands rule out: a small wrong space for each of document 01's Contracts c, for each mistake that students
 -- make, for silence, order and time, for the newest mark first, for frames of another length, for number 14, for
--- aborts out of a wait, for waits in vain and for blanks; and the statement that the demand named for it fails.
+-- aborts out of a wait, for waits in vain, for blanks and for renewals; and the statement that the demand named for
+-- it fails.
 -- (`Determined` says that no wrong space is left.)
-use Prim.Native.Nat.{suc, _+_}
+use Prim.Native.Nat.{ℕ, suc, _+_}
 use mathlib.Core.Bool.{Bool, true, not, cond, _&&_, _||_}
 use mathlib.Core.Path.{_≡_}
 use mathlib.Core.List.{List, [], _∷_, _++_, map, foldr, reverse}
@@ -11,15 +12,20 @@ use lib.ListN.{length, take}
 use Rattle.rules.specs.declared.Entry.{Entry}
 use Rattle.rules.specs.declared.LookUp.{LookUp}
 use Rattle.rules.specs.declared.Record.{Record}
+use Rattle.rules.specs.declared.Until.{Until}
+use Rattle.rules.specs.declared.Until.the-variants.{Tick, Forever}
+use Rattle.rules.specs.Numbers.{notWriterRefused, heldRefused}
 use Rattle.rules.specs.Numbers.{maxWaits, opCreate, opCommit, operationRefused, formRefused, waitingRefused}
 use Rattle.rules.specs.Lists.{filterb, findb}
-use Rattle.rules.specs.Time.{reached}
+use Rattle.rules.specs.Time.{until, reached}
 use Rattle.rules.specs.State.{Model, withEntries, withWaits, withClock, withNextEntry}
 use Rattle.rules.specs.Template.{matches, markOf, bare}
 use Rattle.rules.specs.Holds.{visible, available, oldest}
 use Rattle.rules.specs.Frame.{Frame, byteAt, decode, frameLength, isWrite, isLookUp, isCommit, isAbort, isTick}
-use Rattle.rules.specs.Frame.{serves}
+use Rattle.rules.specs.Frame.{isRenew, entryNamed, serves}
 use Rattle.rules.specs.Records.{written, found, nothing, committed, aborted, exception, ticked}
+use Rattle.rules.specs.Records.{renewed}
+use Rattle.rules.specs.Renew.{hasNumber, endingAt, renewedTo}
 use Rattle.rules.specs.Done.{Carried, Done, after, quiet}
 use Rattle.rules.specs.LookUp.{lookUpOf, handOut, answer, answerNothing, answerWaiting}
 use Rattle.rules.specs.Transactions.{abort, takenBy}
@@ -309,6 +315,7 @@ unblanked e =
       «private_to» = e .«private_to»;
       «taken_by» = e .«taken_by»;
       readers = e .readers;
+      writer = e .writer;
     }
 
 abbrev pub byteThreeless : Record → Record
@@ -355,6 +362,59 @@ refusesBlanks m bs area =
     cond (isWrite (f .op) && not (eqb (f .mask) 0) && eqb (refusal m bs area) 0) (refusedWith m bs formRefused)
     (step m bs area)
 
+-- "Renewing a mark" (document 02, T-05)
+
+abbrev pub renewals : Frame → Bool
+renewals f = isRenew (f .op)
+
+-- counts from the write: the lease is added to the end that the entry has
+abbrev pub longer : ℕ → Until → Until
+longer lease (Tick n) = until n lease
+longer lease Forever = Forever
+
+unfoldable pub renewsFromTheWrite : Stepper
+renewsFromTheWrite =
+    carrying renewals
+    (λ m f. let on : Entry → Entry = λ e.
+    cond (hasNumber (entryNamed f) e) (endingAt (longer (f .leaseOrTimeout) (e .end)) e) e in
+    alone (record { model = withEntries (map on (m .entries)) m; own = renewed f }))
+
+-- renews though a row of the table bars it
+abbrev pub letting : ℕ → Stepper
+letting n m bs area =
+    let f = decode bs in
+    cond (renewals f && eqb (refusal m bs area) n) (accepted (carriedOut m f)) (step m bs area)
+
+-- a held entry, or another party's
+unfoldable pub renewsHeld : Stepper
+renewsHeld m bs area = letting heldRefused m bs area
+
+unfoldable pub renewsAnothers : Stepper
+renewsAnothers m bs area = letting notWriterRefused m bs area
+
+-- leaves an entry with lease 0 to the next tick
+unfoldable pub leavesLease0 : Stepper
+leavesLease0 =
+    carrying renewals
+    (λ m f. let end = until (m .clock) (f .leaseOrTimeout) in
+    alone (record { model = withEntries (renewedTo (entryNamed f) end (m .entries)) m; own = renewed f }))
+
+-- forgets at a commit who wrote what
+unfoldable pub forgetsWriter : Stepper
+forgetsWriter =
+    carrying (λ f. isCommit (f .op))
+    (λ m f. let by : Entry → Entry = λ e.
+    record {
+      id = e .id;
+      fields = e .fields;
+      end = e .end;
+      «private_to» = e .«private_to»;
+      «taken_by» = e .«taken_by»;
+      readers = e .readers;
+      writer = 0;
+    } in
+    carriedOut (withEntries (map by (m .entries)) m) f)
+
 -- answers no frame at all
 abbrev pub mute : Machine
 mute = record { State = Model; view = λ m. m; Empty = theRules .Empty; Steps = λ m h n a. ⊥ }
@@ -395,4 +455,9 @@ pub record RuledOut : Type 0 where
   pub leaves-byte-3 : Demand2 (spaceOf leavesByte3) → ⊥
   pub takes-filled-blanks : Demand1 (spaceOf takesFilledBlanks) → ⊥
   pub refuses-blanks : Demand1 (spaceOf refusesBlanks) → ⊥
+  pub renews-from-the-write : Demand3 (spaceOf renewsFromTheWrite) → ⊥
+  pub renews-held : Demand1 (spaceOf renewsHeld) → ⊥
+  pub renews-anothers : Demand1 (spaceOf renewsAnothers) → ⊥
+  pub leaves-lease-0 : Demand2 (spaceOf leavesLease0) → ⊥
+  pub forgets-writer : Demand2 (spaceOf forgetsWriter) → ⊥
   pub answers-none : Demand1 mute → ⊥

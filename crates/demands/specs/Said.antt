@@ -13,11 +13,13 @@ use Rattle.rules.specs.Lists.{filterb}
 use Rattle.rules.specs.Time.{reached}
 use Rattle.rules.specs.State.{Model, withClock, withEntries, withWaits}
 use Rattle.rules.specs.Holds.{available, someAvailable, someConflicts}
-use Rattle.rules.specs.Frame.{Frame, isWrite, isLookUp, isIfExists, isCreate, isCommit, isAbort, isTick}
+use Rattle.rules.specs.Frame.{Frame, isWrite, isLookUp, isIfExists, isCreate, isCommit, isAbort, isRenew, isTick}
 use Rattle.rules.specs.Records.{written, found, nothing, waiting, created, committed, aborted, exception, ticked}
+use Rattle.rules.specs.Records.{renewed}
 use Rattle.rules.specs.Write.{stored}
 use Rattle.rules.specs.LookUp.{lookUpOf, handOut}
 use Rattle.rules.specs.Transactions.{create, commit, abort}
+use Rattle.rules.specs.Renew.{renew}
 use Rattle.rules.specs.Tick.{abortAll}
 
 -- with no entry available: "timeout 0 gives nothing", and "the IfExists kinds .. give nothing if none" conflicts
@@ -52,6 +54,8 @@ pub data Own (f : Frame) (m : Model) : Record → Model → Type 0 where
   creates : isCreate (f .op) ≡ true → Own f m (created f (m .nextTxn)) (create m f .model)
   commits : isCommit (f .op) ≡ true → Own f m (committed f) (commit (f .txn) m)
   aborts : isAbort (f .op) ≡ true → Own f m (aborted f) (abort (f .txn) m)
+  -- "the entry then ends at clock + lease .. Lease 0 removes it in this step" (document 02, T-05)
+  renews : isRenew (f .op) ≡ true → Own f m (renewed f) (renew m f .model)
   -- "the clock advances"
   ticks : isTick (f .op) ≡ true → Own f m ticked (withClock (m .clock + 1) m)
 

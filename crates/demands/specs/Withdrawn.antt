@@ -8,11 +8,12 @@ use mathlib.Core.List.{List, _∷_, _++_, List·Memᴰ}
 use lib.Dec.{eqb, ltb}
 use Rattle.rules.specs.declared.LookUp.{LookUp}
 use Rattle.rules.specs.Lists.{anyb, firstRow}
-use Rattle.rules.specs.Numbers.{stepArea, areaRefused, waitingRefused, notLiveRefused, notOwnRefused}
+use Rattle.rules.specs.Numbers.{stepArea, areaRefused, waitingRefused, notLiveRefused, notOwnRefused, noEntryRefused}
+use Rattle.rules.specs.Numbers.{notWriterRefused, heldRefused}
 use Rattle.rules.specs.State.{Model}
 use Rattle.rules.specs.Frame.{Frame, decode}
 use Rattle.rules.specs.Sound.{ofParty}
-use Rattle.rules.specs.Refusals.{withdraws, notLive, notOwn, formRows, roomRows, refusal}
+use Rattle.rules.specs.Refusals.{withdraws, noEntry, notWriter, notFree, notLive, notOwn, formRows, roomRows, refusal}
 use Rattle.rules.specs.Step.{carriedOut, accepted, refusedWith, step}
 use Rattle.demands.specs.Machine.{Stepper, theRules}
 use Rattle.demands.specs.History.{EveryState}
@@ -26,7 +27,13 @@ abbrev pub aheadOf6 : List ℕ → ℕ → List (Bool × ℕ)
 aheadOf6 bs area = (ltb area stepArea, areaRefused) ∷ formRows bs (decode bs)
 
 abbrev pub behind6 : Model → Frame → List (Bool × ℕ)
-behind6 m f = (notLive m f, notLiveRefused) ∷ (notOwn m f, notOwnRefused) ∷ roomRows m f
+behind6 m f =
+    (noEntry m f, noEntryRefused)
+    ∷ (notWriter m f, notWriterRefused)
+    ∷ (notFree m f, heldRefused)
+    ∷ (notLive m f, notLiveRefused)
+    ∷ (notOwn m f, notOwnRefused)
+    ∷ roomRows m f
 
 unfoldable pub refusalBefore : Model → List ℕ → ℕ → ℕ
 refusalBefore m bs area =

@@ -1,6 +1,6 @@
 -- What ends after a step ended before, or is new; and who waits waited before, or stands last.
 use Prim.Native.Nat.{ℕ}
-use mathlib.Core.Bool.{Bool, true, false, cond, true≢false}
+use mathlib.Core.Bool.{Bool, true, false, cond, _||_, or-true, true≢false}
 use mathlib.Core.Logic.{_⊎_, inl, inr, ⊎-elim}
 use mathlib.Core.Option.{Option, none, some}
 use mathlib.Core.Path.{_≡_, refl, sym, ap, _∙_, subst⁻¹}
@@ -13,7 +13,7 @@ use Rattle.rules.specs.Lists.{All, filterb}
 use Rattle.rules.specs.Time.{until}
 use Rattle.rules.specs.State.{Model}
 use Rattle.rules.specs.Holds.{oldest}
-use Rattle.rules.specs.Frame.{Frame, decode, isWrite, isLookUp, isCreate, isTick}
+use Rattle.rules.specs.Frame.{Frame, decode, isWrite, isLookUp, isCreate, isRenew, isTick}
 use Rattle.rules.specs.Done.{Carried, Done}
 use Rattle.rules.specs.Write.{newEntry}
 use Rattle.rules.specs.LookUp.{lookUpOf, givesNothing, answer, answerFound, answerNothing, answerWaiting, lookUp}
@@ -22,12 +22,12 @@ use Rattle.rules.specs.Step.{Outcome, step, carriedOut, accepted, refusedWith}
 use Rattle.rules.specs.Refusals.{refusal}
 use Rattle.rules.specs.Sound.{Consistent, Sound}
 use Rattle.rules.proofs.BoolLaws.{bool-cases, cond-cases}
-use Rattle.rules.proofs.LayoutLaws.{write-not-tick, create-not-tick}
+use Rattle.rules.proofs.LayoutLaws.{write-not-tick, create-not-tick, renew-not-tick}
 use Rattle.rules.proofs.ListLaws.{mem-filter, filter-append}
 use Rattle.sound.proofs.HoldLaws.{equal-or}
 use Rattle.sound.proofs.OwnPartLaws.{carried-lookUp, step-accepted}
 use Rattle.sound.proofs.Events.{Heard, Event, Events, over, then, heard}
-use Rattle.sound.proofs.Becomes.{kept-all, waits-all, txns-all, clock-moves}
+use Rattle.sound.proofs.Becomes.{endsEntry, kept-all, waits-all, txns-all, clock-moves}
 use Rattle.sound.proofs.ConsistentProof.{consistent-event}
 use Rattle.sound.proofs.EventsProof.{step-events}
 
@@ -45,14 +45,17 @@ module _ (f : Frame) (c : ℕ) where
 
   module _ (P : Until → Type 0) where
     entries-events : {m n : Model} {hs : List Heard} → Events f m hs n → Consistent m → Stands m
-        → (isWrite (f .op) ≡ true → (f .leaseOrTimeout ≡ 0 → ⊥) → P (until c (f .leaseOrTimeout)))
+        → (endsEntry (f .op) ≡ true → (f .leaseOrTimeout ≡ 0 → ⊥) → P (until c (f .leaseOrTimeout)))
         → All (λ e. P (e .end)) (m .entries) → All (λ e. P (e .end)) (n .entries)
     unfolding newEntry
     entries-events over s k new h = h
     entries-events {m} (then e t) s k new h =
         entries-events t (consistent-event e s) (stands e k) new
         (kept-all (λ x. P (x .end)) e (s .ordered)
-        (λ w a d. subst⁻¹ (λ b. P (until b (f .leaseOrTimeout))) (at m (write-not-tick (f .op) w) k) (new w d)) h)
+        (λ w a d. subst⁻¹ (λ b. P (until b (f .leaseOrTimeout))) (at m (write-not-tick (f .op) w) k)
+        (new (ap (λ b. b || isRenew (f .op)) w) d))
+        (λ w a d _ _. subst⁻¹ (λ b. P (until b (f .leaseOrTimeout))) (at m (renew-not-tick (f .op) w) k)
+        (new (ap (λ b. isWrite (f .op) || b) w ∙ or-true (isWrite (f .op))) d)) h)
 
     txns-events : {m n : Model} {hs : List Heard} → Events f m hs n → Stands m
         → (isCreate (f .op) ≡ true → P (until c (f .leaseOrTimeout)))
@@ -106,7 +109,8 @@ module _ (m : Model) (bs : List ℕ) (area : ℕ) (s : Sound m) where
   events = step-events m bs area (s .consistent .ordered .txns)
 
   module _ (P : Until → Type 0) where
-    pub entries-end : (isWrite (f .op) ≡ true → (f .leaseOrTimeout ≡ 0 → ⊥) → P (until (m .clock) (f .leaseOrTimeout)))
+    pub entries-end : (endsEntry (f .op) ≡ true → (f .leaseOrTimeout ≡ 0 → ⊥)
+        → P (until (m .clock) (f .leaseOrTimeout)))
         → All (λ e. P (e .end)) (m .entries) → All (λ e. P (e .end)) (n .entries)
     entries-end new h = entries-events f (m .clock) P events (s .consistent) (inr refl) new h
 

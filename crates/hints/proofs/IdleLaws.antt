@@ -24,7 +24,8 @@ use Rattle.rules.proofs.ReaderLaws.{added-other, bit-of-zero}
 use Rattle.sound.proofs.HoldLaws.{not-so, cleared-cases}
 use Rattle.sound.proofs.HolderLaws.{live-is, drop-live}
 use Rattle.sound.proofs.Events.{Admitted, Heard, Event, Events, over, then}
-use Rattle.sound.proofs.Becomes.{newTxn, Becomes, is-new, as-was, as-ever, is-held, is-freed, becomes, waits-all}
+use Rattle.sound.proofs.Becomes.{newTxn, Becomes, is-new, as-was, as-ever, is-held, is-freed, is-renewed}
+use Rattle.sound.proofs.Becomes.{becomes, waits-all}
 use Rattle.sound.proofs.Becomes.{txns-all}
 use Rattle.sound.proofs.Consistent.{ok-below, slot-free}
 use Rattle.sound.proofs.ConsistentProof.{consistent-event}
@@ -81,6 +82,8 @@ module _ {f : Frame} {m : Model} {k : ℕ} (t : Txn) (acts : ActsUpTo k f) (abov
         untaken = h .untaken;
         unread = unmarked (w .txn .0) (e .readers) (idle .outside w j) (h .unread);
       }
+  apart (is-renewed w a d e i q) =
+      let h = idle .apart e i in record { unwritten = h .unwritten; untaken = h .untaken; unread = h .unread }
   apart (is-freed u e i) =
       let h = idle .apart e i in
       let none : (x : TxnId) → (x .0 ≡ t .id .0 → ⊥) → cond (eqb (x .0) u) noTxn x .0 ≡ t .id .0 → ⊥ =

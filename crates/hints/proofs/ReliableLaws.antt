@@ -7,9 +7,10 @@ use mathlib.Core.List.{List}
 use native.Mathlib.Omega.{arith}
 use Rattle.rules.specs.Time.{until}
 use Rattle.rules.specs.State.{Model}
-use Rattle.rules.specs.Frame.{Frame, decode, isWrite, isLookUp, isCreate}
+use Rattle.rules.specs.Frame.{Frame, decode, isLookUp, isCreate}
 use Rattle.rules.specs.Step.{step}
 use Rattle.rules.specs.Sound.{Sound}
+use Rattle.sound.proofs.Becomes.{endsEntry}
 use Rattle.hints.specs.Hints.{least, acted, NotBefore, Flagged, Weaker, Knows, IdleAbove, Reliable, Renewed}
 use Rattle.hints.proofs.EndsLaws.{entries-end, txns-end, waits-last}
 use Rattle.hints.proofs.IdleLaws.{ActsUpTo, idle-step}
@@ -18,7 +19,7 @@ use Rattle.hints.proofs.IdleLaws.{ActsUpTo, idle-step}
 pub record Follows (f : Frame) (m n : Model) (hs hs′ : List ℕ) : Type 0 where
   pub weaker : Weaker hs hs′
   pub acts : ActsUpTo (acted hs′) f
-  pub entry : isWrite (f .op) ≡ true → (f .leaseOrTimeout ≡ 0 → ⊥)
+  pub entry : endsEntry (f .op) ≡ true → (f .leaseOrTimeout ≡ 0 → ⊥)
       → NotBefore (least hs′) (until (m .clock) (f .leaseOrTimeout))
   pub txn : isCreate (f .op) ≡ true → NotBefore (least hs′) (until (m .clock) (f .leaseOrTimeout))
   pub wait : isLookUp (f .op) ≡ true → Knows hs′ (n .waits)

@@ -102,7 +102,7 @@ mem-getD [] i d h = absurd (omega arith)
 mem-getD (x ∷ xs) zero d h = List·Memᴰ·head refl
 mem-getD (x ∷ xs) (suc i) d h = List·Memᴰ·tail (mem-getD xs i d (omega arith))
 
-alone : (e : Entry) (es : List Entry) (i : ℕ) → i < length es → getD es i e ≡ e
+pub alone : (e : Entry) (es : List Entry) (i : ℕ) → i < length es → getD es i e ≡ e
     → Ascending (map (λ (x : Entry). x .id .0) es) → Alone e i es
 unfolding Ascending
 alone e [] i h q a = absurd (omega arith)

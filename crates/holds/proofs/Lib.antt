@@ -3,6 +3,7 @@ pub mod BitLaws
 pub mod MatchLaws
 pub mod FindLaws
 pub mod HandLaws
+pub mod RenewLaws
 pub mod ConflictLaws
 pub mod SweepLaws
 pub mod SlotLaws

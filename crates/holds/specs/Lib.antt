@@ -2,6 +2,7 @@
 pub mod Live
 pub mod Sweep
 pub mod Hand
+pub mod Renew
 pub mod Find
 pub mod Txns
 pub mod Leave

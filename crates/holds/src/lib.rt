@@ -4,5 +4,6 @@ pub mod find;
 pub mod hand;
 pub mod holds;
 pub mod live;
+pub mod renew;
 pub mod sweep;
 pub mod txns;

@@ -14,15 +14,16 @@ use Rattle.rules.specs.declared.Record.{Record}
 use Rattle.rules.specs.declared.Txn.{Txn}
 use Rattle.rules.specs.Lists.{filterb}
 use Rattle.rules.specs.Numbers.{maxEntries, maxTxns, maxWaits, stepRecords, areaRefused}
-use Rattle.rules.specs.Time.{reached}
+use Rattle.rules.specs.Time.{until, reached}
 use Rattle.rules.specs.State.{Model, Bounded}
 use Rattle.rules.specs.Holds.{oldest}
-use Rattle.rules.specs.Frame.{Frame, decode, isWrite, isCreate, isTick, serves}
+use Rattle.rules.specs.Frame.{Frame, entryNamed, decode, isWrite, isCreate, isTick, serves}
 use Rattle.rules.specs.Records.{exception, nothing}
 use Rattle.rules.specs.Done.{Carried, Done, quiet}
 use Rattle.rules.specs.Write.{newEntry, stored, write}
 use Rattle.rules.specs.LookUp.{lookUpOf, givesNothing, answer, answerFound, answerNothing, answerWaiting, lookUp}
 use Rattle.rules.specs.Transactions.{create, released, withoutTxn, commit, abort}
+use Rattle.rules.specs.Renew.{hasNumber, renewedTo, renewEntries, renew}
 use Rattle.rules.specs.Service.{service}
 use Rattle.rules.specs.Tick.{tick, endedTxns, abortAll, dropEnded, lapsed}
 use Rattle.rules.specs.Closing.{isOver, closeWaits}
@@ -102,6 +103,21 @@ unfolding abortAll
 abortAll-fits [] m b = b
 abortAll-fits (t ∷ ts) m b = abortAll-fits ts (abort (t .id .0) m) (abort-fits (t .id .0) m b)
 
+renew-fits : (m : Model) (f : Frame) → Bounded m → Bounded (renew m f .model)
+unfolding renew renewEntries
+renew-fits m f b =
+    let n = entryNamed f in
+    let end = until (m .clock) (f .leaseOrTimeout) in
+    let fewer = le-trans (length-filter (λ e. not (hasNumber n e)) (m .entries)) (b .entries-fit) in
+    let as-many : length (renewedTo n end (m .entries)) ≡ length (m .entries) = length-map (m .entries) _ in
+    record {
+      entries-fit =
+          cond-cases (λ (es : List Entry). length es ≤ maxEntries) (eqb (f .leaseOrTimeout) 0) (λ _. fewer)
+          (λ _. omega (arith, as-many, b .entries-fit));
+      txns-fit = b .txns-fit;
+      waits-fit = b .waits-fit;
+    }
+
 own-fits : (m : Model) (bs : List ℕ) (area : ℕ) → Clear m bs area → Sound m → Bounded m
     → Bounded (ownPart m (decode bs) .model)
 unfolding write lookUp commitFrame abortFrame tick
@@ -113,6 +129,7 @@ own-fits m bs area c s b =
     (λ t. create-fits m f t (c .txn-room) b)
     (λ t. commit-fits (f .txn) m b)
     (λ t. abort-fits (f .txn) m b)
+    (λ t. renew-fits m f b)
     (λ t. record { entries-fit = b .entries-fit; txns-fit = b .txns-fit; waits-fit = b .waits-fit })
 
 -- what a part leaves, with its records: at most n, and none for a look-up that waits on

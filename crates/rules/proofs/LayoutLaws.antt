@@ -1,21 +1,21 @@
 -- The table of operations: what its rows say of each operation, and with what a frame of each finishes.
 use Prim.Native.Nat.{ℕ, zero, suc, _≤_}
-use mathlib.Core.Bool.{true, false, not, _&&_, _||_, or-false}
-use mathlib.Core.Logic.{_⊎_, ⊎-elim}
+use mathlib.Core.Bool.{true, false, not, _&&_, _||_, or-false, true≢false}
 use mathlib.Core.Path.{_≡_, refl}
 use native.Mathlib.Omega.{arith}
-use borrow.Author.Tests.{eqb-true, eqb-false, eq-eqb, leb-true, leb-false, ltb-true}
+use borrow.Author.Tests.{eqb-true, leb-true}
 use lib.Dec.{eqb, leb, ltb}
-use lib.ListN.{length}
-use Rattle.rules.specs.Numbers.{opWrite, opRead, opTake, opReadIfExists, opTakeIfExists, opCreate, opCommit, opAbort, opTick}
+use Rattle.rules.specs.Numbers.{opWrite, opRead, opTake, opReadIfExists, opTakeIfExists, opCreate, opCommit}
+use Rattle.rules.specs.Numbers.{opAbort, opTick, opRenew}
 use Rattle.rules.specs.State.{Model}
-use Rattle.rules.specs.Frame.{Frame, layoutOf, isOperation, isWrite, isLookUp, isCreate, isCommit, isAbort, isTick}
-use Rattle.rules.specs.Frame.{layouts, lookUpOp, isTake, isIfExists, serves}
+use Rattle.rules.specs.Frame.{Frame, layoutOf, isOperation, isWrite, isLookUp, isCreate, isCommit, isAbort}
+use Rattle.rules.specs.Frame.{isTick, isRenew, namesEntry, lookUpOp, isTake, isIfExists, serves}
 use Rattle.rules.specs.Frame.{hasLeaseOrTimeout, endsTxn}
 use Rattle.rules.specs.Refusals.{badBlanks, malformed}
 use Rattle.rules.specs.Closing.{closeWaits}
 use Rattle.rules.specs.Step.{finish}
-use Rattle.rules.proofs.BoolLaws.{and-left, and-right, and-cases, twice-not}
+use Rattle.rules.proofs.BoolLaws.{and-left, and-right, twice-not}
+use Rattle.rules.proofs.OperationLaws.{op-cases}
 
 -- what holds of the four look-ups' operations
 pub lookUp-cases : (P : ℕ → Type 0) (op : ℕ) → isLookUp op ≡ true
@@ -49,17 +49,15 @@ write-form f e = rw e (simp or-false)
 
 -- an operation that is none of the others is tick
 pub left-is-tick : (op : ℕ) → isOperation op ≡ true → isWrite op ≡ false → isLookUp op ≡ false → isCreate op ≡ false
-    → isCommit op ≡ false → isAbort op ≡ false → isTick op ≡ true
-left-is-tick op is w l c k a =
-    let one = eqb-false op opWrite w in
-    let six = eqb-false op opCreate c in
-    let seven = eqb-false op opCommit k in
-    let eight = eqb-false op opAbort a in
-    let low = ltb-true 0 op (and-left _ (ltb op (length layouts)) is) in
-    let high = ltb-true op (length layouts) (and-right (ltb 0 op) _ is) in
-    eq-eqb op opTick
-    (⊎-elim (λ q. omega (arith, leb-false opRead op q)) (λ q. omega (arith, leb-false op opTakeIfExists q))
-    (and-cases (leb opRead op) (leb op opTakeIfExists) l))
+    → isCommit op ≡ false → isAbort op ≡ false → isRenew op ≡ false → isTick op ≡ true
+left-is-tick op is =
+    op-cases (λ n. isWrite n ≡ false → isLookUp n ≡ false → isCreate n ≡ false → isCommit n ≡ false
+    → isAbort n ≡ false → isRenew n ≡ false → isTick n ≡ true) op is
+    (λ w l c k a r. absurd (true≢false w)) (λ w l c k a r. absurd (true≢false l))
+    (λ w l c k a r. absurd (true≢false l)) (λ w l c k a r. absurd (true≢false l))
+    (λ w l c k a r. absurd (true≢false l)) (λ w l c k a r. absurd (true≢false c))
+    (λ w l c k a r. absurd (true≢false k)) (λ w l c k a r. absurd (true≢false a)) (λ w l c k a r. refl)
+    (λ w l c k a r. absurd (true≢false r))
 
 -- a frame after which service does not follow, and that is no tick, is over but for who waits in vain
 module _ (f : Frame) (m : Model) where
@@ -92,6 +90,10 @@ module _ (f : Frame) where
   unfolding serves layoutOf
   abort-serves e = rw (eqb-true (f .op) opAbort e)
 
+  pub renew-serves : isRenew (f .op) ≡ true → serves f ≡ false
+  unfolding serves layoutOf
+  renew-serves e = rw (eqb-true (f .op) opRenew e)
+
   pub tick-serves : isTick (f .op) ≡ true → serves f ≡ true
   unfolding serves layoutOf
   tick-serves e = rw (eqb-true (f .op) opTick e)
@@ -121,6 +123,26 @@ commit-not-tick op e = rw (eqb-true op opCommit e)
 pub abort-not-tick : (op : ℕ) → isAbort op ≡ true → isTick op ≡ false
 abort-not-tick op e = rw (eqb-true op opAbort e)
 
+pub renew-not-tick : (op : ℕ) → isRenew op ≡ true → isTick op ≡ false
+renew-not-tick op e = rw (eqb-true op opRenew e)
+
+pub renew-not-abort : (op : ℕ) → isRenew op ≡ true → isAbort op ≡ false
+renew-not-abort op e = rw (eqb-true op opRenew e)
+
+pub write-names : (op : ℕ) → isWrite op ≡ true → namesEntry op ≡ false
+unfolding layoutOf
+write-names op e = rw (eqb-true op opWrite e)
+
+pub lookUp-names : (op : ℕ) → isLookUp op ≡ true → namesEntry op ≡ false
+unfolding layoutOf
+lookUp-names op e = rw (lookUp-layout op e)
+
+-- renew alone names an entry
+pub entry-is : (op : ℕ) → isOperation op ≡ true → namesEntry op ≡ isRenew op
+unfolding layoutOf
+entry-is op is =
+    op-cases (λ n. namesEntry n ≡ isRenew n) op is refl refl refl refl refl refl refl refl refl refl
+
 -- commit and abort end a transaction
 pub commit-ends : (op : ℕ) → isCommit op ≡ true → endsTxn op ≡ true
 unfolding layoutOf
@@ -130,7 +152,7 @@ pub abort-ends : (op : ℕ) → isAbort op ≡ true → endsTxn op ≡ true
 unfolding layoutOf
 abort-ends op e = rw (eqb-true op 8 e)
 
--- a write, a look-up and a create have a lease or a timeout
+-- a write, a look-up, a create and a renewal have a lease or a timeout
 pub write-leases : (op : ℕ) → isWrite op ≡ true → hasLeaseOrTimeout op ≡ true
 unfolding layoutOf
 write-leases op e = rw (eqb-true op 1 e)
@@ -142,3 +164,11 @@ lookUp-leases op e = rw (lookUp-layout op e)
 pub create-leases : (op : ℕ) → isCreate op ≡ true → hasLeaseOrTimeout op ≡ true
 unfolding layoutOf
 create-leases op e = rw (eqb-true op 6 e)
+
+pub renew-leases : (op : ℕ) → isRenew op ≡ true → hasLeaseOrTimeout op ≡ true
+unfolding layoutOf
+renew-leases op e = rw (eqb-true op opRenew e)
+
+pub renew-names : (op : ℕ) → isRenew op ≡ true → namesEntry op ≡ true
+unfolding layoutOf
+renew-names op e = rw (eqb-true op opRenew e)

@@ -12,6 +12,7 @@ use Rattle.rules.specs.State.{Model}
 use Rattle.rules.specs.declared.LookUp.{LookUp}
 use Rattle.rules.specs.Frame.{Frame, decode, isOperation, isAbort}
 use Rattle.rules.specs.Refusals.{noOperation, wrongLength, malformed, wrongParty, withdraws, partyWaits, notLive, notOwn}
+use Rattle.rules.specs.Refusals.{noEntry, notWriter, notFree}
 use Rattle.rules.specs.Refusals.{noLease, tooLate, entriesFull, txnsFull, noNumber, rows, refusal, formRows, admissionRows, roomRows}
 use Rattle.rules.specs.Requests.{formRefusal, spaceRefusal}
 use Rattle.rules.proofs.ListLaws.{none-mem}
@@ -47,6 +48,9 @@ pub record Clear (m : Model) (bs : List ℕ) (area : ℕ) : Type 0 where
   pub form : malformed (decode bs) ≡ false
   pub party : wrongParty (decode bs) ≡ false
   pub free : partyWaits m (decode bs) ≡ false
+  pub entry : noEntry m (decode bs) ≡ false
+  pub writer : notWriter m (decode bs) ≡ false
+  pub unheld : notFree m (decode bs) ≡ false
   pub live : notLive m (decode bs) ≡ false
   pub own : notOwn m (decode bs) ≡ false
   pub lease : noLease (decode bs) ≡ false
@@ -66,13 +70,16 @@ clear m bs area e =
       form = r 3;
       party = r 4;
       free = r 5;
-      live = r 6;
-      own = r 7;
-      lease = r 8;
-      time = r 9;
-      entry-room = r 10;
-      txn-room = r 11;
-      numbers = r 12;
+      entry = r 6;
+      writer = r 7;
+      unheld = r 8;
+      live = r 9;
+      own = r 10;
+      lease = r 11;
+      time = r 12;
+      entry-room = r 13;
+      txn-room = r 14;
+      numbers = r 15;
     }
 
 -- who waits not, of the party of a frame that is no abort

@@ -26,6 +26,7 @@ use Rattle.rules.specs.LookUp.{lookUpOf, givesNothing, answer, answerFou
 use Rattle.rules.specs.Holds.{oldest, someConflicts}
 use Rattle.rules.specs.Write.{stored, write}
 use Rattle.rules.specs.Transactions.{create, commit, abort}
+use Rattle.rules.specs.Renew.{renew}
 use Rattle.rules.specs.Service.{serve, service}
 use Rattle.rules.specs.Closing.{isOver, closeWaits}
 use Rattle.rules.specs.Refusals.{wrongParty, partyWaits}
@@ -152,7 +153,7 @@ answer-ahead m f a none =
 
 pub own-ahead : (m : Model) (f : Frame) → isOperation (f .op) ≡ true → isTick (f .op) ≡ false → Ahead m
     → Ahead (ownPart m f .model)
-unfolding write stored lookUp create commitFrame commit abortFrame abort
+unfolding write stored lookUp create commitFrame commit abortFrame abort renew
 own-ahead m f o t a =
     own-cases (λ (d : Carried). Ahead (d .model)) m f o
     (λ _. a)
@@ -160,6 +161,7 @@ own-ahead m f o t a =
     (λ _. a)
     (λ _. a)
     (λ _ w i. a w (mem-filter (λ w. not (eqb (w .txn .0) (f .txn))) (m .waits) i .0))
+    (λ _. a)
     (λ y. absurd (true≢false (sym y ∙ t)))
 
 pub service-ahead : (m : Model) → Ahead m → Ahead (service m .model)

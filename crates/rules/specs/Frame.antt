@@ -1,13 +1,14 @@
--- "Frame layout": byte 0 operation, 1 party, 2 mask, 3 zero, 4-7 transaction, 8-11 lease or timeout, 12-27 fields.
+-- "Frame layout": byte 0 operation, 1 party, 2 mask, 3 zero, 4-7 transaction or entry, 8-11 lease or timeout, 12-27
+-- fields.
 use Prim.Native.Nat.{ℕ, _+_, _*_, _/_, _%_}
 use mathlib.Core.Bool.{Bool, true, false, not, cond, _&&_, _||_}
 use mathlib.Core.List.{List, [], _∷_, _++_}
-use lib.Dec.{eqb, leb, ltb}
-use lib.ListN.{getD, length, take}
+use lib.Dec.{eqb, leb}
+use lib.ListN.{getD, take}
 use Rattle.rules.specs.declared.Fields.{Fields}
 use Rattle.rules.specs.Template.{fourFields}
 use Rattle.rules.specs.Numbers.{opWrite, opRead, opTake, opReadIfExists, opTakeIfExists, opCreate, opCommit}
-use Rattle.rules.specs.Numbers.{opAbort, opTick}
+use Rattle.rules.specs.Numbers.{opAbort, opTick, opRenew}
 
 -- the byte at a place, and the little-endian number of four bytes there; 0 past the end
 abbrev pub byteAt : List ℕ → ℕ → ℕ
@@ -29,6 +30,7 @@ pub record Frame : Type 0 where
   pub party : ℕ
   pub mask : ℕ
   pub byte3 : ℕ
+  -- a transaction's number, or an entry's (`namesEntry`)
   pub txn : ℕ
   pub leaseOrTimeout : ℕ
   pub fields : Fields
@@ -76,6 +78,9 @@ isAbort op = eqb op opAbort
 abbrev pub isTick : ℕ → Bool
 isTick op = eqb op opTick
 
+abbrev pub isRenew : ℕ → Bool
+isRenew op = eqb op opRenew
+
 -- What the frames of an operation have
 pub record Layout : Type 0 where
   -- "length"
@@ -88,32 +93,36 @@ pub record Layout : Type 0 where
   pub lease : Bool
   -- it names no transaction: bytes 4-7 are 0
   pub outside : Bool
+  -- it names an entry: "an entry number in bytes 4-7" (document 02, T-05)
+  pub entry : Bool
   -- it ends a transaction: 0 is none
   pub ends : Bool
   -- service follows: "After a write outside transactions, a commit, an abort, and within a tick"
   pub serves : Bool
 
-abbrev layout : ℕ → Bool → Bool → Bool → Bool → Bool → Bool → Layout
-layout n t b l o e s =
-    record { size = n; template = t; blanks = b; lease = l; outside = o; ends = e; serves = s }
+abbrev layout : ℕ → Bool → Bool → Bool → Bool → Bool → Bool → Bool → Layout
+layout n t b l o i e s =
+    record { size = n; template = t; blanks = b; lease = l; outside = o; entry = i; ends = e; serves = s }
 
 abbrev noLayout : Layout
-noLayout = layout 0 false false false false false false
+noLayout = layout 0 false false false false false false false
 
--- The table of operations, by number; none has the number 0
+-- The table of operations, by number; none has the number 0 or 10
 abbrev pub layouts : List Layout
 layouts =
-    --      size template blanks lease outside ends  serves
+    --      size template blanks lease outside entry ends serves
     noLayout
-    ∷ layout 28 false true true false false true  -- write
-    ∷ layout 28 true false true false false false  -- read
-    ∷ layout 28 true false true false false false  -- take
-    ∷ layout 28 true false true false false false  -- readIfExists
-    ∷ layout 28 true false true false false false  -- takeIfExists
-    ∷ layout 12 false false true true false false  -- create
-    ∷ layout 8 false false false false true true  -- commit
-    ∷ layout 8 false false false false true true  -- abort
-    ∷ layout 4 false false false false false true  -- tick
+    ∷ layout 28 false true true false false false true  -- write
+    ∷ layout 28 true false true false false false false  -- read
+    ∷ layout 28 true false true false false false false  -- take
+    ∷ layout 28 true false true false false false false  -- readIfExists
+    ∷ layout 28 true false true false false false false  -- takeIfExists
+    ∷ layout 12 false false true true false false false  -- create
+    ∷ layout 8 false false false false false true true  -- commit
+    ∷ layout 8 false false false false false true true  -- abort
+    ∷ layout 4 false false false false false false true  -- tick
+    ∷ noLayout
+    ∷ layout 12 false false true false true false false  -- renew
     ∷ []
 
 unfoldable pub layoutOf : ℕ → Layout
@@ -121,7 +130,7 @@ layoutOf op = getD layouts op noLayout
 
 -- and its columns
 abbrev pub isOperation : ℕ → Bool
-isOperation op = ltb 0 op && ltb op (length layouts)
+isOperation op = not (eqb (layoutOf op .size) 0)
 
 -- "The lengths are a constant table"
 unfoldable pub frameLength : ℕ → ℕ
@@ -139,8 +148,15 @@ hasLeaseOrTimeout op = layoutOf op .lease
 abbrev pub namesNoTxn : ℕ → Bool
 namesNoTxn op = layoutOf op .outside
 
+abbrev pub namesEntry : ℕ → Bool
+namesEntry op = layoutOf op .entry
+
 abbrev pub endsTxn : ℕ → Bool
 endsTxn op = layoutOf op .ends
+
+-- the entry that a frame names, by its number
+abbrev pub entryNamed : Frame → ℕ
+entryNamed f = f .txn
 
 -- whether service follows the frame: not after a write inside a transaction
 unfoldable pub serves : Frame → Bool

@@ -18,6 +18,7 @@ pub mod Done
 pub mod Write
 pub mod LookUp
 pub mod Transactions
+pub mod Renew
 pub mod Service
 pub mod Tick
 pub mod Closing

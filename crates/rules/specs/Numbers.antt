@@ -69,6 +69,10 @@ opAbort = 8
 abbrev pub opTick : ℕ
 opTick = 9
 
+-- "Operation 11": 10 is none yet
+abbrev pub opRenew : ℕ
+opRenew = 11
+
 -- Kinds: byte 0 of an answer record
 
 abbrev pub kindWritten : ℕ
@@ -98,6 +102,9 @@ kindException = 8
 abbrev pub kindTicked : ℕ
 kindTicked = 9
 
+abbrev pub kindRenewed : ℕ
+kindRenewed = 12
+
 abbrev pub kindRefused : ℕ
 kindRefused = 15
 
@@ -107,7 +114,7 @@ kindRefused = 15
 abbrev pub areaRefused : ℕ
 areaRefused = 1
 
--- empty frame, or operation not 1-9
+-- empty frame, or operation not 1-9 or 11
 abbrev pub operationRefused : ℕ
 operationRefused = 2
 
@@ -154,6 +161,18 @@ txnsRefused = 12
 -- no next number
 abbrev pub numberRefused : ℕ
 numberRefused = 13
+
+-- of a renewal (document 02, T-05): no stored entry has that number
+abbrev pub noEntryRefused : ℕ
+noEntryRefused = 18
+
+-- another party wrote it
+abbrev pub notWriterRefused : ℕ
+notWriterRefused = 19
+
+-- it is private or held
+abbrev pub heldRefused : ℕ
+heldRefused = 20
 
 -- Refusals of a tray. (14 is never given out: document 02, T-04.)
 

@@ -13,9 +13,9 @@ use Rattle.rules.specs.declared.Txn.{Txn}
 use Rattle.rules.specs.declared.LookUp.{LookUp}
 use Rattle.rules.specs.Lists.{joined}
 use Rattle.rules.specs.Numbers.{recordSize, kindWritten, kindFound, kindNothing, kindWaiting, kindCreated}
-use Rattle.rules.specs.Numbers.{kindCommitted, kindAborted, kindException, kindTicked, kindRefused}
+use Rattle.rules.specs.Numbers.{kindCommitted, kindAborted, kindException, kindTicked, kindRenewed, kindRefused}
 use Rattle.rules.specs.Template.{fourFields, markOf}
-use Rattle.rules.specs.Frame.{Frame, byteAt, numberAt, fourBytes, fieldsAt}
+use Rattle.rules.specs.Frame.{Frame, entryNamed, byteAt, numberAt, fourBytes, fieldsAt}
 
 abbrev pub noFields : Fields
 noFields = fourFields 0 0 0 0
@@ -70,6 +70,18 @@ exception t = plain kindException (t .party) (t .id .0)
 
 unfoldable pub ticked : Record
 ticked = plain kindTicked 0 0
+
+-- "kind 12 with the entry number and transaction 0" (document 02, T-05)
+unfoldable pub renewed : Frame → Record
+renewed f =
+    record {
+      kind = kindRenewed;
+      party = f .party;
+      refusal = 0;
+      txn = record { 0 = 0 };
+      entry = record { 0 = entryNamed f };
+      fields = noMark;
+    }
 
 -- "A refused record's party is byte 1 of the frame, or 0 if the frame has none."
 unfoldable pub refused : List ℕ → ℕ → Record

@@ -1,26 +1,30 @@
 -- "Refused frames": the table, row by row. "Checked in this order; the first that applies is given, and none
 -- otherwise." Its row of 14 is gone (document 02, T-04): no frame comes to it on a space that frames made.
 use Prim.Native.Nat.{ℕ, _+_}
-use mathlib.Core.Bool.{Bool, false, not, cond, _&&_, _||_}
+use mathlib.Core.Bool.{Bool, true, false, not, cond, _&&_, _||_}
 use mathlib.Core.List.{List, [], _∷_, _++_}
 use mathlib.Core.Option.{Option, none, some}
 use lib.Dec.{eqb, leb, ltb}
 use lib.ListN.{length}
 use Rattle.rules.specs.declared.Fields.{Fields}
+use Rattle.rules.specs.declared.Entry.{Entry}
 use Rattle.rules.specs.declared.Txn.{Txn}
 use Rattle.rules.specs.declared.LookUp.{LookUp}
 use Rattle.rules.specs.Lists.{anyb, firstRow}
 use Rattle.rules.specs.Numbers.{forever, lastClock, maxParty, maxEntries, maxTxns, stepArea}
 use Rattle.rules.specs.Numbers.{areaRefused, operationRefused, lengthRefused, formRefused, partyRefused}
 use Rattle.rules.specs.Numbers.{waitingRefused, notLiveRefused, notOwnRefused, leaseRefused, clockRefused}
-use Rattle.rules.specs.Numbers.{entriesRefused, txnsRefused, numberRefused}
+use Rattle.rules.specs.Numbers.{entriesRefused, txnsRefused, numberRefused, noEntryRefused, notWriterRefused}
+use Rattle.rules.specs.Numbers.{heldRefused}
 use Rattle.rules.specs.State.{Model}
 use Rattle.rules.specs.Template.{bit}
 use Rattle.rules.specs.Holds.{liveTxn}
 use Rattle.rules.specs.Frame.{Frame, decode, frameLength, isOperation, isWrite, isCreate, isAbort, isTick}
-use Rattle.rules.specs.Frame.{hasTemplate, hasBlanks, hasLeaseOrTimeout, namesNoTxn, endsTxn}
+use Rattle.rules.specs.Frame.{hasTemplate, hasBlanks, hasLeaseOrTimeout, namesNoTxn, namesEntry, endsTxn}
+use Rattle.rules.specs.Frame.{entryNamed}
+use Rattle.rules.specs.Renew.{storedEntry}
 
--- 2: empty frame, or operation not 1-9
+-- 2: empty frame, or operation not 1-9 or 11
 unfoldable pub noOperation : List ℕ → Frame → Bool
 noOperation bs f = eqb (length bs) 0 || not (isOperation (f .op))
 
@@ -72,9 +76,35 @@ withdraws f w = isAbort (f .op) && not (eqb (f .txn) 0) && eqb (w .txn .0) (f .t
 unfoldable pub partyWaits : Model → Frame → Bool
 partyWaits m f = anyb (λ (w : LookUp). eqb (w .party) (f .party) && not (withdraws f w)) (m .waits)
 
--- a frame in a transaction: a number other than 0, and every commit and abort
+-- Renewals (document 02, T-05)
+
+-- 18: no stored entry has that number
+abbrev pub isMissing : Option Entry → Bool
+isMissing none = true
+isMissing (some e) = false
+
+unfoldable pub noEntry : Model → Frame → Bool
+noEntry m f = namesEntry (f .op) && isMissing (storedEntry (entryNamed f) (m .entries))
+
+-- 19: another party wrote it
+abbrev pub isBy : ℕ → Option Entry → Bool
+isBy party none = false
+isBy party (some e) = eqb (e .writer) party
+
+unfoldable pub notWriter : Model → Frame → Bool
+notWriter m f = namesEntry (f .op) && not (isBy (f .party) (storedEntry (entryNamed f) (m .entries)))
+
+-- 20: it is private or held, by whichever transaction
+abbrev pub isFree : Option Entry → Bool
+isFree none = false
+isFree (some e) = eqb (e .«private_to» .0) 0 && eqb (e .«taken_by» .0) 0 && eqb (e .readers) 0
+
+unfoldable pub notFree : Model → Frame → Bool
+notFree m f = namesEntry (f .op) && not (isFree (storedEntry (entryNamed f) (m .entries)))
+
+-- a frame in a transaction: a number other than 0, and every commit and abort; "7 and 8 pass it by", a renewal
 abbrev pub inTxn : Frame → Bool
-inTxn f = not (eqb (f .txn) 0) || endsTxn (f .op)
+inTxn f = not (namesEntry (f .op)) && not (eqb (f .txn) 0) || endsTxn (f .op)
 
 -- 7: the transaction is not live (commit and abort: also 0)
 unfoldable pub notLive : Model → Frame → Bool
@@ -121,10 +151,13 @@ formRows bs f =
     ∷ (wrongParty f, partyRefused)
     ∷ []
 
--- 6 to 8, of the party and its transaction
+-- 6 to 8, of the party, the entry that it renews and its transaction
 abbrev pub admissionRows : Model → Frame → List (Bool × ℕ)
 admissionRows m f =
     (partyWaits m f, waitingRefused)
+    ∷ (noEntry m f, noEntryRefused)
+    ∷ (notWriter m f, notWriterRefused)
+    ∷ (notFree m f, heldRefused)
     ∷ (notLive m f, notLiveRefused)
     ∷ (notOwn m f, notOwnRefused)
     ∷ []

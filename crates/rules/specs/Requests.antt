@@ -7,10 +7,10 @@ use mathlib.Core.Option.{Option, none, some}
 use lib.Dec.{eqb}
 use Rattle.rules.specs.declared.Fields.{Fields}
 use Rattle.rules.specs.declared.Request.{Request}
-use Rattle.rules.specs.declared.Request.the-variants.{Write, Find, Create, Commit, Abort, Tick}
+use Rattle.rules.specs.declared.Request.the-variants.{Write, Find, Create, Commit, Abort, Renew, Tick}
 use Rattle.rules.specs.declared.Decoded.{Decoded}
 use Rattle.rules.specs.declared.Decoded.the-variants.{Asks, Refused}
-use Rattle.rules.specs.Numbers.{opWrite, opCreate, opCommit, opAbort, opTick}
+use Rattle.rules.specs.Numbers.{opWrite, opCreate, opCommit, opAbort, opTick, opRenew}
 use Rattle.rules.specs.Lists.{firstRow}
 use Rattle.rules.specs.State.{Model}
 use Rattle.rules.specs.Frame.{Frame, decode, lookUpOp}
@@ -30,7 +30,7 @@ frame op party mask txn leaseOrTimeout xs =
       fields = xs;
     }
 
--- one without mask and fields
+-- one without mask and fields, by transaction or entry
 abbrev pub plainFrame : ℕ → ℕ → ℕ → ℕ → Frame
 plainFrame op party txn leaseOrTimeout = frame op party 0 txn leaseOrTimeout noFields
 
@@ -42,6 +42,7 @@ frameOf (Find l) =
 frameOf (Create party lease) = plainFrame opCreate party 0 lease
 frameOf (Commit party txn) = plainFrame opCommit party (txn .0) 0
 frameOf (Abort party txn) = plainFrame opAbort party (txn .0) 0
+frameOf (Renew party entry lease) = plainFrame opRenew party (entry .0) lease
 frameOf Tick = plainFrame opTick 0 0 0
 
 -- the decoder's answer as a frame, where it asks for one, and as a refusal's number, or 0
@@ -57,7 +58,7 @@ numberOf (Refused n) = n
 unfoldable pub formRefusal : List ℕ → ℕ
 formRefusal bs = firstRow (formRows bs (decode bs))
 
--- and those that judge it against the space: the first of 6 to 13 that applies, or 0
+-- and those that judge it against the space: the first of those behind 5 that applies, or 0
 unfoldable pub spaceRefusal : Model → Frame → ℕ
 spaceRefusal m f = firstRow (admissionRows m f ++ roomRows m f)
 

@@ -13,7 +13,7 @@ use Rattle.rules.specs.Lists.{filterb, anyb, distinct}
 use Rattle.rules.specs.State.{Model}
 use Rattle.rules.specs.Time.{until, reached}
 use Rattle.rules.specs.Numbers.{kindWritten, kindFound, kindCommitted, kindAborted, kindException, kindTicked}
-use Rattle.rules.specs.Numbers.{kindRefused}
+use Rattle.rules.specs.Numbers.{kindRenewed, kindRefused}
 use Rattle.rules.specs.Template.{markOf}
 use Rattle.rules.specs.Frame.{Frame, decode, isLookUp, isTake}
 use Rattle.rules.specs.Transactions.{privateTo}
@@ -93,6 +93,16 @@ unfoldable pub carryOutAll : List Operation → Run → Run
 carryOutAll [] r = r
 carryOutAll (o ∷ os) r = carryOutAll os (carryOut o r)
 
+-- "In the serial run a renewal changes the entry's end at its place" (document 02, T-05); one whose entry is missing
+-- fails the run. Lease 0 ends it at the run's clock, so that it is dropped in the end
+abbrev pub keptTo : Until → Kept → Kept
+keptTo end k = record { number = k .number; fields = k .fields; end = end }
+
+unfoldable pub renewing : ℕ → Until → Run → Run
+renewing n end r =
+    cond (anyb (λ k. eqb (k .number) n) (r .kept))
+    (withKept (map (λ k. cond (eqb (k .number) n) (keptTo end k) k) (r .kept)) r) (failed r)
+
 -- at once outside transactions, else put last in the transaction's list
 unfoldable pub perform : ℕ → Operation → Run → Run
 perform t o r = cond (eqb t 0) (carryOut o r) (withPending (r .pending ++ (record { txn = t; operation = o } ∷ [])) r)
@@ -127,7 +137,8 @@ follow f a r =
     (perform (a .txn .0) (finds (lastTakes (a .party) (r .asked)) (a .entry .0) (a .fields)) r)
     (cond (eqb (a .kind) kindCommitted) (carryOutAll (listOf (a .txn .0) r) (thrownAway (a .txn .0) r))
     (cond (eqb (a .kind) kindAborted || eqb (a .kind) kindException) (thrownAway (a .txn .0) r)
-    (cond (eqb (a .kind) kindTicked) (advanced r) r))))
+    (cond (eqb (a .kind) kindTicked) (advanced r)
+    (cond (eqb (a .kind) kindRenewed) (renewing (a .entry .0) (until (r .clock) (f .leaseOrTimeout)) r) r)))))
 
 unfoldable pub followAll : Frame → List Record → Run → Run
 followAll f [] r = r

@@ -20,11 +20,19 @@ pub record Model : Type 0 where
   -- the waiting look-ups, by arrival
   pub waits : List LookUp
 
--- an entry with the same number, fields and end, and with other holders: to whom it is private, by whom it is taken and
--- read
+-- an entry with the same number, fields, end and writer, and with other holders: to whom it is private, by whom it is
+-- taken and read
 abbrev pub holding : Entry → TxnId → TxnId → ℕ → Entry
 holding e owner taker holders =
-    record { id = e .id; fields = e .fields; end = e .end; «private_to» = owner; «taken_by» = taker; readers = holders }
+    record {
+      id = e .id;
+      fields = e .fields;
+      end = e .end;
+      «private_to» = owner;
+      «taken_by» = taker;
+      readers = holders;
+      writer = e .writer;
+    }
 
 -- "An empty space has clock 0, nothing stored, live or waiting, and 1 as both next numbers."
 abbrev pub empty : Model

@@ -6,12 +6,14 @@ use lib.Dec.{eqb}
 use Rattle.rules.specs.declared.Record.{Record}
 use Rattle.rules.specs.Numbers.{areaRefused}
 use Rattle.rules.specs.State.{Model}
-use Rattle.rules.specs.Frame.{Frame, decode, isWrite, isLookUp, isCreate, isCommit, isAbort, isTick, serves}
+use Rattle.rules.specs.Frame.{Frame, decode, isWrite, isLookUp, isCreate, isCommit, isAbort, isRenew, isTick}
+use Rattle.rules.specs.Frame.{serves}
 use Rattle.rules.specs.Records.{committed, aborted, refused}
 use Rattle.rules.specs.Done.{Carried, Done, quiet, after}
 use Rattle.rules.specs.Write.{write}
 use Rattle.rules.specs.LookUp.{lookUp}
 use Rattle.rules.specs.Transactions.{create, commit, abort}
+use Rattle.rules.specs.Renew.{renew}
 use Rattle.rules.specs.Service.{service}
 use Rattle.rules.specs.Tick.{tick, lapsed}
 use Rattle.rules.specs.Closing.{closeWaits}
@@ -31,7 +33,8 @@ ownPart m f =
     (cond (isLookUp (f .op)) (lookUp m f)
     (cond (isCreate (f .op)) (create m f)
     (cond (isCommit (f .op)) (commitFrame m f)
-    (cond (isAbort (f .op)) (abortFrame m f) (tick m)))))
+    (cond (isAbort (f .op)) (abortFrame m f)
+    (cond (isRenew (f .op)) (renew m f) (tick m))))))
 
 -- What it ends with, "in this order": what ends now, in a tick; service, where it follows; and "once service is over"
 -- the look-ups that wait in vain (document 02, T-07) or whose deadline is reached. "then exceptions, founds in the

@@ -88,6 +88,7 @@ entryFrom ws o =
       «private_to» = record { 0 = getD ws (o + 6) 0 };
       «taken_by» = record { 0 = getD ws (o + 7) 0 };
       readers = getD ws (o + 8) 0 % 256;
+      writer = getD ws (o + 8) 0 / 65536 % 256;
     }
 
 abbrev pub txnFrom : List ℕ → ℕ → Txn
@@ -115,7 +116,7 @@ waitFrom ws o =
 abbrev pub entryWords : Entry → List ℕ
 entryWords e =
     e .id .0 ∷ e .fields .kind ∷ e .fields .side ∷ e .fields .image ∷ e .fields .place ∷ untilWord (e .end)
-    ∷ e .«private_to» .0 ∷ e .«taken_by» .0 ∷ (e .readers + 256 * e .fields .blanks) ∷ []
+    ∷ e .«private_to» .0 ∷ e .«taken_by» .0 ∷ (e .readers + 256 * e .fields .blanks + 65536 * e .writer) ∷ []
 
 abbrev pub txnWords : Txn → List ℕ
 txnWords t = t .id .0 ∷ t .party ∷ untilWord (t .end) ∷ t .slot ∷ []

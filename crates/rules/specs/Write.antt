@@ -21,6 +21,7 @@ newEntry m f =
       «private_to» = record { 0 = f .txn };
       «taken_by» = record { 0 = 0 };
       readers = 0;
+      writer = f .party;
     }
 
 -- "Lease 0: the write is accepted and gets a number, but the entry is never stored or found."

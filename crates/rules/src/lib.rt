@@ -41,6 +41,8 @@ pub struct Entry {
     pub taken_by: TxnId,
     // Bit p: the live transaction at slot p has a read hold on it.
     pub readers: u8,
+    // The party that wrote it.
+    pub writer: u8,
 }
 
 // A live transaction.
@@ -102,6 +104,8 @@ pub enum Request {
     // The party, and its transaction.
     Commit(u8, TxnId),
     Abort(u8, TxnId),
+    // The party, the entry, and the lease.
+    Renew(u8, EntryId, u32),
     Tick,
 }
 

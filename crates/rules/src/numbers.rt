@@ -43,6 +43,8 @@ pub const OP_ABORT: u8 = 8;
 
 pub const OP_TICK: u8 = 9;
 
+pub const OP_RENEW: u8 = 11;
+
 // Kinds: byte 0 of an answer record.
 pub const KIND_WRITTEN: u8 = 1;
 
@@ -62,9 +64,11 @@ pub const KIND_EXCEPTION: u8 = 8;
 
 pub const KIND_TICKED: u8 = 9;
 
+pub const KIND_RENEWED: u8 = 12;
+
 pub const KIND_REFUSED: u8 = 15;
 
-// Refusals: 1 to 13 judge a frame, 15 and 16 a tray.
+// Refusals: 1 to 13 and 18 to 20 judge a frame, 15 and 16 a tray.
 pub const AREA_REFUSED: u8 = 1;
 
 pub const OPERATION_REFUSED: u8 = 2;
@@ -95,3 +99,9 @@ pub const NUMBER_REFUSED: u8 = 13;
 pub const TRAY_REFUSED: u8 = 15;
 
 pub const PAIRS_REFUSED: u8 = 16;
+
+pub const NO_ENTRY_REFUSED: u8 = 18;
+
+pub const NOT_WRITER_REFUSED: u8 = 19;
+
+pub const HELD_REFUSED: u8 = 20;

@@ -1,33 +1,37 @@
 -- Where an entry, a look-up and a transaction come from that are there after an event.
 use Prim.Native.Nat.{ℕ, _+_}
-use mathlib.Core.Bool.{Bool, true, not}
+use mathlib.Core.Bool.{Bool, true, cond, not, _||_}
 use mathlib.Core.Logic.{_⊎_, inl, inr}
 use mathlib.Core.Path.{_≡_, refl}
 use mathlib.Core.List.{List, map, List·Memᴰ}
-use borrow.Author.Tests.{eqb-false, not-true}
+use borrow.Author.Tests.{eqb-true, eqb-false, not-true}
 use lib.Dec.{eqb}
 use Rattle.rules.specs.declared.Entry.{Entry}
+use Rattle.rules.specs.declared.Mark.{Mark}
 use Rattle.rules.specs.declared.Txn.{Txn}
 use Rattle.rules.specs.declared.LookUp.{LookUp}
 use Rattle.rules.specs.Lists.{filterb, All}
 use Rattle.rules.specs.Time.{until, reached}
+use Rattle.rules.specs.Template.{markOf}
 use Rattle.rules.specs.State.{Model}
 use Rattle.rules.specs.Holds.{available}
-use Rattle.rules.specs.Frame.{Frame, isWrite, isLookUp, isCreate, isCommit, isTick}
+use Rattle.rules.specs.Frame.{Frame, entryNamed, isWrite, isLookUp, isCreate, isCommit, isRenew, isTick}
 use Rattle.rules.specs.Records.{written, found, nothing, waiting, created, committed, aborted, exception, ticked}
-use Rattle.rules.specs.Records.{refused, isTicked}
+use Rattle.rules.specs.Records.{renewed, refused, isTicked}
 use Rattle.rules.specs.Write.{newEntry, stored}
 use Rattle.rules.specs.LookUp.{lookUpOf}
 use Rattle.rules.specs.Transactions.{freeSlot, create, privateTo, takenBy, released, withoutTxn, commit, abort}
+use Rattle.rules.specs.Renew.{hasNumber, endingAt, renewEntries, renew}
 use Rattle.rules.specs.Tick.{dropEnded}
 use Rattle.rules.specs.SerialRun.{Kept, keptOf}
 use Rattle.rules.specs.Sound.{ByNumber}
 use Rattle.rules.proofs.ListLaws.{count}
+use Rattle.rules.proofs.BoolLaws.{cond-cases}
 use Rattle.sound.proofs.AllLaws.{all-snoc, all-filter, all-map, out-all, out-mem}
 use Rattle.sound.proofs.AscendingLaws.{ascend-unique}
 use Rattle.sound.proofs.HoldLaws.{eqb-cases, heldBy, handed-all}
 use Rattle.sound.proofs.Events.{Admitted, Heard, says, Event, refuses, asks, writes, is-found, is-nothing}
-use Rattle.sound.proofs.Events.{is-waiting, creates, commits, aborts, ticks, excepts, expires}
+use Rattle.sound.proofs.Events.{is-waiting, creates, commits, aborts, renews, ticks, excepts, expires}
 
 -- the transaction that a create makes
 abbrev pub newTxn : Model → Frame → Txn
@@ -39,8 +43,17 @@ newTxn m f =
       slot = freeSlot (m .txns);
     }
 
--- an entry, with the transactions that are live then: it is new; or it is an old one, with number, fields and end as
--- they were, unchanged, or committed and with a hold, or released by a transaction that ends
+-- the frames that give an entry its end
+abbrev pub endsEntry : ℕ → Bool
+endsEntry op = isWrite op || isRenew op
+
+-- the entry that a renewal leaves
+abbrev pub renewedBy : Model → Frame → Entry → Entry
+renewedBy m f e = endingAt (until (m .clock) (f .leaseOrTimeout)) e
+
+-- an entry, with the transactions that are live then: it is new; or it is an old one, with number, fields and writer as
+-- they were, unchanged, or committed and with a hold, or released by a transaction that ends; and with its end as it
+-- was, unless it is renewed
 pub data Becomes (f : Frame) (m : Model) : Entry → List Txn → Type 0 where
   is-new : isWrite (f .op) ≡ true → Admitted f m → (f .leaseOrTimeout ≡ 0 → ⊥) → Becomes f m (newEntry m f) (m .txns)
   as-was : (e : Entry) → List·Memᴰ e (m .entries) → Becomes f m e (m .txns)
@@ -48,6 +61,8 @@ pub data Becomes (f : Frame) (m : Model) : Entry → List Txn → Type 0 where
   is-held : (w : LookUp) (e : Entry) (b : Bool) → List·Memᴰ w (m .waits) → List·Memᴰ e (m .entries)
       → available (m .txns) w e ≡ true → w .takes ≡ b → e .«private_to» .0 ≡ 0 → (w .txn .0 ≡ 0 → ⊥)
       → Becomes f m (heldBy (m .txns) w e b) (m .txns)
+  is-renewed : isRenew (f .op) ≡ true → Admitted f m → (f .leaseOrTimeout ≡ 0 → ⊥) → (e : Entry)
+      → List·Memᴰ e (m .entries) → e .id .0 ≡ entryNamed f → Becomes f m (renewedBy m f e) (m .txns)
   is-freed : (t : ℕ) (e : Entry) → List·Memᴰ e (m .entries)
       → Becomes f m (released (m .txns) t e) (withoutTxn t (m .txns))
 
@@ -57,9 +72,24 @@ freed-all f m t p =
     all-map (λ e. Becomes f m e (withoutTxn t (m .txns))) (released (m .txns) t) (filterb p (m .entries))
     (all-filter p (m .entries) (λ e i _. is-freed t e i))
 
+-- what holds of the other entries, and of the one that is renewed, holds of those that a renewal leaves
+pub renewed-all : (Q : Entry → Type 0) (f : Frame) (m : Model)
+    → ((e : Entry) → List·Memᴰ e (m .entries) → (e .id .0 ≡ entryNamed f → ⊥) → Q e)
+    → ((f .leaseOrTimeout ≡ 0 → ⊥) → (e : Entry) → List·Memᴰ e (m .entries) → e .id .0 ≡ entryNamed f
+    → Q (renewedBy m f e))
+    → All Q (renewEntries m f)
+unfolding renewEntries
+renewed-all Q f m h renewal =
+    let n = entryNamed f in
+    eqb-cases (All Q) (f .leaseOrTimeout) 0
+    (λ _. all-filter (λ e. not (hasNumber n e)) (m .entries) (λ e i q. h e i (eqb-false (e .id .0) n (not-true _ q))))
+    (λ d. all-map Q (λ e. cond (hasNumber n e) (renewedBy m f e) e) (m .entries)
+    (λ e i. cond-cases Q (hasNumber n e) (λ q. renewal d e i (eqb-true (e .id .0) n q))
+    (λ q. h e i (eqb-false (e .id .0) n q))))
+
 pub becomes : {f : Frame} {m n : Model} {hs : List Heard} → Event f m hs n → ByNumber m
     → All (λ e. Becomes f m e (n .txns)) (n .entries)
-unfolding stored create commit abort dropEnded
+unfolding stored create commit abort renew dropEnded
 becomes (refuses m bs area q) s = as-was
 becomes (asks m t a) s = as-was
 becomes {f} (writes m t a) s =
@@ -74,6 +104,8 @@ becomes (is-waiting m w i q n d c) s = as-was
 becomes (creates m t a) s = as-ever
 becomes {f} (commits m t a) s = freed-all f m (f .txn) (λ e. not (takenBy (f .txn) e))
 becomes {f} (aborts m t a) s = freed-all f m (f .txn) (λ e. not (privateTo (f .txn) e))
+becomes {f} (renews m t a) s =
+    renewed-all (λ e. Becomes f m e (m .txns)) f m (λ e i _. as-was e i) (λ d e i q. is-renewed t a d e i q)
 becomes (ticks m t a) s = as-was
 becomes {f} (excepts m t k i r) s = freed-all f m (t .id .0) (λ e. not (privateTo (t .id .0) e))
 becomes (expires m k) s = all-filter (λ e. not (reached (m .clock) (e .end))) (m .entries) (λ e i _. as-was e i)
@@ -97,7 +129,7 @@ outside-all f m t =
 
 pub waits-on : {f : Frame} {m n : Model} {hs : List Heard} → Event f m hs n
     → All (λ w. WaitsOn f m w (n .txns)) (n .waits)
-unfolding stored create commit abort dropEnded
+unfolding stored create commit abort renew dropEnded
 waits-on (refuses m bs area q) = waited
 waits-on (asks m t a) = all-snoc (m .waits) waited (is-asked t a)
 waits-on (writes m t a) = waited
@@ -107,22 +139,42 @@ waits-on (is-waiting m w i q n d c) = waited
 waits-on (creates m t a) = waited-ever
 waits-on (commits m t a) = waited-commit t a
 waits-on {f} (aborts m t a) = outside-all f m (f .txn)
+waits-on (renews m t a) = waited
 waits-on (ticks m t a) = waited
 waits-on {f} (excepts m t k i r) = outside-all f m (t .id .0)
 waits-on (expires m k) = waited
 
--- what holds of numbers, fields and ends holds on, if it holds of a new entry
+-- what holds of numbers, fields and ends holds on, if it holds of a new entry and of a renewed one
 pub kept-all : (K : Kept → Type 0) {f : Frame} {m n : Model} {hs : List Heard} → Event f m hs n → ByNumber m
     → (isWrite (f .op) ≡ true → Admitted f m → (f .leaseOrTimeout ≡ 0 → ⊥) → K (keptOf (newEntry m f)))
+    → (isRenew (f .op) ≡ true → Admitted f m → (f .leaseOrTimeout ≡ 0 → ⊥) → (e : Entry) → List·Memᴰ e (m .entries)
+    → K (keptOf (renewedBy m f e)))
     → All (λ e. K (keptOf e)) (m .entries) → All (λ e. K (keptOf e)) (n .entries)
 unfolding released
-kept-all K {f} {m} e s new h x i = go (becomes e s x i)
+kept-all K {f} {m} e s new renewal h x i = go (becomes e s x i)
   where
     go : {x : Entry} {ts : List Txn} → Becomes f m x ts → K (keptOf x)
     go (is-new t a d) = new t a d
     go (as-was x i) = h x i
     go (as-ever x i) = h x i
     go (is-held w x b j i av t c d) = h x i
+    go (is-renewed t a d x i q) = renewal t a d x i
+    go (is-freed t x i) = h x i
+
+-- number, fields and writer stay as they were written
+pub written-all : (K : ℕ → Mark → ℕ → Type 0) {f : Frame} {m n : Model} {hs : List Heard} → Event f m hs n → ByNumber m
+    → (isWrite (f .op) ≡ true → Admitted f m → K (m .nextEntry) (markOf (f .mask) (f .fields)) (f .party))
+    → All (λ e. K (e .id .0) (e .fields) (e .writer)) (m .entries)
+    → All (λ e. K (e .id .0) (e .fields) (e .writer)) (n .entries)
+unfolding newEntry released
+written-all K {f} {m} e s new h x i = go (becomes e s x i)
+  where
+    go : {x : Entry} {ts : List Txn} → Becomes f m x ts → K (x .id .0) (x .fields) (x .writer)
+    go (is-new t a d) = new t a
+    go (as-was x i) = h x i
+    go (as-ever x i) = h x i
+    go (is-held w x b j i av t c d) = h x i
+    go (is-renewed t a d x i q) = h x i
     go (is-freed t x i) = h x i
 
 -- what holds of the look-ups holds on, if it holds of the frame's
@@ -140,7 +192,7 @@ waits-all W {f} {m} e new h w i = go (waits-on e w i)
 -- and so of the live transactions
 pub txns-all : (T : Txn → Type 0) {f : Frame} {m n : Model} {hs : List Heard} → Event f m hs n
     → (isCreate (f .op) ≡ true → Admitted f m → T (newTxn m f)) → All T (m .txns) → All T (n .txns)
-unfolding stored create commit abort withoutTxn dropEnded
+unfolding stored create commit abort withoutTxn renew dropEnded
 txns-all T (refuses m bs area q) new h = h
 txns-all T (asks m t a) new h = h
 txns-all T (writes m t a) new h = h
@@ -150,6 +202,7 @@ txns-all T (is-waiting m w i q n d c) new h = h
 txns-all T (creates m t a) new h = all-snoc (m .txns) h (new t a)
 txns-all T {f} (commits m t a) new h = all-filter (λ x. not (eqb (x .id .0) (f .txn))) (m .txns) (λ x i _. h x i)
 txns-all T {f} (aborts m t a) new h = all-filter (λ x. not (eqb (x .id .0) (f .txn))) (m .txns) (λ x i _. h x i)
+txns-all T (renews m t a) new h = h
 txns-all T (ticks m t a) new h = h
 txns-all T (excepts m t k i r) new h = all-filter (λ x. not (eqb (x .id .0) (t .id .0))) (m .txns) (λ x i _. h x i)
 txns-all T (expires m k) new h = h
@@ -158,8 +211,8 @@ txns-all T (expires m k) new h = h
 pub clock-moves : {f : Frame} {m n : Model} {hs : List Heard} → Event f m hs n
     → ((n .clock ≡ m .clock) × (count (says isTicked) hs ≡ 0))
     ⊎ ((n .clock ≡ m .clock + 1) × (count (says isTicked) hs ≡ 1) × (isTick (f .op) ≡ true) × Admitted f m)
-unfolding stored create commit abort dropEnded written found nothing waiting created committed aborted exception ticked
-    refused
+unfolding stored create commit abort renew dropEnded written found nothing waiting created committed aborted exception
+    renewed ticked refused
 clock-moves (refuses m bs area q) = inl (refl, refl)
 clock-moves (asks m t a) = inl (refl, refl)
 clock-moves (writes m t a) = inl (refl, refl)
@@ -169,6 +222,7 @@ clock-moves (is-waiting m w i q n d c) = inl (refl, refl)
 clock-moves (creates m t a) = inl (refl, refl)
 clock-moves (commits m t a) = inl (refl, refl)
 clock-moves (aborts m t a) = inl (refl, refl)
+clock-moves (renews m t a) = inl (refl, refl)
 clock-moves (ticks m t a) = inr (refl, refl, t, a)
 clock-moves (excepts m t k i r) = inl (refl, refl)
 clock-moves (expires m k) = inl (refl, refl)

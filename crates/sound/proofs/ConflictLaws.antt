@@ -3,9 +3,9 @@
 use Prim.Native.Nat.{ℕ}
 use mathlib.Core.Bool.{Bool, true, false, cond, not, _&&_, _||_, and-false, or-true, true≢false}
 use mathlib.Core.Logic.{inl, inr, ⊎-elim}
-use mathlib.Core.Path.{_≡_, refl, sym, ap, ap₂, _∙_}
+use mathlib.Core.Path.{_≡_, refl, sym, ap, ap₂, _∙_, subst}
 use mathlib.Core.Option.{Option, none, some}
-use mathlib.Core.List.{List, [], _∷_, List·Memᴰ, List·Memᴰ·head, List·Memᴰ·tail}
+use mathlib.Core.List.{List, [], _∷_, map, List·Memᴰ, List·Memᴰ·head, List·Memᴰ·tail, Memᴰ·map}
 use native.Mathlib.Omega.{arith}
 use borrow.Author.Tests.{eqb-true, eqb-false, ne-eqb, not-true, not-false}
 use lib.Dec.{eqb}
@@ -20,18 +20,21 @@ use Rattle.rules.specs.Holds.{othersIf, conflicts, someConflicts, oldest}
 use Rattle.rules.specs.LookUp.{removes, marked, handOut, lookUpOf, answer, answerFound, answerNothing, answerWaiting}
 use Rattle.rules.specs.LookUp.{givesNothing, lookUp}
 use Rattle.rules.specs.Sound.{TxnsOk, Ahead, Hopeful, Sound}
-use Rattle.rules.specs.Frame.{Frame, isOperation, isTake, isTick, endsTxn, serves}
+use Rattle.rules.specs.Time.{until}
+use Rattle.rules.specs.Frame.{Frame, entryNamed, isOperation, isTake, isTick, endsTxn, serves}
 use Rattle.rules.specs.Done.{Carried, quiet}
 use Rattle.rules.specs.Write.{newEntry, stored, write}
 use Rattle.rules.specs.Transactions.{create}
+use Rattle.rules.specs.Renew.{hasNumber, endingAt, renewedTo, renewEntries, renew}
 use Rattle.rules.specs.Service.{serve, service}
 use Rattle.rules.specs.Closing.{closeWaits, endsConflicts}
 use Rattle.rules.specs.Step.{ownPart}
 use Rattle.rules.proofs.BoolLaws.{option-cases, bool-cases, cond-cases, and-left, and-right, and-false-right, or-cases}
 use Rattle.rules.proofs.BoolLaws.{or-left, or-right}
-use Rattle.rules.proofs.ListLaws.{any-mem, mem-any, any-append, any-same, find-some, none-mem}
+use Rattle.rules.proofs.ListLaws.{any-mem, mem-any, any-append, any-same, find-some, none-mem, filter-mem}
 use Rattle.rules.proofs.StepCases.{own-cases, serve-ind}
-use Rattle.rules.proofs.LayoutLaws.{lookUp-serves, create-serves, write-serves, commit-ends, abort-ends}
+use Rattle.rules.proofs.LayoutLaws.{lookUp-serves, create-serves, write-serves, renew-serves, commit-ends}
+use Rattle.rules.proofs.LayoutLaws.{abort-ends}
 use Rattle.rules.proofs.SoundLaws.{served-among, own-ahead, service-ahead, all-hopeful}
 use Rattle.sound.proofs.HoldLaws.{equal-or, not-so, available-free, heldBy, removes-why, mark-cases, eqb-cases}
 use Rattle.sound.proofs.HoldLaws.{others-stay, mark-stays, handed-all}
@@ -39,6 +42,7 @@ use Rattle.sound.proofs.AllLaws.{all-snoc}
 use Rattle.sound.proofs.AscendingLaws.{ascend-unique}
 use Rattle.sound.proofs.OrderLaws.{Numbered, handed-numbered, stored-order}
 use Rattle.sound.proofs.Consistent.{unique-entry, ok-below}
+use Rattle.sound.proofs.Events.{Renewable, Admitted}
 use Rattle.sound.proofs.SoundProof.{find-snoc}
 use Rattle.sound.proofs.HolderLaws.{live-is, drop-none}
 use Rattle.sound.proofs.Unavailable.{still-read-of, read-hides}
@@ -247,11 +251,35 @@ module _ (m : Model) (f : Frame) (s : Sound m) where
       none : (v : LookUp) → List·Memᴰ v (m .waits) → Committed (m .txns) (m .entries) v
       none v j e k a = absurd (true≢false (sym a ∙ none-mem (available (m .txns) v) (s .none-for v j) k))
 
+  -- what is renewed conflicts with nobody
+  renew-hopeful : Renewable f m → Hopeful (renew m f .model)
+  unfolding renew renewEntries
+  renew-hopeful r w i t =
+      let c = any-mem (conflicts (m .txns) w) (m .entries) (s .hopeful w i t) in
+      let e = c .0 in
+      let other : hasNumber (entryNamed f) e ≡ false =
+      ne-eqb (e .id .0) (entryNamed f) (λ q.
+      let same = unique-entry (s .consistent) (c .1) (r .stored) (q ∙ sym (r .number)) in
+      free-of (m .txns) w (r .entry) (r .committed) (r .untaken)
+      (ap (dropReaderOf (liveTxn (w .txn .0) (m .txns))) (r .unread) ∙ drop-none (liveTxn (w .txn .0) (m .txns)))
+      (ap (conflicts (m .txns) w) (sym same) ∙ c .2)) in
+      cond-cases (λ (es : List Entry). someConflicts (m .txns) w es ≡ true) (eqb (f .leaseOrTimeout) 0)
+      (λ _. mem-any (conflicts (m .txns) w)
+      (filter-mem (λ x. not (hasNumber (entryNamed f) x)) (c .1) (ap not other)) (c .2))
+      (λ _. mem-any (conflicts (m .txns) w) (mapped e (c .1) other) (c .2))
+    where
+      mapped : (e : Entry) → List·Memᴰ e (m .entries) → hasNumber (entryNamed f) e ≡ false
+          → List·Memᴰ e (renewedTo (entryNamed f) (until (m .clock) (f .leaseOrTimeout)) (m .entries))
+      mapped e i o =
+          let end = until (m .clock) (f .leaseOrTimeout) in
+          let step : Entry → Entry = λ x. cond (hasNumber (entryNamed f) x) (endingAt end x) x in
+          subst (λ x. List·Memᴰ x (map step (m .entries))) (rw o) (Memᴰ·map step i)
+
   -- what the others leave
   abbrev left : Model
   left = leftOf f (ownPart m f .model)
 
-  module _ (is : isOperation (f .op) ≡ true) (spares : endsConflicts f ≡ false) where
+  module _ (is : isOperation (f .op) ≡ true) (a : Admitted f m) (spares : endsConflicts f ≡ false) where
     no-tick : isTick (f .op) ≡ false
     no-tick = or-right (isTake (f .op) && not (eqb (f .txn) 0) || endsTxn (f .op)) _ spares
 
@@ -263,6 +291,7 @@ module _ (m : Model) (f : Frame) (s : Sound m) where
         (λ t. rw (lookUp-serves f t) (lookUp-hopeful outside)) (λ t. rw (create-serves f t) create-hopeful)
         (λ t. absurd (true≢false (sym (commit-ends (f .op) t) ∙ ends-none)))
         (λ t. absurd (true≢false (sym (abort-ends (f .op) t) ∙ ends-none)))
+        (λ t. rw (renew-serves f t) (renew-hopeful (a .renewable t)))
         (λ t. absurd (true≢false (sym t ∙ no-tick)))
       where
         inside : Bool
@@ -280,5 +309,5 @@ module _ (m : Model) (f : Frame) (s : Sound m) where
 
     pub nobody-over : closeWaits left ≡ quiet left
     nobody-over =
-        let a = own-ahead m f is no-tick (s .ahead) in
-        all-hopeful left (cond-cases Ahead (serves f) (λ _. service-ahead (ownPart m f .model) a) (λ _. a)) hope-lasts
+        let d = own-ahead m f is no-tick (s .ahead) in
+        all-hopeful left (cond-cases Ahead (serves f) (λ _. service-ahead (ownPart m f .model) d) (λ _. d)) hope-lasts

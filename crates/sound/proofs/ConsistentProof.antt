@@ -1,4 +1,5 @@
--- Each event keeps a space consistent; and what each event keeps, of a consistent space and of what a reader of frames and
+-- Each event keeps a space consistent; and what each event keeps, of a consistent space and of what a reader of
+-- frames and
 -- records makes of them, holds of every space that frames make of the empty one.
 use Prim.Native.Nat.{ℕ, _<_}
 use mathlib.Core.Bool.{Bool, true, false, cond, not, true≢false}
@@ -18,8 +19,10 @@ use Rattle.rules.specs.Frame.{Frame}
 use Rattle.rules.specs.Write.{newEntry, stored}
 use Rattle.rules.specs.LookUp.{lookUpOf}
 use Rattle.rules.specs.Transactions.{noTxn, create, released, withoutTxn, commit, abort}
+use Rattle.rules.specs.Renew.{renew}
 use Rattle.rules.specs.Tick.{dropEnded}
 use Rattle.rules.specs.Sound.{Ascending, IsParty, LiveOf, Ok, EntryOk, TxnsOk, Consistent}
+use Rattle.rules.proofs.LayoutLaws.{write-names, lookUp-names}
 use Rattle.rules.proofs.LayoutLaws.{lookUp-not-abort, commit-not-abort, commit-ends, lookUp-not-tick}
 use Rattle.rules.proofs.ReaderLaws.{bit-of-zero}
 use Rattle.rules.proofs.SoundLaws.{each-snoc}
@@ -27,17 +30,20 @@ use Rattle.sound.proofs.AllLaws.{all-none}
 use Rattle.sound.proofs.AscendingLaws.{ascend-filter, ascend-snoc}
 use Rattle.sound.proofs.EachLaws.{Each, filtered, each-out}
 use Rattle.sound.proofs.HoldLaws.{cleared-cases, available-free}
-use Rattle.sound.proofs.OrderLaws.{InOrder, numbered-filter, handed-numbered, freed-numbered, stored-order}
+use Rattle.sound.proofs.OrderLaws.{InOrder, numbered-filter, handed-numbered, freed-numbered, renewed-numbered}
+use Rattle.sound.proofs.OrderLaws.{stored-order}
 use Rattle.sound.proofs.Events.{Heard, Event, refuses, asks, writes, is-found, is-nothing, is-waiting, creates}
-use Rattle.sound.proofs.Events.{commits, aborts, ticks, excepts, expires, Events, over, then}
+use Rattle.sound.proofs.Events.{commits, aborts, renews, ticks, excepts, expires, Events, over, then}
 use Rattle.sound.proofs.Consistent.{not-inside, slot-free, txns-filter, txns-snoc}
 use Rattle.sound.proofs.HolderLaws.{lives-on, stays-live, add-live, drop-live, drop-none, freed-at}
-use Rattle.sound.proofs.Becomes.{newTxn, Becomes, is-new, as-was, as-ever, is-held, is-freed, becomes, WaitsOn}
+use Rattle.sound.proofs.Becomes.{newTxn, Becomes, is-new, as-was, as-ever, is-held, is-freed, is-renewed}
+use Rattle.sound.proofs.Becomes.{becomes}
+use Rattle.sound.proofs.Becomes.{WaitsOn}
 use Rattle.sound.proofs.Becomes.{is-asked, waited, waited-ever, waited-commit, is-outside, waits-on, waits-all}
 
 -- entries stand by number, below the next
 numbered : {f : Frame} {m n : Model} {hs : List Heard} → Event f m hs n → InOrder m → InOrder n
-unfolding create commit abort dropEnded
+unfolding create commit abort renew dropEnded
 numbered (refuses m bs area q) h = h
 numbered (asks m t a) h = h
 numbered {f} (writes m t a) h = stored-order m f h
@@ -47,6 +53,7 @@ numbered (is-waiting m w i q n d c) h = h
 numbered (creates m t a) h = h
 numbered {f} (commits m t a) h = freed-numbered (m .txns) (f .txn) _ (m .entries) h
 numbered {f} (aborts m t a) h = freed-numbered (m .txns) (f .txn) _ (m .entries) h
+numbered {f} (renews m t a) h = renewed-numbered m f h
 numbered (ticks m t a) h = h
 numbered (excepts m t k i r) h = freed-numbered (m .txns) (t .id .0) _ (m .entries) h
 numbered (expires m k) h = numbered-filter _ (m .entries) h
@@ -63,7 +70,7 @@ ended {n} t ts h =
 
 living : {f : Frame} {m n : Model} {hs : List Heard} → Event f m hs n → Living (m .nextTxn) (m .txns)
     → Living (n .nextTxn) (n .txns)
-unfolding stored create commit abort dropEnded
+unfolding stored create commit abort renew dropEnded
 living (refuses m bs area q) h = h
 living (asks m t a) h = h
 living (writes m t a) h = h
@@ -77,13 +84,14 @@ living {f} (creates m t a) h = (
 )
 living {f} (commits m t a) h = ended (f .txn) (m .txns) h
 living {f} (aborts m t a) h = ended (f .txn) (m .txns) h
+living (renews m t a) h = h
 living (ticks m t a) h = h
 living (excepts m t k i r) h = ended (t .id .0) (m .txns) h
 living (expires m k) h = h
 
 -- a party waits once
 each : {f : Frame} {m n : Model} {hs : List Heard} → Event f m hs n → Each (m .waits) → Each (n .waits)
-unfolding stored create commit abort dropEnded lookUpOf
+unfolding stored create commit abort renew dropEnded lookUpOf
 each (refuses m bs area q) h = h
 each {f} (asks m t a) h = each-snoc (lookUpOf m f) (m .waits) (a .free (lookUp-not-abort (f .op) t)) h
 each (writes m t a) h = h
@@ -93,6 +101,7 @@ each (is-waiting m w i q n d c) h = h
 each (creates m t a) h = h
 each (commits m t a) h = h
 each (aborts m t a) h = filtered _ (m .waits) h
+each (renews m t a) h = h
 each (ticks m t a) h = h
 each (excepts m t k i r) h = filtered _ (m .waits) h
 each (expires m k) h = h
@@ -100,10 +109,10 @@ each (expires m k) h = h
 -- who holds an entry, wherever it comes from
 entry-ok : {f : Frame} {m : Model} {e : Entry} {ts : List Txn} → Consistent m → Becomes f m e ts → EntryOk ts e
 unfolding newEntry released create
-entry-ok s (is-new t a d) =
+entry-ok {f} s (is-new t a d) =
     record {
       own = inr (refl, refl);
-      owner = ⊎-elim inl (λ x. inr (x .0, x .1, x .2)) (a .inside);
+      owner = ⊎-elim inl (λ x. inr (x .0, x .1, x .2)) (a .inside (write-names (f .op) t));
       taker = inl refl;
       readers = λ p b. absurd (true≢false (sym b ∙ bit-of-zero p));
       unread = inl refl;
@@ -136,6 +145,9 @@ entry-ok {m = m} s (is-held w e false j i av t c d) =
       readers = λ p b. ⊎-elim (h .readers p) (λ x. x) (add-live (e .readers) p (w .txn .0) (m .txns) b);
       unread = inl (available-free (m .txns) w e av .untaken);
     }
+entry-ok s (is-renewed t a d e i q) =
+    let h = s .held e i in
+    record { own = h .own; owner = h .owner; taker = h .taker; readers = h .readers; unread = h .unread }
 entry-ok {m = m} s (is-freed t e i) =
     let h = s .held e i in
     let ts = m .txns in
@@ -163,11 +175,12 @@ still-owned t w ts d = ⊎-elim inl (λ x. inr (x .0, lives-on t ts (x .0) (x .1
 
 owned-ok : {f : Frame} {m : Model} {w : LookUp} {ts : List Txn} → Consistent m → WaitsOn f m w ts → Owned w ts
 unfolding lookUpOf create
-owned-ok s (is-asked t a) = a .inside
+owned-ok {f} s (is-asked t a) = a .inside (lookUp-names (f .op) t)
 owned-ok s (waited w i) = s .owned w i
 owned-ok s (waited-ever w i) = ⊎-elim inl (λ x. inr (x .0, Memᴰ·append-left _ (x .1), x .2, x .3)) (s .owned w i)
 owned-ok {f} {m} s (waited-commit t a w i) =
-    still-owned (f .txn) w (m .txns) (not-inside s a (commit-not-abort (f .op) t) (a .ends (commit-ends (f .op) t)) w i) (s .owned w i)
+    still-owned (f .txn) w (m .txns) (not-inside s a (commit-not-abort (f .op) t) (a .ends (commit-ends (f .op) t)) w
+    i) (s .owned w i)
 owned-ok {f} {m} s (is-outside t w i d) = still-owned t w (m .txns) d (s .owned w i)
 
 pub consistent-event : {f : Frame} {m n : Model} {hs : List Heard} → Event f m hs n → Consistent m → Consistent n

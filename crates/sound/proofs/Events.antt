@@ -16,23 +16,35 @@ use Rattle.rules.specs.Time.{until, reached, EndFits}
 use Rattle.rules.specs.State.{Model, withEntries, withWaits, withClock}
 use Rattle.rules.specs.Holds.{available, someAvailable, someConflicts}
 use Rattle.rules.specs.Frame.{Frame, decode, isWrite, isLookUp, isCreate, isCommit, isAbort, isTick, hasLeaseOrTimeout}
-use Rattle.rules.specs.Frame.{endsTxn}
+use Rattle.rules.specs.Frame.{endsTxn, isRenew, namesEntry, entryNamed}
 use Rattle.rules.specs.Records.{written, found, nothing, waiting, created, committed, aborted, exception, ticked}
-use Rattle.rules.specs.Records.{refused}
+use Rattle.rules.specs.Records.{renewed, refused}
 use Rattle.rules.specs.Write.{stored}
 use Rattle.rules.specs.LookUp.{lookUpOf, handOut}
 use Rattle.rules.specs.Transactions.{create, commit, abort}
+use Rattle.rules.specs.Renew.{renew}
 use Rattle.rules.specs.Tick.{dropEnded}
 use Rattle.rules.specs.Refusals.{malformed, refusal}
 use Rattle.rules.specs.SerialRun.{wasRefused}
 use Rattle.rules.specs.Sound.{LiveOf, IsParty}
 use Rattle.sound.proofs.AllLaws.{Out}
 
+-- what a renewal names: it is stored, the party wrote it, it is committed, and nobody holds it
+pub record Renewable (f : Frame) (m : Model) : Type 0 where
+  pub entry : Entry
+  pub stored : List·Memᴰ entry (m .entries)
+  pub number : entry .id .0 ≡ entryNamed f
+  pub writer : entry .writer ≡ f .party
+  pub committed : entry .«private_to» .0 ≡ 0
+  pub untaken : entry .«taken_by» .0 ≡ 0
+  pub unread : entry .readers ≡ 0
+
 -- what the refusal table lets pass
 pub record Admitted (f : Frame) (m : Model) : Type 0 where
   pub formed : malformed f ≡ false
-  -- outside transactions, or in a live one of the party; a commit or abort in one
-  pub inside : (f .txn ≡ 0) ⊎ LiveOf (f .txn) (f .party) (m .txns)
+  pub renewable : isRenew (f .op) ≡ true → Renewable f m
+  -- but for a renewal, outside transactions, or in a live one of the party; a commit or abort in one
+  pub inside : namesEntry (f .op) ≡ false → (f .txn ≡ 0) ⊎ LiveOf (f .txn) (f .party) (m .txns)
   pub ends : endsTxn (f .op) ≡ true → LiveOf (f .txn) (f .party) (m .txns)
   -- the party does not wait, unless the frame is an abort
   pub free : isAbort (f .op) ≡ false → (w : LookUp) → List·Memᴰ w (m .waits) → w .party ≡ f .party → ⊥
@@ -80,6 +92,7 @@ pub data Event (f : Frame) : Model → List Heard → Model → Type 0 where
   commits : (m : Model) → isCommit (f .op) ≡ true → Admitted f m
       → Event f m (saying (committed f) ∷ []) (commit (f .txn) m)
   aborts : (m : Model) → isAbort (f .op) ≡ true → Admitted f m → Event f m (saying (aborted f) ∷ []) (abort (f .txn) m)
+  renews : (m : Model) → isRenew (f .op) ≡ true → Admitted f m → Event f m (saying (renewed f) ∷ []) (renew m f .model)
   ticks : (m : Model) → isTick (f .op) ≡ true → Admitted f m
       → Event f m (saying ticked ∷ []) (withClock (m .clock + 1) m)
   -- the transaction is live and ends just then

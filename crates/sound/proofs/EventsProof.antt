@@ -20,9 +20,10 @@ use Rattle.rules.specs.Time.{until, reached, EndFits}
 use Rattle.rules.specs.State.{Model, withEntries, withWaits}
 use Rattle.rules.specs.Holds.{liveTxn, available, oldest, someAvailable, someConflicts}
 use Rattle.rules.specs.Frame.{Frame, decode, isWrite, isLookUp, isCreate, isTick, hasLeaseOrTimeout, isOperation}
+use Rattle.rules.specs.Frame.{isRenew, namesEntry, entryNamed}
 use Rattle.rules.specs.Frame.{serves}
 use Rattle.rules.specs.Records.{written, found, nothing, waiting, created, committed, aborted, exception, ticked}
-use Rattle.rules.specs.Records.{refused}
+use Rattle.rules.specs.Records.{renewed, refused}
 use Rattle.rules.specs.Done.{Carried, Done, quiet}
 use Rattle.rules.specs.Write.{write}
 use Rattle.rules.specs.LookUp.{removes, isEntry, marked, lookUpOf, handOut, givesNothing, answer, answerFound}
@@ -31,6 +32,8 @@ use Rattle.rules.specs.Transactions.{create, withoutTxn, abort}
 use Rattle.rules.specs.Service.{serve, service}
 use Rattle.rules.specs.Tick.{tick, endedTxns, abortAll, dropEnded, lapsed}
 use Rattle.rules.specs.Closing.{isOver, closeWaits}
+use Rattle.rules.specs.Renew.{hasNumber, storedEntry, renew}
+use Rattle.rules.specs.Refusals.{isBy, notWriter, isFree, notFree}
 use Rattle.rules.specs.Refusals.{isOf, inTxn, notOwn, tooLate, txnsFull, noNumber, refusal}
 use Rattle.rules.specs.Step.{Outcome, commitFrame, abortFrame, finish, carriedOut, step, accepted, refusedWith}
 use Rattle.rules.specs.SerialRun.{wasRefused}
@@ -39,6 +42,7 @@ use Rattle.rules.proofs.BoolLaws.{cond-cases, bool-cases, and-left, and-right, 
 use Rattle.rules.proofs.BoolLaws.{and-false-right}
 use Rattle.rules.proofs.ListLaws.{filter-mem, none-any, find-some}
 use Rattle.rules.proofs.LayoutLaws.{write-not-tick, lookUp-not-tick, create-not-tick, commit-not-tick, abort-not-tick}
+use Rattle.rules.proofs.LayoutLaws.{renew-not-tick, renew-names}
 use Rattle.rules.proofs.LayoutLaws.{lookUp-not-abort, tick-serves, lookUp-serves, finish-quiet}
 use Rattle.rules.proofs.StepCases.{own-cases, serve-ind}
 use Rattle.rules.proofs.SoundLaws.{is-party}
@@ -47,8 +51,10 @@ use Rattle.rules.proofs.TimeLaws.{until-later, until-now}
 use Rattle.sound.proofs.AllLaws.{all-none, all-cons, all-append, all-snoc, all-filter, all-map, Out, here, there}
 use Rattle.sound.proofs.AllLaws.{out-last}
 use Rattle.sound.proofs.HoldLaws.{mark-cases}
+use Rattle.sound.proofs.Events.{Renewable}
 use Rattle.sound.proofs.Events.{Admitted, Heard, saying, heard, Closes, Event, refuses, asks, writes, is-found}
-use Rattle.sound.proofs.Events.{is-nothing, is-waiting, creates, commits, aborts, ticks, excepts, expires}
+use Rattle.sound.proofs.Events.{is-nothing, is-waiting, creates, commits, aborts, renews, ticks, excepts}
+use Rattle.sound.proofs.Events.{expires}
 use Rattle.sound.proofs.Events.{Events, over, then, join}
 use Rattle.sound.proofs.Becomes.{waits-all}
 use Rattle.sound.proofs.Unavailable.{serve-settled}
@@ -66,6 +72,31 @@ module _ (f : Frame) (m : Model) where
       go (some x) q r =
           let s = find-some (λ (y : Txn). eqb (y .id .0) (f .txn)) (m .txns) q in
           (x, s .0, eqb-true (x .id .0) (f .txn) (s .1), eqb-true (x .party) (f .party) r)
+
+  renew-named : notWriter m f ≡ false → notFree m f ≡ false → isRenew (f .op) ≡ true → Renewable f m
+  unfolding notWriter notFree storedEntry
+  renew-named e h t =
+      go (storedEntry (entryNamed f) (m .entries)) refl
+      (not-false _ (and-false-right (namesEntry (f .op)) _ (renew-names (f .op) t) e))
+      (not-false _ (and-false-right (namesEntry (f .op)) _ (renew-names (f .op) t) h))
+    where
+      go : (o : Option Entry) → storedEntry (entryNamed f) (m .entries) ≡ o → isBy (f .party) o ≡ true → isFree o ≡ true
+          → Renewable f m
+      go none q r s = absurd (true≢false (sym r))
+      go (some x) q r s =
+          let found = find-some (hasNumber (entryNamed f)) (m .entries) q in
+          let public = eqb (x .«private_to» .0) 0 in
+          let untaken = eqb (x .«taken_by» .0) 0 in
+          let outer = and-left (public && untaken) (eqb (x .readers) 0) s in
+          record {
+            entry = x;
+            stored = found .0;
+            number = eqb-true (x .id .0) (entryNamed f) (found .1);
+            writer = eqb-true (x .writer) (f .party) r;
+            committed = eqb-true (x .«private_to» .0) 0 (and-left public untaken outer);
+            untaken = eqb-true (x .«taken_by» .0) 0 (and-right public untaken outer);
+            unread = eqb-true (x .readers) 0 (and-right (public && untaken) (eqb (x .readers) 0) s);
+          }
 
   until-fits : tooLate m f ≡ false → hasLeaseOrTimeout (f .op) ≡ true → EndFits (until (m .clock) (f .leaseOrTimeout))
   unfolding tooLate until
@@ -88,8 +119,10 @@ admitted m bs area c =
     let f = decode bs in
     record {
       formed = c .form;
-      inside =
-          ⊎-elim (λ t. inl (eqb-true (f .txn) 0 t)) (λ t. inr (own-named f m (c .own) (rw t)))
+      renewable = renew-named f m (c .writer) (c .unheld);
+      inside = λ z.
+          ⊎-elim (λ t. inl (eqb-true (f .txn) 0 t)) (λ (t : eqb (f .txn) 0 ≡ false). inr
+              (own-named f m (c .own) (rw (z, t))))
           (bool-cases (eqb (f .txn) 0));
       ends = λ t. own-named f m (c .own) (rw (t, or-true));
       free = λ t w i. none-waits m f t (c .free) i;
@@ -110,7 +143,8 @@ admitted m bs area c =
 pub over-is : (m : Model) (w : LookUp) → isOver m w ≡ true → Closes m w
 unfolding isOver
 over-is m w e =
-    ⊎-elim inl (λ z. inr (and-left _ (not (someConflicts (m .txns) w (m .entries))) z, not-true _ (and-right (w .«if_exists») _ z)))
+    ⊎-elim inl (λ z. inr (and-left _ (not (someConflicts (m .txns) w (m .entries))) z, not-true _
+    (and-right (w .«if_exists») _ z)))
     (or-cases (reached (m .clock) (w .deadline)) _ e)
 
 module _ (m : Model) (w : LookUp) (e : isOver m w ≡ false) where
@@ -366,7 +400,8 @@ module _ (f : Frame) (m : Model) (a : Admitted f m)
   look-up t none q =
       cond-cases Whole (givesNothing m w timeout) (λ g. answered (answerNothing m w) t refl
       (is-nothing grown w (m .waits) (out-last (m .waits) w) (reason g)) (λ v i. Memᴰ·append-left _ i)
-      (λ v i p. absurd (a .free (lookUp-not-abort (f .op) t) v i p)) (λ _. (w, rw t there-last, refl, nobody, reason g)))
+      (λ v i p. absurd (a .free (lookUp-not-abort (f .op) t) v i p))
+      (λ _. (w, rw t there-last, refl, nobody, reason g)))
       (λ g. let later = until-later (m .clock) timeout (eqb-false timeout 0 (or-left _ _ g)) in
       answered (answerWaiting m w) t refl (is-waiting grown w there-last refl nobody later
       (λ z. not-false _ (and-false-right (w .«if_exists») _ z (or-right (eqb timeout 0) _ g)))) (λ v i. i)
@@ -394,7 +429,8 @@ module _ (f : Frame) (m : Model) (a : Admitted f m)
           )) (or-cases (eqb timeout 0) _ g)
 
   pub carries : isOperation (f .op) ≡ true → Carries f m (carriedOut m f .records) (carriedOut m f .model)
-  unfolding carriedOut write lookUp create commitFrame abortFrame tick written created committed aborted ticked
+  unfolding carriedOut write lookUp create commitFrame abortFrame renew tick written created committed aborted renewed
+      ticked
   carries is =
       let w = lookUpOf m f in
       own-cases Whole m f is (λ t. plain (write m f) (rw (eqb-true (f .op) 1 t)) (λ (k : 1 ≡ 3). omega arith)
@@ -406,6 +442,8 @@ module _ (f : Frame) (m : Model) (a : Admitted f m)
       (not-now (commit-not-tick (f .op) t)) (commits m t a))
       (λ t. plain (abortFrame m f) (rw (eqb-true (f .op) 8 t)) (λ (k : 7 ≡ 3). omega arith)
       (not-now (abort-not-tick (f .op) t)) (aborts m t a))
+      (λ t. plain (renew m f) (rw (eqb-true (f .op) 11 t)) (λ (k : 12 ≡ 3). omega arith)
+      (not-now (renew-not-tick (f .op) t)) (renews m t a))
       (λ t. plain (tick m) (rw (eqb-true (f .op) 9 t)) (λ (k : 9 ≡ 3). omega arith) (λ _. ordered) (ticks m t a))
     where
       not-now : {P : Type 0} → isTick (f .op) ≡ false → isTick (f .op) ≡ true → P

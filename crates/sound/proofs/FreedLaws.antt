@@ -22,6 +22,7 @@ use Rattle.rules.specs.Tick.{dropEnded}
 use Rattle.rules.specs.Step.{ownPart, commitFrame, abortFrame}
 use Rattle.rules.specs.Sound.{NoneFor, Sound}
 use Rattle.rules.proofs.ListLaws.{none-mem, all-false, mem-filter}
+use Rattle.rules.proofs.LayoutLaws.{renew-serves}
 use Rattle.rules.proofs.LayoutLaws.{lookUp-serves, create-serves, commit-not-abort, commit-ends}
 use Rattle.rules.proofs.StepCases.{own-cases}
 use Rattle.sound.proofs.OrderLaws.{InOrder, stored-order, freed-numbered}
@@ -79,6 +80,7 @@ module _ (m : Model) (f : Frame) (s : Sound m) (a : Admitted f m) where
             let r = mem-filter (λ (x : LookUp). not (eqb (x .txn .0) (f .txn))) (m .waits) i in
             outside (f .txn) w (r .0) (eqb-false (w .txn .0) (f .txn) (not-true _ (r .1)));
       })
+      (λ t. absurd (true≢false (sym v ∙ renew-serves f t)))
       (λ t. absurd (true≢false (sym t ∙ k)))
 
 -- the clock advances, and what ends is removed

@@ -87,6 +87,7 @@ module _ (ts : List Txn) (w : LookUp) (e : Entry) where
         readers =
             cond takes (dropReaderOf (liveTxn (w .txn .0) ts) (e .readers))
             (addReaderOf (liveTxn (w .txn .0) ts) (e .readers));
+        writer = e .writer;
       }
 
   pub removes-why : removes w e ≡ true → (w .takes ≡ true) × (e .«private_to» .0 ≡ w .txn .0)

@@ -5,15 +5,18 @@ use mathlib.Core.Bool.{Bool, cond, not}
 use mathlib.Core.Path.{_≡_, refl}
 use mathlib.Core.List.{List, [], _∷_, map}
 use native.Mathlib.Omega.{arith}
+use lib.Dec.{eqb}
 use Rattle.rules.specs.declared.Entry.{Entry}
 use Rattle.rules.specs.declared.Txn.{Txn}
 use Rattle.rules.specs.declared.LookUp.{LookUp}
 use Rattle.rules.specs.Lists.{filterb, All}
 use Rattle.rules.specs.State.{Model}
-use Rattle.rules.specs.Frame.{Frame}
+use Rattle.rules.specs.Time.{until}
+use Rattle.rules.specs.Frame.{Frame, entryNamed}
 use Rattle.rules.specs.Write.{newEntry, stored}
 use Rattle.rules.specs.LookUp.{removes, isEntry, marked, handOut}
 use Rattle.rules.specs.Transactions.{released, abort}
+use Rattle.rules.specs.Renew.{hasNumber, endingAt, renewEntries}
 use Rattle.rules.specs.Tick.{endedTxns, abortAll, dropEnded, lapsed}
 use Rattle.rules.specs.Sound.{Ascending}
 use Rattle.rules.proofs.BoolLaws.{cond-cases}
@@ -46,6 +49,15 @@ pub freed-numbered : {n : ℕ} (ts : List Txn) (t : ℕ) (p : Entry → Bool) (e
     → Numbered n (map (released ts t) (filterb p es))
 unfolding released
 freed-numbered ts t p es h = numbered-map (released ts t) (λ _. refl) (filterb p es) (numbered-filter p es h)
+
+pub renewed-numbered : {n : ℕ} (m : Model) (f : Frame) → Numbered n (m .entries) → Numbered n (renewEntries m f)
+unfolding renewEntries
+renewed-numbered {n} m f h =
+    let k = entryNamed f in
+    let end = until (m .clock) (f .leaseOrTimeout) in
+    cond-cases (Numbered n) (eqb (f .leaseOrTimeout) 0) (λ _. numbered-filter (λ e. not (hasNumber k e)) (m .entries) h)
+    (λ _. numbered-map (λ e. cond (hasNumber k e) (endingAt end e) e)
+    (λ e. cond-cases (λ (x : Entry). x .id .0 ≡ e .id .0) (hasNumber k e) (λ _. refl) (λ _. refl)) (m .entries) h)
 
 abbrev pub InOrder : Model → Type 0
 InOrder m = Numbered (m .nextEntry) (m .entries)

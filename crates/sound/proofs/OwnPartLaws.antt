@@ -4,11 +4,12 @@ use mathlib.Core.Bool.{true, cond}
 use mathlib.Core.Path.{_≡_, refl, ap, _∙_}
 use mathlib.Core.List.{List}
 use Rattle.rules.specs.State.{Model}
-use Rattle.rules.specs.Frame.{Frame, decode, isWrite, isLookUp, isCreate, isCommit, isAbort}
+use Rattle.rules.specs.Frame.{Frame, decode, isWrite, isLookUp, isCreate, isCommit, isAbort, isRenew}
 use Rattle.rules.specs.Done.{Carried, after}
 use Rattle.rules.specs.Write.{write}
 use Rattle.rules.specs.LookUp.{lookUp}
 use Rattle.rules.specs.Transactions.{create}
+use Rattle.rules.specs.Renew.{renew}
 use Rattle.rules.specs.Tick.{tick}
 use Rattle.rules.specs.Closing.{closeWaits}
 use Rattle.rules.specs.Refusals.{refusal}
@@ -29,7 +30,8 @@ module _ (m : Model) (f : Frame) where
       (cond (isLookUp op) (lookUp m f)
       (cond (isCreate op) (create m f)
       (cond (isCommit op) (commitFrame m f)
-      (cond (isAbort op) (abortFrame m f) (tick m)))))
+      (cond (isAbort op) (abortFrame m f)
+      (cond (isRenew op) (renew m f) (tick m))))))
 
   pub part-at : {op : ℕ} → f .op ≡ op → ownPart m f ≡ partOf op
   unfolding ownPart

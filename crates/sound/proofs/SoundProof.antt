@@ -20,6 +20,7 @@ use Rattle.rules.specs.Holds.{liveTxn, dropReaderOf, readByOther, visible, avai
 use Rattle.rules.specs.Frame.{Frame, decode, isLookUp, isTick, serves}
 use Rattle.rules.specs.Write.{newEntry, stored}
 use Rattle.rules.specs.LookUp.{lookUpOf}
+use Rattle.rules.specs.Renew.{renewEntries, renew}
 use Rattle.rules.specs.Transactions.{create}
 use Rattle.rules.specs.Closing.{isOver, closeWaits}
 use Rattle.rules.specs.Step.{step}
@@ -27,14 +28,15 @@ use Rattle.rules.specs.Lists.{All}
 use Rattle.rules.specs.Sound.{NoneFor, Ahead, Hopeful, Lasting, Sound, Consistent}
 use Rattle.rules.proofs.BoolLaws.{bool-cases}
 use Rattle.rules.proofs.ListLaws.{none-mem, all-false}
+use Rattle.rules.proofs.LayoutLaws.{write-names}
 use Rattle.rules.proofs.LayoutLaws.{write-not-abort, write-serves, commit-serves, abort-serves, tick-serves}
 use Rattle.rules.proofs.TimeLaws.{until-later}
 use Rattle.sound.proofs.AllLaws.{all-none, all-snoc, all-filter, out-all}
 use Rattle.sound.proofs.HoldLaws.{eqb-cases, not-so, available-free}
 use Rattle.sound.proofs.Unavailable.{handOut-unavailable}
 use Rattle.sound.proofs.Events.{Heard, Event, refuses, asks, writes, is-found, is-nothing, is-waiting, creates}
-use Rattle.sound.proofs.Events.{commits, aborts, ticks, excepts, expires, Events, over, then}
-use Rattle.sound.proofs.Becomes.{newTxn, kept-all, clock-moves}
+use Rattle.sound.proofs.Events.{commits, aborts, renews, ticks, excepts, expires, Events, over, then}
+use Rattle.sound.proofs.Becomes.{newTxn, renewed-all, kept-all, clock-moves}
 use Rattle.sound.proofs.EventsProof.{not-over, in-hope, Carries, StepIs, is-carried, is-refused, step-is}
 use Rattle.sound.proofs.Consistent.{ok-below, not-inside}
 use Rattle.sound.proofs.ConsistentProof.{consistent-event, consistent-events, consistent-empty}
@@ -63,10 +65,19 @@ available-same ts us w p e =
     ap (λ o. matches (w .mask) (w .fields) (e .fields) && visible (w .txn .0) e && not
     (w .takes && not (eqb (dropReaderOf o (e .readers)) 0))) p
 
+-- so does another end of an entry
+renewed-none : (f : Frame) (m : Model) (w : LookUp) → someAvailable (m .txns) w (m .entries) ≡ false
+    → someAvailable (m .txns) w (renewEntries m f) ≡ false
+unfolding available readByOther visible
+renewed-none f m w n =
+    let none : All (λ e. available (m .txns) w e ≡ false) (m .entries) = λ e i. none-mem (available (m .txns) w) n i in
+    all-false (available (m .txns) w) (renewEntries m f)
+    (renewed-all (λ e. available (m .txns) w e ≡ false) f m (λ e i _. none e i) (λ _ e i _. none e i))
+
 -- where service does not follow
 none-event : {f : Frame} {m n : Model} {hs : List Heard} → serves f ≡ false → Event f m hs n → Consistent m → NoneElse f m
     → NoneElse f n
-unfolding stored newEntry lookUpOf create
+unfolding stored newEntry lookUpOf create renew
 none-event z (refuses m bs area q) s h = h
 none-event z (asks m t a) s h = all-snoc (m .waits) h (inl (t, refl))
 none-event {f} z (writes m t a) s h =
@@ -80,7 +91,8 @@ none-event {f} z (writes m t a) s h =
 
     hidden : (w : LookUp) → List·Memᴰ w (m .waits) → available (m .txns) w (newEntry m f) ≡ true → ⊥
     hidden w i u =
-        ⊎-elim inside (λ q. ⊎-elim inside (λ y. not-inside s a (write-not-abort (f .op) t) y w i (sym q)) (a .inside))
+        ⊎-elim inside (λ q. ⊎-elim inside (λ y. not-inside s a (write-not-abort (f .op) t) y w i (sym q)) 
+        (a .inside (write-names (f .op) t)))
         (available-free (m .txns) w (newEntry m f) u .owner)
 none-event z (is-found m w e ws o i av) s h =
     out-all o (λ v j. ⊎-elim inl (λ n. inr (handOut-unavailable (m .txns) v w e av (m .entries) n)) (h v j))
@@ -94,6 +106,7 @@ none-event {f} z (creates m t a) s h =
     omega arith)) e ∙ none-mem (available (m .txns) w) n j))) (h w i)
 none-event {f} z (commits m t a) s h = absurd (true≢false (sym (commit-serves f t) ∙ z))
 none-event {f} z (aborts m t a) s h = absurd (true≢false (sym (abort-serves f t) ∙ z))
+none-event {f} z (renews m t a) s h = λ w i. ⊎-elim inl (λ n. inr (renewed-none f m w n)) (h w i)
 none-event {f} z (ticks m t a) s h = absurd (true≢false (sym (tick-serves f t) ∙ z))
 none-event {f} z (excepts m t k i r) s h = absurd (true≢false (sym (tick-serves f k) ∙ z))
 none-event {f} z (expires m k) s h = absurd (true≢false (sym (tick-serves f k) ∙ z))
@@ -110,7 +123,8 @@ steady-event {f} {m} {n} e s h =
     lasts q k =
         subst⁻¹ (λ c. All (λ x. reached c (x .end) ≡ false) (n .entries)) q
         (kept-all (λ x. reached (m .clock) (x .end) ≡ false) e (s .ordered)
-        (λ t a d. until-later (m .clock) (f .leaseOrTimeout) d) k)
+        (λ t a d. until-later (m .clock) (f .leaseOrTimeout) d)
+        (λ t a d _ _. until-later (m .clock) (f .leaseOrTimeout) d) k)
 
 steady-events : {f : Frame} {m n : Model} {hs : List Heard} → Events f m hs n → Consistent m → Steady f m → Steady f n
 steady-events over s h = h

@@ -192,4 +192,4 @@ module _ (f : Frame) (m : Model) (s : Sound m) (a : Admitted f m) (o : isOperati
   pub finish-same : (e : Ending) → EndsAs f e → SameBefore k m own → Bounded own → finishedBy e k own ≡ finish f own
   finish-same e x same b =
       ap (closedAfter e (endedBy e own)) (from-same e x same b)
-      ∙ whole-same f e own x (λ t. own-ahead m f o t (s .ahead)) (nobody-over m f s o)
+      ∙ whole-same f e own x (λ t. own-ahead m f o t (s .ahead)) (nobody-over m f s o a)

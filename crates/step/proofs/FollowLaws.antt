@@ -5,17 +5,20 @@ use mathlib.Core.Path.{_≡_, refl, sym, _∙_, subst, subst⁻¹}
 use mathlib.Core.List.{List}
 use native.Mathlib.Omega.{arith}
 use lib.ListN.{length}
+use Rattle.rules.specs.declared.EntryId.{EntryId}
 use Rattle.rules.specs.declared.FindRequest.{FindRequest}
 use Rattle.rules.specs.declared.WriteRequest.{WriteRequest}
 use Rattle.rules.specs.declared.Request.{Request}
-use Rattle.rules.specs.declared.Request.the-variants.{Write, Find, Create}
+use Rattle.rules.specs.declared.Request.the-variants.{Write, Find, Create, Renew}
 use Rattle.rules.specs.declared.Decoded.the-variants.{Asks}
 use Rattle.rules.specs.Time.{until}
 use Rattle.rules.specs.State.{Model}
-use Rattle.rules.specs.Frame.{Frame, decode, isWrite, isLookUp, isCreate}
+use Rattle.rules.specs.Frame.{Frame, decode, isWrite, isLookUp, isCreate, isRenew}
 use Rattle.rules.specs.Requests.{frameOf, Decodes}
 use Rattle.rules.specs.Words.{view}
 use Rattle.rules.specs.Allowed.{Stepped}
+use Rattle.rules.proofs.BoolLaws.{or-left}
+use Rattle.sound.proofs.Becomes.{endsEntry}
 use Rattle.hints.specs.Hints.{least, acted, NotBefore, Weaker, Knows, Reliable}
 use Rattle.hints.proofs.HintLaws.{weaker-same, weaker-then, sooner-still}
 use Rattle.hints.proofs.ReliableLaws.{Follows, reliable-step}
@@ -58,16 +61,28 @@ module _ {m n : Model} {hs hs′ : List ℕ} where
       record {
         weaker = weaker-then (a .0) (b .0);
         acts = record { writes = λ _. in-txn; looks = λ _. in-txn };
-        entry = λ t. absurd (true≢false (sym t ∙ no-write));
+        entry = λ t. absurd (true≢false (sym t ∙ no-entry));
         txn = λ t. absurd (true≢false (sym t ∙ no-create));
         wait = λ _. b .1;
       }
     where
-      no-write : isWrite (frameOf (Find l) .op) ≡ false
-      no-write = kind-cases (λ op. isWrite op ≡ false) (l .takes) (l .«if_exists») refl refl refl refl
+      no-entry : endsEntry (frameOf (Find l) .op) ≡ false
+      no-entry = kind-cases (λ op. endsEntry op ≡ false) (l .takes) (l .«if_exists») refl refl refl refl
 
       no-create : isCreate (frameOf (Find l) .op) ≡ false
       no-create = kind-cases (λ op. isCreate op ≡ false) (l .takes) (l .«if_exists») refl refl refl refl
+
+  pub follows-renew : (party : ℕ) (id : EntryId) (lease : ℕ) {clock : ℕ} → clock ≡ m .clock
+      → Weaker hs hs′ × ((lease ≡ 0 → ⊥) → NotBefore (least hs′) (until clock lease))
+      → Follows (frameOf (Renew party id lease)) m n hs hs′
+  follows-renew party id lease q a =
+      record {
+        weaker = a .0;
+        acts = record { writes = λ t. absurd (true≢false (sym t)); looks = λ t. absurd (true≢false (sym t)) };
+        entry = λ _ z. subst (λ c. NotBefore (least hs′) (until c lease)) q (a .1 z);
+        txn = λ t. absurd (true≢false (sym t));
+        wait = λ t. absurd (true≢false (sym t));
+      }
 
   pub follows-create : (party lease : ℕ) {clock : ℕ} → clock ≡ m .clock
       → Weaker hs hs′ × NotBefore (least hs′) (until clock lease) → Follows (frameOf (Create party lease)) m n hs hs′
@@ -81,12 +96,15 @@ module _ {m n : Model} {hs hs′ : List ℕ} where
       }
 
 -- nothing is new
-pub follows-same : (f : Frame) {m n : Model} {hs : List ℕ} → isWrite (f .op) ≡ false → isLookUp (f .op) ≡ false
+pub follows-same : (f : Frame) {m n : Model} {hs : List ℕ} → endsEntry (f .op) ≡ false → isLookUp (f .op) ≡ false
     → isCreate (f .op) ≡ false → Follows f m n hs hs
 follows-same f w l c =
     record {
       weaker = weaker-same;
-      acts = record { writes = λ t. absurd (true≢false (sym t ∙ w)); looks = λ t. absurd (true≢false (sym t ∙ l)) };
+      acts = record {
+        writes = λ t. absurd (true≢false (sym t ∙ or-left (isWrite (f .op)) (isRenew (f .op)) w));
+        looks = λ t. absurd (true≢false (sym t ∙ l));
+      };
       entry = λ t. absurd (true≢false (sym t ∙ w));
       txn = λ t. absurd (true≢false (sym t ∙ c));
       wait = λ t. absurd (true≢false (sym t ∙ l));

@@ -5,9 +5,10 @@ use mathlib.Core.Path.{_≡_, refl, sym, ap, _∙_}
 use borrow.Author.Tests.{eq-eqb, ne-eqb}
 use lib.Dec.{eqb}
 use Rattle.rules.specs.declared.FindRequest.{FindRequest}
+use Rattle.rules.specs.declared.EntryId.{EntryId}
 use Rattle.rules.specs.declared.TxnId.{TxnId}
 use Rattle.rules.specs.declared.WriteRequest.{WriteRequest}
-use Rattle.rules.specs.declared.Request.the-variants.{Write, Find, Create, Commit, Abort, Tick}
+use Rattle.rules.specs.declared.Request.the-variants.{Write, Find, Create, Commit, Abort, Renew, Tick}
 use Rattle.rules.specs.Numbers.{opRead, opTake, opReadIfExists, opTakeIfExists}
 use Rattle.rules.specs.State.{Model}
 use Rattle.rules.specs.Frame.{Frame, layoutOf, serves, isLookUp, isTick, isTake, endsTxn, isIfExists, lookUpOp}
@@ -84,6 +85,10 @@ commit-ends party id = record { tick = refl; service = refl; closes = refl }
 pub abort-ends : (party : ℕ) (id : TxnId) → EndsAs (frameOf (Abort party id)) Both
 unfolding serves layoutOf
 abort-ends party id = record { tick = refl; service = refl; closes = refl }
+
+pub renew-quiet : (party : ℕ) (id : EntryId) (lease : ℕ) → EndsAs (frameOf (Renew party id lease)) Quiet
+unfolding serves layoutOf
+renew-quiet party id lease = record { tick = refl; service = refl; closes = refl }
 
 pub tick-ends : EndsAs (frameOf Tick) Ending.Tick
 unfolding serves layoutOf

@@ -3,6 +3,7 @@ pub mod AddsLaws
 pub mod AnsweredLaws
 pub mod KindLaws
 pub mod RefusalParts
+pub mod RenewLaws
 pub mod PassedLaws
 pub mod LookUpAnswers
 pub mod ServingLaws

@@ -1,4 +1,4 @@
--- What is known of a request that the refusals 6 to 13 let pass.
+-- What is known of a request that the refusals behind 5 let pass.
 use Prim.Native.Nat.{ℕ, _+_, _<_}
 use mathlib.Core.Bool.{false, not, _||_}
 use mathlib.Core.Path.{_≡_, refl, ap}
@@ -20,7 +20,7 @@ use Rattle.words.specs.Ends.{InTime}
 use Rattle.step.specs.Judge.{late}
 use Rattle.step.proofs.KindLaws.{kind-cases}
 
--- none of the rows 6 to 13 applies: 10 to 13 stand at the places 4 to 7
+-- none of the rows applies: 10 to 13 stand at the places 7 to 10
 passed : (m : Model) (f : Frame) → spaceRefusal m f ≡ 0 → (k : ℕ) → testAt (admissionRows m f ++ roomRows m f) k ≡ false
 unfolding spaceRefusal
 passed m f e k = none-applies (admissionRows m f ++ roomRows m f) refl e k
@@ -34,32 +34,32 @@ in-time clock n e h =
 module _ (m : Model) (w : WriteRequest) (e : spaceRefusal m (frameOf (Write w)) ≡ 0) where
   pub write-in-time : InTime (m .clock) (w .lease)
   unfolding tooLate layoutOf
-  write-in-time = in-time (m .clock) (w .lease) (passed m (frameOf (Write w)) e 4)
+  write-in-time = in-time (m .clock) (w .lease) (passed m (frameOf (Write w)) e 7)
 
   pub write-room : (w .lease ≡ 0 → ⊥) → length (m .entries) < maxEntries
   unfolding entriesFull
   write-room h =
       leb-false maxEntries (length (m .entries))
       (and-false-right (not (eqb (w .lease) 0)) (leb maxEntries (length (m .entries)))
-      (ap not (ne-eqb (w .lease) 0 h)) (passed m (frameOf (Write w)) e 5))
+      (ap not (ne-eqb (w .lease) 0 h)) (passed m (frameOf (Write w)) e 8))
 
   pub write-number : m .nextEntry < forever
   unfolding noNumber
   write-number =
-      leb-false forever (m .nextEntry) (or-left (leb forever (m .nextEntry)) false (passed m (frameOf (Write w)) e 7))
+      leb-false forever (m .nextEntry) (or-left (leb forever (m .nextEntry)) false (passed m (frameOf (Write w)) e 10))
 
 module _ (m : Model) (party lease : ℕ) (e : spaceRefusal m (frameOf (Create party lease)) ≡ 0) where
   pub create-in-time : InTime (m .clock) lease
   unfolding tooLate layoutOf
-  create-in-time = in-time (m .clock) lease (passed m (frameOf (Create party lease)) e 4)
+  create-in-time = in-time (m .clock) lease (passed m (frameOf (Create party lease)) e 7)
 
   pub create-room : length (m .txns) < maxTxns
   unfolding txnsFull
-  create-room = leb-false maxTxns (length (m .txns)) (passed m (frameOf (Create party lease)) e 6)
+  create-room = leb-false maxTxns (length (m .txns)) (passed m (frameOf (Create party lease)) e 9)
 
   pub create-number : m .nextTxn < forever
   unfolding noNumber
-  create-number = leb-false forever (m .nextTxn) (passed m (frameOf (Create party lease)) e 7)
+  create-number = leb-false forever (m .nextTxn) (passed m (frameOf (Create party lease)) e 10)
 
 pub find-in-time : (m : Model) (l : FindRequest) → spaceRefusal m (frameOf (Find l)) ≡ 0
     → InTime (m .clock) (l .timeout)
@@ -68,8 +68,8 @@ find-in-time m l e =
     let f : ℕ → Frame = λ op. frame op (l .party) (l .mask) (l .txn .0) (l .timeout) (l .fields) in
     let g = in-time (m .clock) (l .timeout) in
     kind-cases (λ op. tooLate m (f op) ≡ false → InTime (m .clock) (l .timeout)) (l .takes) (l .«if_exists») g g g g
-    (passed m (frameOf (Find l)) e 4)
+    (passed m (frameOf (Find l)) e 7)
 
 pub tick-clock : (m : Model) → spaceRefusal m (frameOf Tick) ≡ 0 → m .clock < lastClock
 unfolding tooLate layoutOf
-tick-clock m e = leb-false lastClock (m .clock) (passed m (frameOf Tick) e 4)
+tick-clock m e = leb-false lastClock (m .clock) (passed m (frameOf Tick) e 7)

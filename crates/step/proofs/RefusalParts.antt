@@ -3,7 +3,8 @@ use Prim.Native.Nat.{ℕ, _+_, _-_, _≤_, _<_}
 use mathlib.Core.Bool.{Bool, true, false, not, cond, _&&_, _||_, or-false}
 use mathlib.Core.Option.{none, some}
 use mathlib.Core.Path.{_≡_, refl, sym, ap, _∙_}
-use mathlib.Core.List.{List}
+use mathlib.Core.List.{List, [], _∷_}
+use Rattle.rules.specs.Lists.{firstRow}
 use native.Mathlib.Omega.{arith}
 use native.Mathlib.Decide.{decLt}
 use borrow.Author.Tests.{ne-eqb, eqb-true, eqb-false, lt-ltb, le-ltb}
@@ -14,9 +15,10 @@ use Rattle.rules.specs.declared.FindRequest.{FindRequest}
 use Rattle.rules.specs.declared.Request.the-variants.{Find}
 use Rattle.rules.specs.Numbers.{waitingRefused, notLiveRefused, notOwnRefused, clockRefused}
 use Rattle.rules.specs.State.{Model}
-use Rattle.rules.specs.Frame.{Frame, layoutOf, isAbort}
+use Rattle.rules.specs.Frame.{Frame, layoutOf, isAbort, namesEntry}
 use Rattle.rules.specs.Holds.{liveTxn}
 use Rattle.rules.specs.Refusals.{admissionRows, roomRows, inTxn, withdraws, partyWaits, notLive, notOwn}
+use Rattle.rules.specs.Refusals.{noEntry, notWriter, notFree}
 use Rattle.rules.specs.Refusals.{noLease, tooLate, entriesFull, txnsFull, noNumber}
 use Rattle.rules.specs.Requests.{frame, frameOf, spaceRefusal}
 use Rattle.rules.proofs.ListLaws.{some-any, none-any, any-same, all-false}
@@ -55,23 +57,36 @@ spares true t leaving e w = rw e (go (eqb t 0))
     go true = refl
     go false = refl
 
-pub admission-parts : (m : Model) (f : Frame) (inside : Bool) (leaving : ℕ) → inTxn f ≡ inside
-    → leaving ≡ cond (isAbort (f .op)) (f .txn) 0
+-- 18 to 20 are of renewals alone
+no-renewal : (m : Model) (f : Frame) → namesEntry (f .op) ≡ false
+    → admissionRefusal m f
+    ≡ cond (partyWaits m f) waitingRefused
+    (firstRow ((notLive m f, notLiveRefused) ∷ (notOwn m f, notOwnRefused) ∷ []))
+unfolding noEntry notWriter notFree
+no-renewal m f e = rw e
+
+pub admission-parts : (m : Model) (f : Frame) (inside : Bool) (leaving : ℕ) → namesEntry (f .op) ≡ false
+    → inTxn f ≡ inside → leaving ≡ cond (isAbort (f .op)) (f .txn) 0
     → partyRefusal inside (f .party) leaving (f .txn) m ≡ admissionRefusal m f
 unfolding partyRefusal txnRefusal partyWaits notLive notOwn
-admission-parts m f inside leaving e l =
+admission-parts m f inside leaving names e l =
     ap (λ b. partyRefusal b (f .party) leaving (f .txn) m) (sym e)
     ∙ ap (λ b. cond b waitingRefused (txnRefusal (inTxn f) (f .party) (f .txn) (m .txns)))
     (any-same (bars (f .party) leaving) (λ w. eqb (w .party) (f .party) && not (withdraws f w))
     (λ w. ap (λ b. eqb (w .party) (f .party) && b) (spares (isAbort (f .op)) (f .txn) leaving l w)) (m .waits))
+    ∙ sym (no-renewal m f names)
 
 -- a look-up is in a transaction if it names one
 pub find-inside : (l : FindRequest) → inTxn (frameOf (Find l)) ≡ not (eqb (l .txn .0) 0)
 unfolding layoutOf
 find-inside l =
     let e = or-false (not (eqb (l .txn .0) 0)) in
-    kind-cases (λ op. (not (eqb (l .txn .0) 0) || layoutOf op .ends) ≡ not (eqb (l .txn .0) 0)) (l .takes)
-    (l .«if_exists») e e e e
+    kind-cases (λ op. (not (namesEntry op) && not (eqb (l .txn .0) 0) || layoutOf op .ends) ≡ not (eqb (l .txn .0) 0))
+    (l .takes) (l .«if_exists») e e e e
+
+pub find-names : (l : FindRequest) → namesEntry (frameOf (Find l) .op) ≡ false
+unfolding layoutOf
+find-names l = kind-cases (λ op. namesEntry op ≡ false) (l .takes) (l .«if_exists») refl refl refl refl
 
 -- and leaves none
 pub find-leaves : (l : FindRequest) → 0 ≡ cond (isAbort (frameOf (Find l) .op)) (l .txn .0) 0

@@ -75,7 +75,7 @@ module _ (m : Model) (bs : List ℕ) (area : ℕ) where
         not-zero : eqb (formRefusal bs) 0 ≡ false
         not-zero = go (eqb (formRefusal bs) 0) (d .frame)
 
-    -- it does not: the request is judged against the space, by 6 to 13
+    -- it does not: the request is judged against the space, by the rows behind 5
     module _ {q : Request} (d : Decodes bs (Asks q)) where
       pub asked : refusal m bs area ≡ spaceRefusal m (frameOf q)
       asked =
@@ -84,7 +84,7 @@ module _ (m : Model) (bs : List ℕ) (area : ℕ) where
           ∙ ap (spaceRefusal m) (sym (asked-frame d))
 
 -- on a sound space all is there for it, if it is a look-up
-ready-for : {bs : List ℕ} {q : Request} (m : Model) → Decodes bs (Asks q) → spaceRefusal m (frameOf q) ≡ 0 → Sound m
+pub ready-for : {bs : List ℕ} {q : Request} (m : Model) → Decodes bs (Asks q) → spaceRefusal m (frameOf q) ≡ 0 → Sound m
     → ReadyFor m (frameOf q)
 unfolding formRefusal spaceRefusal
 ready-for {bs} {q} m d e s l =
@@ -166,7 +166,7 @@ module _ {ws bs area ws′ area′ : List ℕ} {returned : ℕ} where
         (ap view s) (a .1 .bytes) (a .0) (λ k. s)
 
     module _ {q : Request} (d′ : Decodes bs (Asks q)) where
-      -- 6 to 13
+      -- by a row behind 5
       pub stepped-judged : {n : ℕ} → n ≡ spaceRefusal (view ws) (frameOf q) → (n ≡ 0 → ⊥) → ws′ ≡ ws
           → (returned ≡ 1 + 65536 * n) × Adds (refused bs n ∷ []) area area′ 0 1 → Stepped ws bs area ws′ returned area′
       stepped-judged e z s a = stepped-refused (asked (view ws) bs (length area) h d′ ∙ sym e) z s a
@@ -203,16 +203,14 @@ module _ {ws bs area ws′ area′ : List ℕ} {returned : ℕ} where
 
       -- where the code goes by the frame's kind, and service from a row on
       pub stepped-done : {ws₁ a₁ : List ℕ} {own : Record} {n : ℕ} (k : ℕ) → spaceRefusal (view ws) (frameOf q) ≡ 0
-          → (ReadyFor (view ws) (frameOf q) → Carries (ownPart (view ws) (frameOf q)) ws₁ own)
+          → (Sound (view ws) → Carries (ownPart (view ws) (frameOf q)) ws₁ own)
           × SameBefore k (view ws) (view ws₁)
           → Adds (own ∷ []) area a₁ 0 n → (x : Ending) → EndsAs (frameOf q) x
           → Does (finishedBy x k (view ws₁)) ws′ a₁ area′ n returned
           → Stepped ws bs area ws′ returned area′
       stepped-done {ws₁} k e c a x y f =
-          let carried : Sound (view ws) → Carries (ownPart (view ws) (frameOf q)) ws₁ _ =
-          λ s. c .0 (ready-for (view ws) d′ e s) in
-          stepped-sound (finishedBy x k (view ws₁)) e carried a
-          (λ s. let o = carried s .model in
+          stepped-sound (finishedBy x k (view ws₁)) e (c .0) a
+          (λ s. let o = c .0 s .model in
           ap (finishedBy x k) o
           ∙ ends-same (view ws) (length area) (asked (view ws) bs (length area) h d′ ∙ e) d′ s k x y
           (subst (SameBefore k (view ws)) o (c .1)) (subst Bounded o (view-bounded ws₁))) f

@@ -1,6 +1,7 @@
--- The refusals 6 to 13 as the code judges them, and room for a look-up that waits.
+-- The refusals 6 to 13 and 18 to 20 as the code judges them, and room for a look-up that waits.
 use Prim.Native.Nat.{ℕ, _+_, _<_}
 use mathlib.Core.Bool.{Bool, true, not, cond, _&&_, _||_}
+use mathlib.Core.Option.{some}
 use mathlib.Core.Path.{_≡_}
 use mathlib.Core.List.{List, [], _∷_, map}
 use lib.Dec.{eqb, leb, ltb}
@@ -10,11 +11,12 @@ use Rattle.rules.specs.declared.LookUp.{LookUp}
 use Rattle.rules.specs.declared.Txn.{Txn}
 use Rattle.rules.specs.Lists.{anyb, firstRow}
 use Rattle.rules.specs.Numbers.{forever, lastClock, maxEntries, maxWaits}
-use Rattle.rules.specs.Numbers.{waitingRefused, notLiveRefused, notOwnRefused}
+use Rattle.rules.specs.Numbers.{waitingRefused, notLiveRefused, notOwnRefused, notWriterRefused, heldRefused}
+use Rattle.rules.specs.Numbers.{clockRefused}
 use Rattle.rules.specs.State.{Model}
 use Rattle.rules.specs.Holds.{liveTxn}
 use Rattle.rules.specs.Frame.{Frame, isLookUp}
-use Rattle.rules.specs.Refusals.{isOf, admissionRows, roomRows}
+use Rattle.rules.specs.Refusals.{isFree, isOf, admissionRows, roomRows}
 use Rattle.rules.specs.Sound.{Ascending}
 
 -- 6, of a party whose frame aborts the transaction `leaving`, or none (0): whether a look-up bars it, and whether one
@@ -45,6 +47,15 @@ late clock leaseOrTimeout = not (eqb leaseOrTimeout forever) && ltb lastClock (c
 -- 11, of a lease
 abbrev pub noRoom : ℕ → List Entry → Bool
 noRoom lease es = not (eqb lease 0) && leb maxEntries (length es)
+
+-- 19, 20 and 10, of a party, the entry that it renews, the clock and a lease
+unfoldable pub entryRefusal : ℕ → Entry → ℕ → ℕ → ℕ
+entryRefusal party e clock lease =
+    firstRow
+    ((not (eqb (e .writer) party), notWriterRefused)
+    ∷ (not (isFree (some e)), heldRefused)
+    ∷ (late clock lease, clockRefused)
+    ∷ [])
 
 -- the rows of a frame's party and transaction, and those of time, room and numbers: the first that applies, or 0
 abbrev pub admissionRefusal : Model → Frame → ℕ

@@ -1,15 +1,17 @@
-// Why a request is refused: the refusals 6 to 13, in document 01's order.
+// Why a request is refused: the refusals 6 to 13, and of a renewal 18 to 20, in the order in which they are judged.
 ghost use mathlib.Core.Path.{_≡_};
 ghost use Rattle.rules.specs.declared.Request.the-variants.{Write, Find, Create, Commit, Abort, Tick};
 ghost use Rattle.rules.specs.Requests.{frameOf, spaceRefusal};
 ghost use Rattle.rules.specs.Words.{view};
 ghost use Rattle.hints.specs.Hints.{Reliable};
 ghost use Rattle.step.specs.Judge.{bars, partyWaiting, txnRefusal, partyRefusal, late, noRoom};
-ghost use Rattle.step.specs.Judge.{roomRefusal};
+ghost use Rattle.step.specs.Judge.{roomRefusal, entryRefusal};
 use hints::known::Hints;
 use hints::known::may_wait;
 use holds::live::Live;
 use holds::live::find_txn;
+use holds::renew::is_free;
+use rules::Entry;
 use rules::FindRequest;
 use rules::LookUp;
 use rules::TxnId;
@@ -17,12 +19,14 @@ use rules::WriteRequest;
 use rules::numbers::CLOCK_REFUSED;
 use rules::numbers::ENTRIES_REFUSED;
 use rules::numbers::FOREVER;
+use rules::numbers::HELD_REFUSED;
 use rules::numbers::LAST_CLOCK;
 use rules::numbers::LEASE_REFUSED;
 use rules::numbers::MAX_ENTRIES;
 use rules::numbers::MAX_TXNS;
 use rules::numbers::NOT_LIVE_REFUSED;
 use rules::numbers::NOT_OWN_REFUSED;
+use rules::numbers::NOT_WRITER_REFUSED;
 use rules::numbers::NUMBER_REFUSED;
 use rules::numbers::TXNS_REFUSED;
 use rules::numbers::WAITING_REFUSED;
@@ -207,6 +211,23 @@ pub(crate) fn abort_refusal(space: &Words, hints: &Hints, party: u8, id: TxnId) 
     ensures { λ r. ⌜ r ≡ spaceRefusal (view (now (space .entry))) (frameOf (Abort party id)) ⌝ }
 {
     party_refusal(space, hints, true, party, id, id)
+}
+
+// 19, 20 or 10, for a renewal of the entry; 0: none of them applies.
+pub(crate) fn entry_refusal(space: &Words, party: u8, e: Entry, lease: u32) -> u8
+    ensures { λ r. ⌜ r ≡ entryRefusal party e (view (now (space .entry)) .clock) lease ⌝ }
+{
+    if e.writer != party {
+        return NOT_WRITER_REFUSED;
+    }
+    if !is_free(e) {
+        return HELD_REFUSED;
+    }
+    if too_late(space, lease) {
+        CLOCK_REFUSED
+    } else {
+        0
+    }
 }
 
 pub(crate) fn tick_refusal(space: &Words, hints: &Hints) -> u8

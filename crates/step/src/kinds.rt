@@ -7,13 +7,14 @@ ghost use Rattle.rules.specs.Numbers.{stepArea};
 ghost use Rattle.rules.specs.Requests.{Decodes};
 ghost use Rattle.rules.specs.Words.{view};
 ghost use Rattle.rules.specs.declared.Decoded.the-variants.{Asks};
-ghost use Rattle.rules.specs.declared.Request.the-variants.{Write, Find, Create, Commit, Abort, Tick};
+ghost use Rattle.rules.specs.declared.Request.the-variants.{Write, Find, Create, Commit, Abort, Renew, Tick};
 ghost use Rattle.hints.specs.Hints.{Reliable};
 ghost use Rattle.step.specs.Does.{StaysReliable};
 use crate::step::take_abort;
 use crate::step::take_commit;
 use crate::step::take_create;
 use crate::step::take_find;
+use crate::step::take_renew;
 use crate::step::take_tick;
 use crate::step::take_write;
 use hints::known::Hints;
@@ -22,6 +23,7 @@ use hints::known::note_last;
 use hints::known::note_lease;
 use hints::known::note_stored;
 use hints::renew::renew_reached;
+use rules::EntryId;
 use rules::FindRequest;
 use rules::Request;
 use rules::TxnId;
@@ -123,6 +125,26 @@ pub(crate) fn abort_frame(
     take_abort(space, hints, frame, answers, party, id)
 }
 
+// An entry may get another end.
+pub(crate) fn renew_frame(
+    space: &mut Words,
+    hints: &mut Hints,
+    frame: &[u8],
+    answers: &mut [u8],
+    party: u8,
+    id: EntryId,
+    lease: u32,
+) -> u64
+    requires { ⌜ Decodes (now frame) (Asks (Renew party id lease)) × (stepArea ≤ length (now answers))
+        × Reliable (now hints) (view (now space)) ⌝ }
+    ensures { λ r. ⌜ Stepped (now (space .entry)) (now (frame .entry)) (now (answers .entry))
+        (now (space .exit)) r (now (answers .exit))
+        × StaysReliable (now (space .entry)) (now (space .exit)) (now (hints .exit)) ⌝ }
+{
+    note_stored(hints, clock(space), lease);
+    take_renew(space, hints, frame, answers, party, id, lease)
+}
+
 pub(crate) fn tick_frame(
     space: &mut Words,
     hints: &mut Hints,
@@ -160,6 +182,9 @@ pub(crate) fn take_up(
         Request::Create(party, lease) => create_frame(space, hints, frame, answers, party, lease),
         Request::Commit(party, id) => commit_frame(space, hints, frame, answers, party, id),
         Request::Abort(party, id) => abort_frame(space, hints, frame, answers, party, id),
+        Request::Renew(party, id, lease) => {
+            renew_frame(space, hints, frame, answers, party, id, lease)
+        }
         Request::Tick => tick_frame(space, hints, frame, answers),
     }
 }

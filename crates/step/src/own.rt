@@ -1,4 +1,4 @@
-// A request's own part, once the refusals 6 to 13 let it pass: what it does to the space, and the record that it
+// A request's own part, once the refusals behind 5 let it pass: what it does to the space, and the record that it
 // answers.
 ghost use mathlib.Core.Path.{_≡_};
 ghost use Prim.Native.Nat.{_<_};

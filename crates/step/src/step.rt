@@ -10,7 +10,7 @@ ghost use Rattle.rules.specs.Records.{refused};
 ghost use Rattle.rules.specs.Requests.{Decodes};
 ghost use Rattle.rules.specs.Words.{view};
 ghost use Rattle.rules.specs.declared.Decoded.the-variants.{Asks};
-ghost use Rattle.rules.specs.declared.Request.the-variants.{Write, Find, Create, Commit, Abort, Tick};
+ghost use Rattle.rules.specs.declared.Request.the-variants.{Write, Find, Create, Commit, Abort, Renew, Tick};
 ghost use Rattle.hints.specs.Hints.{Reliable};
 ghost use Rattle.step.specs.Does.{Adds};
 use crate::answers::add_record;
@@ -21,8 +21,10 @@ use crate::finish::serve_and_close;
 use crate::judge::abort_refusal;
 use crate::judge::commit_refusal;
 use crate::judge::create_refusal;
+use crate::judge::entry_refusal;
 use crate::judge::find_refusal;
 use crate::judge::tick_refusal;
+use crate::judge::waits_already;
 use crate::judge::write_refusal;
 use crate::look_up::find;
 use crate::own::abort;
@@ -33,12 +35,19 @@ use crate::own::create;
 use crate::own::tick;
 use crate::write::write;
 use codec::records::refused_record;
+use codec::records::renewed_record;
 use hints::known::Hints;
 use hints::known::is_idle;
 use hints::known::least_end;
+use holds::find::Match;
+use holds::renew::find_entry;
+use holds::renew::renew_entry;
+use rules::EntryId;
 use rules::FindRequest;
 use rules::TxnId;
 use rules::WriteRequest;
+use rules::numbers::NO_ENTRY_REFUSED;
+use rules::numbers::WAITING_REFUSED;
 use words::rows::Words;
 use words::rows::clock;
 
@@ -180,6 +189,36 @@ pub(crate) fn take_abort(
     let answer = own.answer;
     let count = add_record(answers, 0, answer);
     serve_and_close(space, answers, count, own.from) as u64
+}
+
+// The entry that a renewal names is looked for once: 18 if there is none, and its row for what is done.
+pub(crate) fn take_renew(
+    space: &mut Words,
+    hints: &Hints,
+    frame: &[u8],
+    answers: &mut [u8],
+    party: u8,
+    id: EntryId,
+    lease: u32,
+) -> u64
+    requires { ⌜ Decodes (now frame) (Asks (Renew party id lease)) × (stepArea ≤ length (now answers))
+        × Reliable (now hints) (view (now space)) ⌝ }
+    ensures { λ r. ⌜ Stepped (now (space .entry)) (now (frame .entry)) (now (answers .entry))
+        (now (space .exit)) r (now (answers .exit)) ⌝ }
+{
+    if waits_already(space, hints, party, TxnId(0)) {
+        return refuse(answers, frame, WAITING_REFUSED);
+    }
+    let Match::At(e, row) = find_entry(space, id) else {
+        return refuse(answers, frame, NO_ENTRY_REFUSED);
+    };
+    let n = entry_refusal(space, party, e, lease);
+    if n != 0 {
+        return refuse(answers, frame, n);
+    }
+    renew_entry(space, row, e, lease);
+    let answer = renewed_record(party, id, lease);
+    add_record(answers, 0, answer) as u64
 }
 
 pub(crate) fn take_tick(space: &mut Words, hints: &Hints, frame: &[u8], answers: &mut [u8]) -> u64

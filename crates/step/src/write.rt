@@ -38,6 +38,7 @@ pub(crate) fn new_entry(space: &Words, w: WriteRequest) -> Entry
         private_to,
         taken_by: TxnId(0),
         readers: 0,
+        writer: w.party,
     }
 }
 

@@ -1,5 +1,5 @@
 -- The three tables of a space: how a row is read and what it can hold, and the model once one of them is written.
-use Prim.Native.Nat.{ℕ, zero, suc, _+_, _*_, _<_, _/_, _%_}
+use Prim.Native.Nat.{ℕ, zero, suc, _+_, _*_, _<_}
 use mathlib.Core.Bool.{Bool, true, false, cond}
 use mathlib.Core.Path.{_≡_, refl, sym, ap, _∙_}
 use mathlib.Core.List.{List}
@@ -14,15 +14,15 @@ use Rattle.rules.specs.declared.Entry.{Entry}
 use Rattle.rules.specs.declared.LookUp.{LookUp}
 use Rattle.rules.specs.declared.Txn.{Txn}
 use Rattle.rules.specs.declared.TxnId.{TxnId}
-use Rattle.rules.proofs.BoolLaws.{cond-cases}
 use Rattle.rules.specs.Frame.{isTake, isIfExists, lookUpOp}
 use Rattle.rules.specs.Numbers.{forever, maxEntries, maxTxns, maxWaits}
 use Rattle.rules.specs.State.{Model, holding, withEntries, withTxns, withWaits, withClock, withNextEntry, withNextTxn}
-use Rattle.rules.specs.Words.{untilOf, untilWord, entryWords, txnWords, waitWords, entryOf, txnOf, waitOf, entries}
-use Rattle.rules.specs.Words.{row, txns, waits, view}
-use Rattle.rules.specs.Words.{clockAt, nextEntryAt, nextTxnAt, entryCountAt, txnCountAt, waitCountAt, entryCount}
-use Rattle.rules.specs.Words.{txnCount, waitCount}
-use Rattle.rules.specs.Words.{entriesAt, entryWidth, txnsAt, txnWidth, waitsAt, waitWidth, spaceWords}
+use Rattle.rules.specs.Words.{untilOf, untilWord, entryWords, txnWords, waitWords, entryOf, txnOf, waitOf, entries, row}
+use Rattle.rules.specs.Words.{txns, waits, view, clockAt, nextEntryAt, nextTxnAt, entryCountAt, txnCountAt, waitCountAt}
+use Rattle.rules.specs.Words.{entryCount, txnCount, waitCount, entriesAt, entryWidth, txnsAt, txnWidth, waitsAt}
+use Rattle.rules.specs.Words.{waitWidth, spaceWords}
+use Rattle.rules.proofs.NumberLaws.{three-bytes}
+use Rattle.rules.proofs.BoolLaws.{cond-cases}
 use Rattle.words.specs.Rows.{entryRow, txnRow, waitRow, fieldAt, FitsWord, byteValues}
 use Rattle.words.proofs.RowLaws.{But, but-set, clear, word-kept, row-word}
 use Rattle.words.proofs.SearchLaws.{Rows}
@@ -146,6 +146,7 @@ until-back n = cond-cases (λ u. untilWord u ≡ n) (eqb n forever) (λ e. sym (
 pub record Storable (e : Entry) : Type 0 where
   pub readers-fit : e .readers < byteValues
   pub blanks-fit : e .fields .blanks < byteValues
+  pub writer-fits : e .writer < byteValues
   pub end-fits : FitsWord (e .end)
 
 pub end-read : (r : List ℕ) → FitsWord (entryOf r .end)
@@ -156,17 +157,15 @@ end-read r = ap untilOf (until-back _)
 pub held-fits : (r : List ℕ) (owner taker : TxnId) (holders : ℕ) → holders < byteValues
     → Storable (holding (entryOf r) owner taker holders)
 unfolding entryOf
-held-fits r owner taker holders h = record { readers-fit = h; blanks-fit = omega arith; end-fits = end-read r }
+held-fits r owner taker holders h =
+    record { readers-fit = h; blanks-fit = omega arith; writer-fits = omega arith; end-fits = end-read r }
 
 pub entry-back : (e : Entry) → Storable e → entryOf (entryWords e) ≡ e
 unfolding entryOf
 entry-back e s =
-    let r = s .readers-fit in
-    let b = s .blanks-fit in
-    let low : (e .readers + 256 * e .fields .blanks) % 256 ≡ e .readers = omega arith in
-    let high : (e .readers + 256 * e .fields .blanks) / 256 ≡ e .fields .blanks = omega arith in
-    let byte : e .fields .blanks % 256 ≡ e .fields .blanks = omega arith in
-    rw (s .end-fits, low, high, byte)
+    let parts = three-bytes (e .readers) (e .fields .blanks) (e .writer) (s .readers-fit) (s .blanks-fit)
+    (s .writer-fits) in
+    rw (s .end-fits, parts .0, parts .1, parts .2)
 
 pub record Txnable (t : Txn) : Type 0 where
   pub party-fits : t .party < byteValues

@@ -68,6 +68,9 @@ const WAIT_WIDTH: usize = 9;
 // How many values a byte has: a word that stands for one is read by its remainder.
 const BYTE_VALUES: u32 = 256;
 
+// What the third byte of a word counts for.
+const THIRD_BYTE: u32 = 65536;
+
 // How many slots there are, and the operations of look-ups, as words.
 const SLOTS: u32 = MAX_TXNS as u32;
 
@@ -262,7 +265,15 @@ pub fn entry_at(space: &Words, i: usize) -> Entry
         private_to: TxnId(r[6]),
         taken_by: TxnId(r[7]),
         readers: (r[8] % BYTE_VALUES) as u8,
+        writer: (r[8] / THIRD_BYTE % BYTE_VALUES) as u8,
     }
+}
+
+pub fn entry_number(space: &Words, i: usize) -> u32
+    requires { ⌜ i < maxEntries ⌝ }
+    ensures { λ r. ⌜ r ≡ entryRow (now (space .entry)) i .id .0 ⌝ }
+{
+    space[ENTRIES_AT + ENTRY_WIDTH * i]
 }
 
 // The end of the lease of the entry in row i, as a word: FOREVER is later than every tick.
@@ -296,7 +307,7 @@ pub fn put_entry(space: &mut Words, i: usize, e: Entry)
         end,
         e.private_to.0,
         e.taken_by.0,
-        e.readers as u32 + BYTE_VALUES * e.fields.blanks as u32,
+        e.readers as u32 + BYTE_VALUES * e.fields.blanks as u32 + THIRD_BYTE * e.writer as u32,
     ];
     put_words(space, ENTRIES_AT + ENTRY_WIDTH * i, &r);
 }

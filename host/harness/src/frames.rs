@@ -18,6 +18,11 @@ pub fn create_frame(party: u8, lease: u32) -> Vec<u8> {
     Request { duration: lease, ..request(6, party) }.frame()
 }
 
+/// Names an entry where other frames name a transaction.
+pub fn renew_frame(party: u8, entry: u32, lease: u32) -> Vec<u8> {
+    [[11, party, 0, 0], entry.to_le_bytes(), lease.to_le_bytes()].concat()
+}
+
 /// Commit (7) or abort (8).
 pub fn ending_frame(operation: u8, party: u8, transaction: u32) -> Vec<u8> {
     Request { transaction, ..request(operation, party) }.frame()

@@ -1,12 +1,12 @@
 //! Seeded random frames and trays that make deep histories: several panes, few distinct kinds, short leases, ticks
-//! anywhere, full tables, steps that set several entries free, blanks, garbled frames, damaged trays, answers areas of
-//! odd lengths.
+//! anywhere, full tables, steps that set several entries free, blanks, renewals, garbled frames, damaged trays, answers
+//! areas of odd lengths.
 
-use crate::frames::{create_frame, ending_frame, long_frame, tick_frame};
+use crate::frames::{create_frame, ending_frame, long_frame, renew_frame, tick_frame};
 use crate::random::Random;
 use reference::answer::{RECORD, STEP};
 use reference::frame::{Fields, Mark, FOREVER, LAST_CLOCK, NONE};
-use reference::space::{End, Space};
+use reference::space::{End, Entry, Space};
 use reference::tray::{LONGEST_TRAY, MOST_FRAMES};
 use tray::bytes::tray_of;
 
@@ -30,6 +30,8 @@ struct Lean {
     stray: usize,
     /// Of frames, where somebody waits: one of those who wait tries to get out.
     escapes: usize,
+    /// Of frames: renewals.
+    renews: usize,
     garbled: usize,
     /// Shares of write, look-up, create, commit or abort, tick.
     shares: [usize; 5],
@@ -51,10 +53,11 @@ impl Lean {
             commits: random.pick(&[30, 60]),
             stray: random.pick(&[0, 2, 10]),
             escapes: random.pick(&[0, 3, 15]),
+            renews: random.pick(&[0, 4, 15]),
             garbled: random.pick(&[0, 2, 15]),
             shares: [random.between(2, 8) as usize, random.between(2, 8) as usize, 2, 2, random.between(1, 4) as usize],
         };
-        match random.below(7) {
+        match random.below(8) {
             // many entries stored
             0 => Lean { forever: 80, takes: 15, timeout_0: 90, shares: [10, 4, 1, 1, 1], ..mixed },
             // many transactions live, with holds
@@ -88,6 +91,10 @@ impl Lean {
                 shares: [4, 8, 2, 2, 1],
                 ..mixed
             },
+            // marks that are renewed again and again, while others come, go and are held
+            5 => {
+                Lean { longest: 8, forever: 10, takes: 30, timeout_0: 60, renews: 40, shares: [4, 4, 1, 1, 4], ..mixed }
+            }
             _ => mixed,
         }
     }
@@ -114,6 +121,7 @@ impl Generator {
             return frame;
         }
         let frame = match guide.waiting.len() {
+            _ if self.random.percent(self.lean.renews) => self.renewal_frame(guide),
             0 => self.sound_frame(guide),
             waiting if self.random.percent(self.lean.escapes) => {
                 let look_up = &guide.waiting[self.random.below(waiting)];
@@ -207,6 +215,39 @@ impl Generator {
             mask &= !like.blanks; // else it may ask 0 of a blank
         }
         long_frame(operation, party, mask, transaction, timeout, cleared(like.fields, !mask))
+    }
+
+    /// A party renews an entry: mostly its own that nobody holds, else any that is stored, or none.
+    fn renewal_frame(&mut self, guide: &Space) -> Vec<u8> {
+        let waits = |party: u8| guide.waiting.iter().any(|look_up| look_up.party == party);
+        let free = |entry: &&Entry| entry.private_to == NONE && entry.taken_by == NONE && entry.read_by.is_empty();
+        let tame = self.random.percent(60);
+        let stored = guide.entries.iter().filter(|entry| !tame || free(entry) && !waits(entry.writer));
+        let stored: Vec<(u8, u32)> = stored.map(|entry| (entry.writer, entry.number)).collect();
+        let (writer, number) = match stored.len() {
+            0 => (1, self.stray_entry(guide)),
+            _ if self.random.percent(12) => (self.random.between(1, 16) as u8, self.stray_entry(guide)),
+            _ => self.random.pick(&stored),
+        };
+        let party = if self.random.percent(85) { writer } else { self.random.between(1, self.lean.parties) as u8 };
+        let lease = match self.random.below(20) {
+            0 | 1 => 0,
+            // about the latest end that is allowed
+            2 => (LAST_CLOCK - guide.clock).saturating_add(2).saturating_sub(self.random.below(4) as u32),
+            3 => FOREVER,
+            _ => self.duration(guide),
+        };
+        renew_frame(party, number, lease)
+    }
+
+    /// Perhaps the number of an entry that is there no more, or not yet.
+    fn stray_entry(&mut self, guide: &Space) -> u32 {
+        match self.random.below(8) {
+            0 => self.random.number() as u32,
+            1 => self.random.between(0, 20),
+            2 => guide.next_entry.saturating_add(self.random.below(3) as u32),
+            _ => guide.next_entry.saturating_sub(1 + self.random.below(30) as u32),
+        }
     }
 
     /// A party that does not wait, or a stray one; none if all wait.
@@ -307,7 +348,7 @@ impl Generator {
         match random.below(10) {
             0 => frame.truncate(random.below(frame.len() + 1)),
             1 => frame.extend((0..random.between(1, 3)).map(|_| 0)),
-            2 => frame[0] = random.pick(&[0, 10, 11, 255]),
+            2 => frame[0] = random.pick(&[0, 10, 11, 12, 255]),
             3 => frame[3] = random.byte(),
             4 => frame[2] = random.byte(),
             5 => frame[2] = random.below(16) as u8,

@@ -2,7 +2,7 @@
 
 use reference::frame::{look_up_kind, Mark, Template, NONE};
 use reference::space::{End, Entry, LookUp, Space, Transaction};
-use tray::words::{self, Words, BLANKS_UNIT, ENTRIES, ENTRY_READERS, MAX_TRANSACTIONS, TRANSACTIONS, TRANSACTION_SLOT};
+use tray::words::{self, Words, ENTRIES, ENTRY_READERS, MAX_TRANSACTIONS, TRANSACTIONS, TRANSACTION_SLOT};
 
 fn end(end: words::End) -> End {
     match end {
@@ -21,16 +21,17 @@ fn holders(words: &Words, read_by: Vec<u32>, bits: u32) -> Vec<u32> {
     }
 }
 
+/// The word at ENTRY_READERS is readers + 256 × blanks + 65,536 × writer.
 fn entry(words: &Words, entry: words::Entry, row: &[u32]) -> Entry {
-    let (readers, blanks) = (row[ENTRY_READERS] % BLANKS_UNIT, row[ENTRY_READERS] / BLANKS_UNIT);
-    let blanks = u8::try_from(blanks).unwrap_or(u8::MAX); // more than a byte stays wrong
+    let [readers, blanks, writer, more] = row[ENTRY_READERS].to_le_bytes();
     Entry {
         number: entry.number,
+        writer: if more == 0 { writer } else { u8::MAX }, // more than three bytes stays wrong
         mark: Mark { fields: entry.fields, blanks },
         end: end(entry.end),
         private_to: entry.private_to,
         taken_by: entry.taken_by,
-        read_by: holders(words, entry.read_by, readers),
+        read_by: holders(words, entry.read_by, u32::from(readers)),
     }
 }
 

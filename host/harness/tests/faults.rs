@@ -3,15 +3,15 @@
 use harness::compare::{compare, replay, Coverage, Discrepancy};
 use harness::subject::{Beginning, Subject};
 use reference::answer::{Kind, RECORD, STEP};
-use reference::frame::{word, Template, FOREVER, LOOK_UPS, NONE};
-use reference::space::{End, Outcome, Space};
+use reference::frame::{word, Template, FOREVER, LAST_CLOCK, LOOK_UPS, NONE};
+use reference::space::{End, Entry, Outcome, Space};
 use reference::tray::{judge, run};
 use std::collections::BTreeMap;
 use tray::text::parse;
 
 /// The mistakes that document 01 tells of students, and what its contracts exclude; then smaller ones; then the order
 /// that document 02 fixes; then one that only some areas show; then the rule of document 01 that document 02 replaces;
-/// then a count of its own that answers and tables do not show; then blanks.
+/// then a count of its own that answers and tables do not show; then blanks; then renewals.
 const LEASE_STOPS_UNDER_A_TAKE_HOLD: u8 = 0;
 const OWN_READ_BARS_OWN_TAKE: u8 = 1;
 const NOTHING_BEFORE_SERVICE: u8 = 2;
@@ -34,6 +34,12 @@ const BLANKS_LOST_AT_ABORT: u8 = 18;
 const FOUND_WITHOUT_BLANKS: u8 = 19;
 const FILLED_BLANK_WRITTEN: u8 = 20;
 const MASK_OF_LEASE_0_NOT_JUDGED: u8 = 21;
+const RENEWED_FROM_THE_OLD_END: u8 = 22;
+const HELD_ENTRY_RENEWED: u8 = 23;
+const ANOTHERS_ENTRY_RENEWED: u8 = 24;
+const LEASE_0_LEFT_TO_THE_NEXT_TICK: u8 = 25;
+const WRITER_LOST_AT_COMMIT: u8 = 26;
+const TOO_LATE_JUDGED_FIRST: u8 = 27;
 
 /// The reference with a fault.
 #[derive(Clone, PartialEq)]
@@ -51,8 +57,8 @@ impl<const FAULT: u8> Wrong<FAULT> {
                 _ => {}
             }
         }
-        if [BLANKS_LOST_AT_COMMIT, BLANKS_LOST_AT_ABORT].contains(&FAULT) {
-            self.lose_blanks(frame);
+        if [BLANKS_LOST_AT_COMMIT, BLANKS_LOST_AT_ABORT, WRITER_LOST_AT_COMMIT].contains(&FAULT) {
+            self.lose(frame);
         }
         if FAULT == NOTHING_BEFORE_SERVICE && tick {
             let next = self.0.clock + 1;
@@ -94,17 +100,58 @@ impl<const FAULT: u8> Wrong<FAULT> {
         }
     }
 
-    /// If the frame ends a transaction, what that makes public or puts back loses its blanks.
-    fn lose_blanks(&mut self, frame: &[u8]) {
-        let ending = if FAULT == BLANKS_LOST_AT_COMMIT { 7 } else { 8 };
+    /// If the frame ends a transaction, what that makes public or puts back loses its blanks, or its writer.
+    fn lose(&mut self, frame: &[u8]) {
+        let ending = if FAULT == BLANKS_LOST_AT_ABORT { 8 } else { 7 };
         if frame.len() != 8 || frame[0] != ending || self.0.clone().step(frame, &mut [0; STEP]).number != 0 {
             return;
         }
         let transaction = word(frame, 4);
         let entries = self.0.entries.iter_mut();
         for entry in entries.filter(|entry| [entry.private_to, entry.taken_by].contains(&transaction)) {
-            entry.mark.blanks = 0;
+            match FAULT {
+                WRITER_LOST_AT_COMMIT => entry.writer = 0,
+                _ => entry.mark.blanks = 0,
+            }
         }
+    }
+
+    /// Has a renewal find the entry that it names as the fault takes it to be; gives the entry as it is.
+    fn mistake(&mut self, frame: &[u8]) -> Option<Entry> {
+        let (party, number) = named(frame)?;
+        let entry = self.0.entries.iter_mut().find(|entry| entry.number == number)?;
+        let was = entry.clone();
+        match FAULT {
+            HELD_ENTRY_RENEWED => {
+                (entry.private_to, entry.taken_by) = (NONE, NONE);
+                entry.read_by.clear();
+            }
+            ANOTHERS_ENTRY_RENEWED => entry.writer = party,
+            _ => {}
+        }
+        Some(was)
+    }
+
+    /// Gives that entry what it had, but for what the fault makes of the renewal.
+    fn mend(&mut self, frame: &[u8], was: Option<Entry>, outcome: Outcome, area: &mut [u8]) -> Outcome {
+        let (Some(was), clock) = (was, self.0.clock) else { return outcome };
+        let lease = word(frame, 8);
+        let late = lease != FOREVER && lease > LAST_CLOCK - clock;
+        match (self.0.entries.iter_mut().find(|entry| entry.number == was.number), was.end) {
+            (Some(entry), End::At(end)) if FAULT == RENEWED_FROM_THE_OLD_END && outcome.number == 0 => {
+                entry.end = if lease == FOREVER { End::Never } else { End::At(end.saturating_add(lease)) };
+            }
+            (Some(entry), _) => *entry = Entry { end: entry.end, ..was },
+            (None, _) if FAULT == LEASE_0_LEFT_TO_THE_NEXT_TICK => {
+                self.0.entries.push(Entry { end: End::At(clock), ..was });
+            }
+            _ => {}
+        }
+        if FAULT != TOO_LATE_JUDGED_FIRST || outcome.number < 18 || !late {
+            return outcome;
+        }
+        area[2] = 10;
+        Outcome { number: 10, ..outcome }
     }
 
     /// The frame as the fault reads it.
@@ -162,7 +209,9 @@ impl<const FAULT: u8> Subject for Wrong<FAULT> {
         self.before(&frame);
         let plain = if FAULT == WAITS_ON_IN_VAIN { self.as_plain_waits() } else { Vec::new() };
         let blanks = if FAULT == BLANK_MATCHED_AS_0 { self.as_values() } else { BTreeMap::new() };
+        let was = self.mistake(&frame);
         let outcome = self.0.step(&frame, area);
+        let outcome = self.mend(&frame, was, outcome, area);
         for look_up in self.0.waiting.iter_mut().filter(|look_up| plain.contains(&look_up.party)) {
             look_up.kind.if_exists = true;
         }
@@ -194,6 +243,11 @@ impl<const FAULT: u8> Subject for Wrong<FAULT> {
         let counted = |transaction| FAULT != WAITING_INSIDE_NOT_COUNTED || transaction == NONE;
         Some(self.0.waiting.iter().filter(|look_up| counted(look_up.transaction)).count())
     }
+}
+
+/// The party and the entry number of a renewal's frame.
+fn named(frame: &[u8]) -> Option<(u8, u32)> {
+    (frame.len() == 12 && frame[0] == 11).then(|| (frame[1], word(frame, 4)))
 }
 
 /// The first discrepancy, of those that a text alone shows or of the others.
@@ -271,6 +325,18 @@ fn wrong_blanks_are_shown() {
     shows::<FOUND_WITHOUT_BLANKS>();
     shows::<FILLED_BLANK_WRITTEN>();
     shows::<MASK_OF_LEASE_0_NOT_JUDGED>();
+}
+
+/// Document 02: "the entry then ends at clock + lease"; "Lease 0 removes it in this step"; "19 when another party wrote
+/// it, after 18; 20 when it is private or held, after 19".
+#[test]
+fn wrong_renewals_are_shown() {
+    shows::<RENEWED_FROM_THE_OLD_END>();
+    shows::<HELD_ENTRY_RENEWED>();
+    shows::<ANOTHERS_ENTRY_RENEWED>();
+    shows::<LEASE_0_LEFT_TO_THE_NEXT_TICK>();
+    shows::<WRITER_LOST_AT_COMMIT>();
+    shows::<TOO_LATE_JUDGED_FIRST>();
 }
 
 /// The lines of an answer are the program's, which say nothing of byte 3: it stands behind them.

@@ -1,10 +1,11 @@
 //! Document 02, T-08: "The plain set keeps blanks with its fields." A found needs both, and both are left at the end.
+//! T-05: "In the serial run a renewal changes the entry's end at its place."
 
-use harness::frames::{create_frame, ending_frame, long_frame};
+use harness::frames::{create_frame, ending_frame, long_frame, renew_frame, tick_frame};
 use reference::answer::{Kind, Record, RECORD, STEP};
 use reference::frame::{FOREVER, NONE};
 use reference::serial::{committed, SerialRun};
-use reference::space::Space;
+use reference::space::{End, Space};
 
 /// A mark without a place is committed and read, with its fields and its blanks but for what is done to the record and
 /// to the space.
@@ -46,5 +47,49 @@ fn other_blanks_are_not_what_is_left() {
     for blanks in (0..16).filter(|&blanks| blanks != 8) {
         let why = run(|_| {}, |space| space.entries[0].mark.blanks = blanks).unwrap_err();
         assert!(why.starts_with("left: "), "{why}");
+    }
+}
+
+/// An entry of lease 3, a tick, a renewal with this lease, so many ticks; each record but for what is done to it.
+fn renew(lease: u32, ticks: usize, record: impl Fn(&mut Record)) -> (Space, Result<(), String>) {
+    let mut frames = vec![long_frame(1, 1, 0, NONE, 3, [7, 0, 0, 0]), tick_frame(), renew_frame(1, 1, lease)];
+    frames.extend((0..ticks).map(|_| tick_frame()));
+    let (mut space, mut run, mut area) = (Space::new(), SerialRun::new(0), [0; STEP]);
+    for frame in &frames {
+        space.step(frame, &mut area);
+        let mut answer = Record::read(&area[..RECORD]);
+        record(&mut answer);
+        run.feed(frame, std::iter::once(answer));
+    }
+    let checked = run.check(&committed(&space));
+    (space, checked)
+}
+
+#[test]
+fn a_renewal_changes_the_end() {
+    for (lease, end) in [(1, End::At(2)), (2, End::At(3)), (9, End::At(10)), (FOREVER, End::Never)] {
+        let (space, checked) = renew(lease, 0, |_| {});
+        assert_eq!((space.entries[0].end, checked), (end, Ok(())), "lease {lease}");
+    }
+    for (lease, ticks, left) in [(0, 0, 0), (0, 1, 0), (1, 1, 0), (9, 8, 1), (9, 9, 0), (FOREVER, 20, 1)] {
+        let (space, checked) = renew(lease, ticks, |_| {});
+        assert_eq!((space.entries.len(), checked), (left, Ok(())), "lease {lease}, {ticks} ticks");
+    }
+}
+
+/// The end that it had is another, unless the renewal gives the same.
+#[test]
+fn a_renewal_left_out_is_told() {
+    for (lease, told) in [(0, true), (1, true), (2, false), (9, true), (FOREVER, true)] {
+        let written = |record: &mut Record| record.kind = if record.is(Kind::Renewed) { 0 } else { record.kind };
+        assert_eq!(renew(lease, 0, written).1.is_err(), told, "lease {lease}");
+    }
+}
+
+#[test]
+fn a_renewal_needs_its_entry() {
+    for other in [0, 2, FOREVER] {
+        let why = renew(9, 0, |record| record.entry = if record.is(Kind::Renewed) { other } else { record.entry }).1;
+        assert_eq!(why, Err(format!("entry {other} is renewed and missing")));
     }
 }

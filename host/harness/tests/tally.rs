@@ -81,7 +81,7 @@ fn try_record(sums: &Sums, step: &Step, place: usize) -> Option<u8> {
 #[test]
 fn lost_and_invented_answers_are_told() {
     let mut told: Vec<u8> = Vec::new();
-    for steps in (0..60).map(steps) {
+    for steps in (0..150).map(steps) {
         let mut sums = Sums::default();
         for step in &steps {
             let closing = |place: &usize| CLOSING.iter().any(|&kind| step.records()[*place].is(kind));

@@ -17,6 +17,7 @@ pub enum Kind {
     Aborted = 7,
     Exception = 8,
     Ticked = 9,
+    Renewed = 12,
     Refused = 15,
 }
 

@@ -28,7 +28,7 @@ fn bit(mask: u8, field: usize) -> bool {
     mask >> field & 1 == 1
 }
 
-/// Document 01's table of refusals.
+/// Document 01's table of refusals, with those of document 02.
 #[derive(Clone, Copy, PartialEq, Eq, Debug)]
 pub enum Refusal {
     AreaTooSmall = 1,
@@ -47,6 +47,9 @@ pub enum Refusal {
     // 14 is never given out (document 02).
     TraySize = 15,
     TrayPair = 16,
+    NoEntry = 18,
+    AnothersEntry = 19,
+    EntryHeld = 20,
 }
 
 #[derive(Clone, Copy, PartialEq, Eq, Debug)]
@@ -84,6 +87,7 @@ pub enum Request {
     Commit { party: u8, transaction: u32 },
     Abort { party: u8, transaction: u32 },
     Tick,
+    Renew { party: u8, entry: u32, lease: u32 },
 }
 
 pub const LOOK_UPS: std::ops::RangeInclusive<u8> = 2..=5;
@@ -92,11 +96,11 @@ pub fn look_up_kind(operation: u8) -> LookUpKind {
     LookUpKind { takes: operation == 3 || operation == 5, if_exists: operation >= 4 }
 }
 
-/// The length of a frame of this operation; none if the operation is not 1-9.
+/// The length of a frame of this operation; none if the operation is not 1-9 or 11.
 fn length_of(operation: u8) -> Option<usize> {
     match operation {
         1..=5 => Some(28),
-        6 => Some(12),
+        6 | 11 => Some(12),
         7 | 8 => Some(8),
         9 => Some(4),
         _ => None,
@@ -130,7 +134,7 @@ pub fn decode(frame: &[u8]) -> Result<Request, Refusal> {
     }
 
     let (party, mask) = (frame[1], frame[2]);
-    let transaction = if length >= 8 { word(frame, 4) } else { NONE };
+    let transaction = if length >= 8 { word(frame, 4) } else { NONE }; // a renewal's entry number
     let duration = if length >= 12 { word(frame, 8) } else { 0 };
     let fields = if length == 28 { fields_of(frame) } else { [0; 4] };
 
@@ -159,6 +163,7 @@ pub fn decode(frame: &[u8]) -> Result<Request, Refusal> {
         6 => Request::Create { party, lease: duration },
         7 => Request::Commit { party, transaction },
         8 => Request::Abort { party, transaction },
-        _ => Request::Tick,
+        9 => Request::Tick,
+        _ => Request::Renew { party, entry: transaction, lease: duration },
     })
 }

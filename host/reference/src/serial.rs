@@ -69,6 +69,8 @@ impl SerialRun {
             self.lists.remove(&record.transaction);
         } else if record.is(Kind::Ticked) {
             self.clock += 1;
+        } else if record.is(Kind::Renewed) {
+            self.renew(record.entry, End::after(self.clock, word(frame, 8)));
         }
     }
 
@@ -97,6 +99,15 @@ impl SerialRun {
                     }
                 }
             }
+        }
+    }
+
+    /// Document 02: "In the serial run a renewal changes the entry's end at its place." With lease 0 that is the run's
+    /// clock, and the entry is dropped at the end.
+    fn renew(&mut self, number: u32, end: End) {
+        match self.set.get_mut(&number) {
+            Some(member) => member.1 = end,
+            None => self.fail(format!("entry {number} is renewed and missing")),
         }
     }
 

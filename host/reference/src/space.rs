@@ -34,6 +34,8 @@ impl End {
 #[derive(Clone, PartialEq, Eq, Debug)]
 pub struct Entry {
     pub number: u32,
+    /// The party that wrote it.
+    pub writer: u8,
     pub mark: Mark,
     pub end: End,
     /// The transaction it is private to, or NONE for a committed entry.
@@ -63,6 +65,11 @@ pub struct LookUp {
 impl Entry {
     fn read_by_other(&self, transaction: u32) -> bool {
         self.read_by.iter().any(|&reader| reader != transaction)
+    }
+
+    /// "private or held", by whichever transaction.
+    fn in_use(&self) -> bool {
+        self.private_to != NONE || self.taken_by != NONE || !self.read_by.is_empty()
     }
 
     fn private_to_other(&self, transaction: u32) -> bool {
@@ -145,7 +152,7 @@ impl Space {
         Outcome { records: answers.records, number }
     }
 
-    /// Carries out the request, or gives the first of refusals 6 to 13 that applies and changes nothing.
+    /// Carries out the request, or gives the first of refusals 6 to 13 and 18 to 20 that applies and changes nothing.
     fn perform(&mut self, request: Request, answers: &mut Answers) -> Result<(), Refusal> {
         match request {
             Request::Write { party, transaction, lease, mark } => {
@@ -181,6 +188,10 @@ impl Space {
                 self.serve(answers);
             }
             Request::Tick => self.tick(answers)?,
+            Request::Renew { party, entry, lease } => {
+                self.check_party(party)?;
+                self.renew(party, entry, lease, answers)?;
+            }
         }
         Ok(())
     }
@@ -219,6 +230,19 @@ impl Space {
         }
     }
 
+    /// 18 to 20; the place of the entry with this number
+    fn check_entry(&self, party: u8, number: u32) -> Result<usize, Refusal> {
+        let place = self.entries.iter().position(|entry| entry.number == number).ok_or(Refusal::NoEntry)?;
+        let entry = &self.entries[place];
+        if entry.writer != party {
+            return Err(Refusal::AnothersEntry);
+        }
+        if entry.in_use() {
+            return Err(Refusal::EntryHeld);
+        }
+        Ok(place)
+    }
+
     /// 10, for a lease or a timeout
     fn check_duration(&self, duration: u32) -> Result<(), Refusal> {
         if duration != FOREVER && u64::from(self.clock) + u64::from(duration) > u64::from(LAST_CLOCK) {
@@ -246,12 +270,27 @@ impl Space {
         if lease != 0 {
             let end = End::after(self.clock, lease);
             let read_by = Vec::new();
-            self.entries.push(Entry { number, mark, end, private_to: transaction, taken_by: NONE, read_by });
+            let (writer, private_to, taken_by) = (party, transaction, NONE);
+            self.entries.push(Entry { number, writer, mark, end, private_to, taken_by, read_by });
         }
         answers.put(Record { entry: number, ..Record::new(Kind::Written, party, transaction) });
         if transaction == NONE {
             self.serve(answers);
         }
+        Ok(())
+    }
+
+    /// Document 02: "the entry then ends at clock + lease, or never for FOREVER. Lease 0 removes it in this step."
+    /// Nothing becomes available by it, so no service follows.
+    fn renew(&mut self, party: u8, entry: u32, lease: u32, answers: &mut Answers) -> Result<(), Refusal> {
+        let place = self.check_entry(party, entry)?;
+        self.check_duration(lease)?;
+        if lease == 0 {
+            self.entries.remove(place);
+        } else {
+            self.entries[place].end = End::after(self.clock, lease);
+        }
+        answers.put(Record { entry, ..Record::new(Kind::Renewed, party, NONE) });
         Ok(())
     }
 

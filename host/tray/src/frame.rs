@@ -4,7 +4,8 @@ use crate::bytes::word;
 use crate::words::{End, Fields, Template, Values, FOREVER};
 
 /// Document 01's frame layout, in bytes.
-const AT_TRANSACTION: usize = 4;
+/// Of a transaction, or of the entry that is renewed.
+const AT_NUMBER: usize = 4;
 const AT_DURATION: usize = 8;
 const AT_FIELDS: usize = 12;
 const LONGEST: usize = 28;
@@ -30,6 +31,8 @@ pub enum Part {
     Inside,
     /// A transaction's number.
     Transaction,
+    /// An entry's number.
+    Entry,
 }
 
 /// How an operation is drawn and worded.
@@ -41,6 +44,7 @@ pub enum Class {
     Commit,
     Abort,
     Tick,
+    Renew,
 }
 
 /// A new operation is a row.
@@ -64,7 +68,7 @@ const fn look_up(takes: bool, if_exists: bool) -> Class {
 const LOOKS: &[Part] = &[Part::Template, Part::Timeout, Part::Inside];
 const ENDS: &[Part] = &[Part::Transaction];
 
-pub static OPERATIONS: [Operation; 9] = [
+pub static OPERATIONS: [Operation; 10] = [
     row(1, "write", 28, Class::Write, &[Part::Fields, Part::Lease, Part::Inside]),
     row(2, "read", 28, look_up(false, false), LOOKS),
     row(3, "take", 28, look_up(true, false), LOOKS),
@@ -74,6 +78,8 @@ pub static OPERATIONS: [Operation; 9] = [
     row(7, "commit", 8, Class::Commit, ENDS),
     row(8, "abort", 8, Class::Abort, ENDS),
     row(9, "tick", 4, Class::Tick, &[]),
+    // 10 is no operation.
+    row(11, "renew", 12, Class::Renew, &[Part::Entry, Part::Lease]),
 ];
 
 pub fn operation_of(number: u8) -> Option<&'static Operation> {
@@ -92,6 +98,8 @@ pub struct Request {
     /// Of a template, or the blanks of a write.
     pub mask: u8,
     pub transaction: u32,
+    /// The entry that is renewed.
+    pub entry: u32,
     /// Lease or timeout.
     pub duration: u32,
     pub fields: Fields,
@@ -99,13 +107,14 @@ pub struct Request {
 
 impl Request {
     pub fn new(operation: &'static Operation, party: u8) -> Request {
-        Request { operation, party, mask: 0, transaction: 0, duration: 0, fields: [0; 4] }
+        Request { operation, party, mask: 0, transaction: 0, entry: 0, duration: 0, fields: [0; 4] }
     }
 
     pub fn frame(&self) -> Vec<u8> {
         let mut frame = vec![0; LONGEST];
         frame[..3].copy_from_slice(&[self.operation.number, self.party, self.mask]);
-        frame[AT_TRANSACTION..AT_DURATION].copy_from_slice(&self.transaction.to_le_bytes());
+        let number = if self.renews() { self.entry } else { self.transaction };
+        frame[AT_NUMBER..AT_DURATION].copy_from_slice(&number.to_le_bytes());
         frame[AT_DURATION..AT_FIELDS].copy_from_slice(&self.duration.to_le_bytes());
         for (bytes, field) in frame[AT_FIELDS..].chunks_exact_mut(4).zip(self.fields) {
             bytes.copy_from_slice(&field.to_le_bytes());
@@ -121,11 +130,16 @@ impl Request {
             return None;
         }
         let word = |at| word(frame, at).unwrap_or_default();
+        let (entry, transaction) = match operation.class {
+            Class::Renew => (word(AT_NUMBER), 0),
+            _ => (0, word(AT_NUMBER)),
+        };
         let request = Request {
             operation,
             party: frame[1],
             mask: frame[2],
-            transaction: word(AT_TRANSACTION),
+            transaction,
+            entry,
             duration: word(AT_DURATION),
             fields: std::array::from_fn(|i| word(AT_FIELDS + 4 * i)),
         };
@@ -145,6 +159,10 @@ impl Request {
         matches!(self.operation.class, Class::LookUp { .. })
     }
 
+    pub fn renews(&self) -> bool {
+        self.operation.class == Class::Renew
+    }
+
     fn part(&self, part: Part) -> String {
         match part {
             Part::Fields => format!(" {}", plain_fields(&self.values())),
@@ -154,6 +172,7 @@ impl Request {
             Part::Inside if self.transaction == 0 => String::new(),
             Part::Inside => format!(" in {}", self.transaction),
             Part::Transaction => format!(" {}", self.transaction),
+            Part::Entry => format!(" {}", self.entry),
         }
     }
 

@@ -153,15 +153,17 @@ impl<'a> Line<'a> {
         Ok(operation)
     }
 
-    fn transaction(&mut self, request: &mut Request) -> Result<Option<String>, Fault> {
-        if let Some(number) = self.number_if_any() {
-            request.transaction = number;
+    /// A number, or a name, which is handed out.
+    fn number_or_name(&mut self, what: &str, number: &mut u32) -> Result<Option<String>, Fault> {
+        if let Some(given) = self.number_if_any() {
+            *number = given;
             return Ok(None);
         }
-        Ok(Some(self.word("a transaction")?.to_string()))
+        Ok(Some(self.word(what)?.to_string()))
     }
 
-    /// An operation and its parts; a transaction may be given by a name, which is then handed out.
+    /// An operation and its parts; a transaction or the entry that is renewed may be given by a name, which is then
+    /// handed out.
     pub fn request(&mut self, party: u8) -> Result<(Request, Option<String>), Fault> {
         let mut request = Request::new(self.operation()?, party);
         let mut named = None;
@@ -184,7 +186,10 @@ impl<'a> Line<'a> {
                     request.duration = self.duration("a timeout")?;
                 }
                 Part::Inside if !self.passes("in") => {}
-                Part::Inside | Part::Transaction => named = self.transaction(&mut request)?,
+                Part::Inside | Part::Transaction => {
+                    named = self.number_or_name("a transaction", &mut request.transaction)?;
+                }
+                Part::Entry => named = self.number_or_name("an entry", &mut request.entry)?,
             }
         }
         Ok((request, named))

@@ -30,13 +30,13 @@ pub type Reactions = [Option<Action>; EVENTS.len()];
 #[derive(Clone, Debug)]
 pub struct Sent {
     pub label: Option<String>,
-    /// With the transaction's number left out, if it is given by a name.
+    /// With the number of its transaction, or of the entry that it renews, left out if that is given by a name.
     pub frame: Vec<u8>,
     /// What it asks for; none of bytes that no request gives.
     pub request: Option<Request>,
-    /// The name of the transaction it is inside, or ends: its place in the pane's names.
+    /// The name of the transaction it is inside, or ends, or of the entry that it renews: its place in the pane's names.
     pub inside: Option<usize>,
-    /// The name that a created transaction gets.
+    /// The name that a created transaction gets, or an entry that is written or found.
     pub names: Option<usize>,
     pub reactions: Reactions,
     /// What it does after any other answer: `then ..`.
@@ -44,6 +44,17 @@ pub struct Sent {
     /// As written, without label and reactions.
     pub text: String,
     pub line: usize,
+}
+
+impl Sent {
+    fn is(&self, test: impl Fn(&Request) -> bool) -> bool {
+        self.request.as_ref().is_some_and(test)
+    }
+}
+
+/// Whether an answer to it brings a number that can be named: of a new transaction, or of an entry.
+fn brings_number(request: &Request) -> bool {
+    matches!(request.operation.class, Class::Create | Class::Write | Class::LookUp { .. })
 }
 
 #[derive(Clone, Debug)]
@@ -60,6 +71,20 @@ pub struct Pane {
 impl Pane {
     pub fn line_labelled(&self, label: &str) -> Option<usize> {
         self.sent.iter().position(|sent| sent.label.as_deref() == Some(label))
+    }
+
+    /// Whether a name that a line uses is given, and for what the line wants it for.
+    fn has_given(&self, sent: &Sent) -> Result<(), Fault> {
+        let Some(place) = sent.inside else { return Ok(()) };
+        let renews = sent.is(Request::renews);
+        let creates = |other: &Sent| other.is(|request| request.operation.class == Class::Create);
+        let mut givers = self.sent.iter().filter(|other| other.names == Some(place)).peekable();
+        if givers.peek().is_some() && givers.all(|giver| creates(giver) != renews) {
+            return Ok(());
+        }
+        let gives = if renews { "`write .. as` or a look-up's `as`" } else { "`create .. as`" };
+        let why = format!("expected a name that a {gives} gives, found `{}`", self.names[place]);
+        Err(Fault::new(sent.line, why))
     }
 
     pub fn reaction(&self, sent: &Sent, kind: u8) -> Action {
@@ -119,7 +144,7 @@ fn place_of(names: &mut Vec<String>, name: &str) -> usize {
     })
 }
 
-/// A pane's frame, with the name of its transaction if that is given by one.
+/// A pane's frame, with the name of its transaction, or of the entry that it renews, if that is given by one.
 fn sent_frame(line: &mut Line, party: u8) -> Result<(Vec<u8>, Option<String>), Fault> {
     if line.peek() != Some("bytes") {
         let (request, inside) = line.request(party)?;
@@ -187,8 +212,8 @@ impl Parser {
         let begin = line.rest();
         let (frame, inside) = sent_frame(line, self.script.panes[place].party)?;
         let request = Request::of(&frame);
-        let creates = request.is_some_and(|request| request.operation.class == Class::Create);
-        let named = if creates && line.passes("as") { Some(name(line, "a name for it")?) } else { None };
+        let brings = request.as_ref().is_some_and(brings_number);
+        let named = if brings && line.passes("as") { Some(name(line, "a name for it")?) } else { None };
         let text = begin.strip_suffix(&line.rest()).unwrap_or(&begin).trim().to_string();
         let at = self.script.panes[place].sent.len();
         let mut reactions: Reactions = [None; EVENTS.len()];
@@ -222,14 +247,7 @@ impl Parser {
                 (None, None) => {}
             }
         }
-        for sent in &pane.sent {
-            let given = |place: usize| pane.sent.iter().any(|other| other.names == Some(place));
-            if let Some(place) = sent.inside.filter(|&place| !given(place)) {
-                let why = format!("expected a name that a `create .. as` gives, found `{}`", pane.names[place]);
-                return Err(Fault::new(sent.line, why));
-            }
-        }
-        Ok(())
+        pane.sent.iter().try_for_each(|sent| pane.has_given(sent))
     }
 
     fn expect(&mut self, line: &mut Line) -> Result<(), Fault> {

@@ -2,8 +2,8 @@
 
 use crate::frame::{duration_text, end_text, named_fields, operation_of, plain_fields, template_text};
 use crate::history::History;
-use crate::oracle::{Matcher, Sought, Standing};
-use crate::record::{kind_of, refusal_meaning, Record, Tells, ABORTED, NOTHING, WAITING};
+use crate::oracle::{standing, Matcher, Sought, Standing};
+use crate::record::{kind_of, refusal_meaning, Record, Tells, ABORTED, NOTHING, REFUSED, RENEWED, WAITING};
 use crate::words::{End, Entry, LookUp, Tables, Transaction};
 
 fn inside(record: &Record) -> String {
@@ -45,8 +45,8 @@ pub fn record_words(record: &Record, clock: u32) -> String {
     }
 }
 
-/// A record of a frame in words, with what the tables tell besides: whether an abort withdraws a look-up, and why a
-/// wait ends with nothing.
+/// A record of a frame in words, with what the tables tell besides: whether an abort withdraws a look-up, why a wait ends
+/// with nothing, when a renewed entry ends, and why one cannot be renewed.
 pub fn told(history: &History, place: usize, record: &Record) -> String {
     let (before, clock) = (history.before(place), history.steps[place].after.clock);
     let words = record_words(record, clock);
@@ -55,7 +55,28 @@ pub fn told(history: &History, place: usize, record: &Record) -> String {
         Some(End::At(deadline)) if deadline <= clock => words + "; its deadline is reached",
         Some(_) => words + "; no conflicting entry is left",
         None if withdraws(record, before) => words + "; its look-up is withdrawn",
-        None => words,
+        None => words + &renewal_words(history, place, record),
+    }
+}
+
+/// How a transaction's holds, or that it is private, bar an entry's renewal.
+pub fn bars_renewal(entry: &Entry) -> Standing {
+    standing(entry, 0, true)
+}
+
+/// What the tables tell of a renewal: "; it ends at clock 9", "; party 1 wrote it", "; read by transaction 1 of party 2".
+fn renewal_words(history: &History, place: usize, record: &Record) -> String {
+    let (before, after) = (history.before(place), &history.steps[place].after);
+    let named = history.steps[place].request().filter(|request| request.renews());
+    let stood = named.and_then(|request| before.entry(request.entry));
+    match (record.kind, record.refusal, stood) {
+        (RENEWED, ..) => match after.entry(record.entry) {
+            Some(entry) => format!("; it {}", ends(entry.end)),
+            None => "; it is removed".to_string(),
+        },
+        (REFUSED, 19, Some(entry)) => format!("; party {} wrote it", entry.writer),
+        (REFUSED, 20, Some(entry)) => format!("; {}", standing_words(&bars_renewal(entry), before)),
+        _ => String::new(),
     }
 }
 
@@ -101,8 +122,9 @@ pub fn holds_words(entry: &Entry, tables: &Tables) -> String {
 }
 
 pub fn entry_words(entry: &Entry, tables: &Tables) -> String {
-    let Entry { number, end, .. } = entry;
-    format!("entry {number}: {}, {}, {}", plain_fields(&entry.values()), holds_words(entry, tables), ends(*end))
+    let Entry { number, writer, end, .. } = entry;
+    let (fields, holds) = (plain_fields(&entry.values()), holds_words(entry, tables));
+    format!("entry {number} of party {writer}: {fields}, {holds}, {}", ends(*end))
 }
 
 pub fn transaction_words(transaction: &Transaction) -> String {

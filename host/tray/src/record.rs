@@ -16,6 +16,7 @@ pub const COMMITTED: u8 = 6;
 pub const ABORTED: u8 = 7;
 pub const EXCEPTION: u8 = 8;
 pub const TICKED: u8 = 9;
+pub const RENEWED: u8 = 12;
 pub const REFUSED: u8 = 15;
 
 /// What a record's words tell besides its name.
@@ -41,7 +42,7 @@ const fn kind(number: u8, name: &'static str, tells: Tells) -> Kind {
     Kind { number, name, tells }
 }
 
-pub const KINDS: [Kind; 10] = [
+pub const KINDS: [Kind; 11] = [
     kind(WRITTEN, "written", Tells::Entry),
     kind(FOUND, "found", Tells::EntryAndFields),
     kind(NOTHING, "nothing", Tells::Inside),
@@ -51,6 +52,7 @@ pub const KINDS: [Kind; 10] = [
     kind(ABORTED, "aborted", Tells::Transaction),
     kind(EXCEPTION, "exception", Tells::Expired),
     kind(TICKED, "ticked", Tells::Clock),
+    kind(RENEWED, "renewed", Tells::Entry),
     kind(REFUSED, "refused", Tells::Refusal),
 ];
 
@@ -62,7 +64,8 @@ pub fn kind_named(name: &str) -> Option<&'static Kind> {
     KINDS.iter().find(|kind| kind.name == name)
 }
 
-/// A refusal: its number, a label for it (`T` stands for the transaction named), and document 01's words in short.
+/// A refusal: its number, a label for it (`T` and `E` stand for the transaction or entry named), and the documents' words
+/// in short.
 struct Refusal {
     number: u8,
     label: &'static str,
@@ -73,9 +76,9 @@ const fn refusal(number: u8, label: &'static str, meaning: &'static str) -> Refu
     Refusal { number, label, meaning }
 }
 
-const REFUSALS: [Refusal; 15] = [
+const REFUSALS: [Refusal; 18] = [
     refusal(1, "area too small", "the answers area has under 700 bytes"),
-    refusal(2, "no such operation", "the frame is empty or its operation is not 1-9"),
+    refusal(2, "no such operation", "the frame is empty or its operation is not 1-9 or 11"),
     refusal(3, "wrong length", "the frame's length is not the operation's"),
     refusal(
         4,
@@ -103,6 +106,9 @@ const REFUSALS: [Refusal; 15] = [
         "bad pair",
         "a pair begins before the pairs' end or before the previous pair's end, or runs past the tray",
     ),
+    refusal(18, "E is not stored", "no stored entry has that number"),
+    refusal(19, "E is another's", "another party wrote the entry"),
+    refusal(20, "E is private or held", "the entry is private or held"),
 ];
 
 fn refusal_of(number: u8) -> Option<&'static Refusal> {
@@ -113,12 +119,13 @@ pub fn refusal_meaning(number: u8) -> Option<&'static str> {
     refusal_of(number).map(|refusal| refusal.meaning)
 }
 
-/// "T3 is not live"
-pub fn refusal_label(number: u8, transaction: u32) -> String {
+/// "T3 is not live", "E2 is not stored": with the transaction or the entry that the frame names.
+pub fn refusal_label(number: u8, transaction: u32, entry: u32) -> String {
     let label = refusal_of(number).map_or("", |refusal| refusal.label);
-    match label.strip_prefix("T ") {
-        Some(rest) => format!("T{transaction} {rest}"),
-        None => label.to_string(),
+    match label.split_once(' ') {
+        Some(("T", rest)) => format!("T{transaction} {rest}"),
+        Some(("E", rest)) => format!("E{entry} {rest}"),
+        _ => label.to_string(),
     }
 }
 

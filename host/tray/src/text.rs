@@ -8,6 +8,7 @@
 //! party P take kind K side S image I place L timeout D  (any of the four fields)
 //! party P create lease D
 //! party P commit T                                      also: abort
+//! party P renew N lease D                               N is an entry's number
 //! tick
 //! bytes 01 02 ff                                        a frame given byte by byte
 //! expect found 1                                        what the frame above is answered
@@ -134,7 +135,8 @@ pub fn frame_line(line: &mut Line) -> Result<Option<Vec<u8>>, Fault> {
             let party = line.number("a party's number, 1 to 16")?;
             let (request, named) = line.request(party)?;
             if let Some(name) = named {
-                return Err(Fault::new(line.number, format!("expected a transaction's number, found `{name}`")));
+                let what = if request.renews() { "an entry's" } else { "a transaction's" };
+                return Err(Fault::new(line.number, format!("expected {what} number, found `{name}`")));
             }
             request.frame()
         }

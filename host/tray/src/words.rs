@@ -19,11 +19,12 @@ pub const ENTRY_FIELDS: usize = 1;
 pub const ENTRY_END: usize = 5;
 pub const ENTRY_PRIVATE_TO: usize = 6;
 pub const ENTRY_TAKEN_BY: usize = 7;
-/// Readers + BLANKS_UNIT * blanks.
+/// Readers + BLANKS_UNIT * blanks + WRITER_UNIT * writer.
 pub const ENTRY_READERS: usize = 8;
 pub const ENTRY_WORDS: usize = 9;
 /// In the word at ENTRY_READERS.
 pub const BLANKS_UNIT: u32 = 256;
+pub const WRITER_UNIT: u32 = 65536;
 
 // Live transactions, by number.
 pub const MAX_TRANSACTIONS: usize = 8;
@@ -110,6 +111,14 @@ impl End {
             clock => End::At(clock),
         }
     }
+
+    /// Of a lease that is given at this clock.
+    pub fn of_lease(clock: u32, lease: u32) -> End {
+        match End::of(lease) {
+            End::At(ticks) => End::At(clock.saturating_add(ticks)),
+            End::Never => End::Never,
+        }
+    }
 }
 
 #[derive(Clone, Copy, PartialEq, Eq, Hash, Debug)]
@@ -124,6 +133,8 @@ pub struct Entry {
     pub fields: Fields,
     /// As in `Values`.
     pub blanks: u8,
+    /// The party that wrote it.
+    pub writer: u8,
     pub end: End,
     /// The transaction, or 0: committed.
     pub private_to: u32,
@@ -175,6 +186,11 @@ pub fn entry_values(row: &[u32]) -> Values {
     Values { fields: fields(row, ENTRY_FIELDS), blanks: (row[ENTRY_READERS] / BLANKS_UNIT) as u8 }
 }
 
+/// The party that wrote the entry in a row.
+pub fn entry_writer(row: &[u32]) -> u8 {
+    (row[ENTRY_READERS] / WRITER_UNIT) as u8
+}
+
 fn entry(row: &[u32], slots: &[(u32, u32)]) -> Entry {
     let read_by = slots.iter().filter(|(_, slot)| entry_readers(row) >> slot & 1 == 1);
     let Values { fields, blanks } = entry_values(row);
@@ -182,6 +198,7 @@ fn entry(row: &[u32], slots: &[(u32, u32)]) -> Entry {
         number: row[ENTRY_NUMBER],
         fields,
         blanks,
+        writer: entry_writer(row),
         end: End::of(row[ENTRY_END]),
         private_to: row[ENTRY_PRIVATE_TO],
         taken_by: row[ENTRY_TAKEN_BY],

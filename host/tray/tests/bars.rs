@@ -7,8 +7,8 @@ use std::collections::{BTreeMap, BTreeSet};
 use tray::draw::lives::slots;
 use tray::draw::metrics::width;
 use tray::frame::{operation_of, Class};
-use tray::history::{History, Step};
-use tray::record::{COMMITTED, EXCEPTION, FOUND, TICKED, WRITTEN};
+use tray::history::History;
+use tray::record::{COMMITTED, EXCEPTION, FOUND, RENEWED, TICKED, WRITTEN};
 use tray::words::{End, Tables, FOREVER};
 
 const ROOMS: [f64; 4] = [ONE_ROW, 1548.0, 852.0, 320.0];
@@ -211,9 +211,10 @@ fn leases_left_over() {
     for history in histories() {
         let drawn = svg(&history, ONE_ROW);
         let columns = columns(&drawn);
+        // From its write, or from the last renewal.
         let lease = |number: u32| {
-            let wrote = |step: &&Step| step.records[0].kind == WRITTEN && step.records[0].entry == number;
-            let step = history.steps.iter().find(wrote)?;
+            let mut given = history.steps.iter().rev().filter(|step| matches!(step.records[0].kind, WRITTEN | RENEWED));
+            let step = given.find(|step| step.records[0].entry == number)?;
             let lease = step.request().map_or(FOREVER, |request| request.duration);
             Some(if lease == FOREVER { End::Never } else { End::At(step.after.clock + lease) })
         };

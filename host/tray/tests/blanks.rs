@@ -181,8 +181,8 @@ fn blanks_in_words() {
         "1  clock 0   party 1 write 7 1 40 blank lease 5",
         "party 2: found entry 1, kind 7, side 1, image 40, place blank",
         "party 2: found entry 1, kind 7, side 1, image 40, place blank, in transaction 1",
-        "| entry 1: 7 1 40 blank, committed, ends at clock 5",
-        "| entry 1: 7 1 40 blank, committed, taken by transaction 1 of party 2, ends at clock 5",
+        "| entry 1 of party 1: 7 1 40 blank, committed, ends at clock 5",
+        "| entry 1 of party 1: 7 1 40 blank, committed, taken by transaction 1 of party 2, ends at clock 5",
         "|   entry 1 (7 1 40 blank): taken by transaction 1 of party 2",
         "|   no stored entry matches",
     ] {
@@ -193,7 +193,12 @@ fn blanks_in_words() {
     let (raw, zero) = (tray(&["run", "--raw", "-"], PLACELESS), PLACELESS.replace("blank", "0"));
     assert_eq!(raw.out, tray(&["run", "--raw", "-"], &zero).out);
     let typed = tray(&["try"], &format!("{PLACELESS}\nparty 2 take any timeout 0\nundo\nstate\n"));
-    assert_eq!(typed.out.matches("entry 1: 7 1 40 blank, committed, ends at clock 5").count(), 3, "{}", typed.out);
+    assert_eq!(
+        typed.out.matches("entry 1 of party 1: 7 1 40 blank, committed, ends at clock 5").count(),
+        3,
+        "{}",
+        typed.out
+    );
 }
 
 /// The word above the write, or where it would be too long a sign, as always in the bar's name; in full where one points,
@@ -213,7 +218,7 @@ fn blanks_in_drawings() {
     assert!(drawn.contains("kind blank, side blank, image blank, place blank; lease to clock 5"));
     assert!(drawn.contains("found entry 1, kind 7, side 1, image 40, place blank"));
     let page = page::page(&history, "blanks");
-    assert!(page.contains("</b> 7 1 40 blank, committed, lease to clock 5</li>"), "{page}");
+    assert!(page.contains("</b> of party 1, 7 1 40 blank, committed, lease to clock 5</li>"), "{page}");
     assert!(page.contains("party 2: found entry 1, kind 7, side 1, image 40, place blank"));
     assert!(page.contains("<tspan dx=\"6\">7 1 40 _</tspan></text></svg><span>"), "the legend has the sign");
 }

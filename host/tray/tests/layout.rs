@@ -39,7 +39,7 @@ fn the_header_says_the_same() {
     same!(header, ENTRIES_AT ENTRY_NUMBER ENTRY_FIELDS ENTRY_END ENTRY_PRIVATE_TO ENTRY_TAKEN_BY ENTRY_READERS);
     same!(header, ENTRY_WORDS TRANSACTIONS_AT TRANSACTION_NUMBER TRANSACTION_OWNER TRANSACTION_END TRANSACTION_SLOT);
     same!(header, TRANSACTION_WORDS WAITING_AT WAITING_PARTY WAITING_OPERATION WAITING_MASK WAITING_FIELDS);
-    same!(header, WAITING_TRANSACTION WAITING_DEADLINE WAITING_WORDS BLANKS_UNIT);
+    same!(header, WAITING_TRANSACTION WAITING_DEADLINE WAITING_WORDS BLANKS_UNIT WRITER_UNIT);
     assert_eq!(header["RECORD_BYTES"], tray::record::RECORD_BYTES);
     assert_eq!(header["STEP_BYTES"], tray::record::STEP_BYTES);
 }
@@ -68,9 +68,9 @@ fn every_word_of_a_row() {
     assert_eq!(rows[2], (3, [9, 0, 0, 0], End::At(2), 2, 0));
     assert_eq!(rows[3], (4, [8, 0, 42, 0], End::Never, 0, 0));
     assert_eq!(state.entries[0].read_by, [1, 2]);
-    // Blanks and read holds share a word.
-    let shared: Vec<_> = state.entries.iter().map(|e| (e.blanks, e.read_by.len())).collect();
-    assert_eq!(shared, [(0, 2), (0, 0), (0, 0), (0b1010, 1)]);
+    // Read holds, blanks and the writer share a word.
+    let shared: Vec<_> = state.entries.iter().map(|e| (e.blanks, e.read_by.len(), e.writer)).collect();
+    assert_eq!(shared, [(0, 2, 1), (0, 0, 4), (0, 0, 3), (0b1010, 1, 4)]);
     let live: Vec<_> = state.transactions.iter().map(|t| (t.number, t.owner, t.end)).collect();
     assert_eq!(live, [(1, 2, End::At(3)), (2, 3, End::Never)]);
     let waits: Vec<_> = state.look_ups.iter().map(|l| (l.party, l.operation, l.transaction, l.deadline)).collect();

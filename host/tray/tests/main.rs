@@ -6,6 +6,7 @@ mod common;
 mod draw;
 mod explore;
 mod layout;
+mod renewals;
 mod run;
 mod typed;
 mod waiting;

@@ -68,8 +68,8 @@ fn states_and_reasons() {
     let file = "../../examples/belief-4-six-panes.txt";
     let out = tray(&["run", "--state", file], "").out;
     for line in [
-        "| entry 1: 7 1 40 9, committed, taken by transaction 1 of party 2, ends at clock 3",
-        "| entry 2: 7 2 41 9, committed, read by transaction 2 of party 3, never ends",
+        "| entry 1 of party 1: 7 1 40 9, committed, taken by transaction 1 of party 2, ends at clock 3",
+        "| entry 2 of party 1: 7 2 41 9, committed, read by transaction 2 of party 3, never ends",
         "| transaction 2 of party 3: ends at clock 3",
         "| party 5 waits until clock 3: takeIfExists side 2",
         "|   entry 2 (7 2 41 9): read by transaction 2 of party 3",
@@ -257,7 +257,7 @@ fn shown_frames_assemble() {
         let length = [0, 1, 4, 8, 12, 28, random.below(30)][random.below(7) as usize];
         let mut frame: Vec<u8> = (0..length).map(|_| (random.below(5) * random.below(5)) as u8).collect();
         if let Some(operation) = frame.first_mut() {
-            *operation = random.below(11) as u8;
+            *operation = random.below(13) as u8;
         }
         let text = parse(&show(&frame)).unwrap();
         let tray = text.tray().unwrap();
@@ -273,8 +273,12 @@ fn operations_are_the_spaces() {
         let mut space = Space::default();
         let request = Request { transaction: 0, duration: 1, ..Request::new(operation, party) };
         let number = space.step(&request.frame());
-        let ends = matches!(operation.class, Class::Commit | Class::Abort);
-        assert_eq!(number, if ends { 7 } else { 0 }, "{}", operation.name);
+        let wanted = match operation.class {
+            Class::Commit | Class::Abort => 7,
+            Class::Renew => 18,
+            _ => 0,
+        };
+        assert_eq!(number, wanted, "{}", operation.name);
         let longer: Vec<u8> = request.frame().into_iter().chain([0]).collect();
         assert_eq!(space.clone().step(&longer), 3, "{}", operation.name);
     }

@@ -35,7 +35,7 @@ fn from_a_file() {
     assert_eq!(answer.status, 0);
     assert!(answer.out.starts_with("   3  clock 0   tick"), "{}", answer.out);
     assert!(answer.out.contains("clock 1\n| nothing stored"));
-    assert!(answer.out.contains("clock 0\n| entry 1: 7 1 40 9, committed, ends at clock 5"));
+    assert!(answer.out.contains("clock 0\n| entry 1 of party 1: 7 1 40 9, committed, ends at clock 5"));
     assert!(answer.err.contains("expected a frame to undo"));
     assert_eq!(tray(&["try", "no/such/file"], "").status, 1);
     let help = tray(&["try"], "help\nsave\ndraw a.png\nexpect found\nundo x\n");

@@ -1,6 +1,6 @@
 //! Answer records.
 
-use crate::frame::Fields;
+use crate::frame::{Fields, Renewal};
 
 pub const RECORD: usize = 28;
 pub const STEP: usize = 25 * RECORD;
@@ -14,6 +14,7 @@ pub const COMMITTED: u8 = 6;
 pub const ABORTED: u8 = 7;
 pub const EXCEPTION: u8 = 8;
 pub const TICKED: u8 = 9;
+const RENEWED: u8 = 12;
 const REFUSED: u8 = 15;
 
 /// The records of a step.
@@ -56,6 +57,10 @@ impl<'a> Answers<'a> {
     #[inline(always)]
     pub fn found(&mut self, party: u8, transaction: u32, entry: u32, blanks: u8, fields: Fields) {
         self.put([FOUND, party, 0, blanks], transaction, entry, fields);
+    }
+
+    pub fn renewed(&mut self, renewal: &Renewal) {
+        self.put([RENEWED, renewal.party, 0, 0], 0, renewal.entry, [0; 4]);
     }
 
     #[inline(always)]

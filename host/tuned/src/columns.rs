@@ -10,7 +10,7 @@
 
 use crate::answer::{Answers, ABORTED, COMMITTED, EXCEPTION, NOTHING, WAITING};
 use crate::common::{Common, NO_SLOT, SLOTS};
-use crate::frame::{asked, decode, Fields, Long, Request, FOREVER};
+use crate::frame::{asked, decode, decode_renewal, is_renewal, Fields, Long, Renewal, Request, FOREVER};
 use crate::tray;
 
 const ENTRIES: usize = 64;
@@ -81,6 +81,8 @@ pub struct Space {
     numbers: Column,
     ends: Column,
     blanks: [u8; ENTRIES],
+    /// The party that wrote it.
+    writers: [u8; ENTRIES],
 }
 
 impl crate::Space for Space {
@@ -107,12 +109,16 @@ impl crate::Space for Space {
             numbers: [0; ENTRIES],
             ends: [0; ENTRIES],
             blanks: [0; ENTRIES],
+            writers: [0; ENTRIES],
         }
     }
 
     #[inline]
     fn step(&mut self, frame: &[u8], answers: &mut [u8]) -> u64 {
         let Some(mut answers) = Answers::new(answers) else { return 65536 };
+        if is_renewal(frame) {
+            return self.renewal(frame, answers);
+        }
         match decode(frame).and_then(|request| self.perform(request, &mut answers)) {
             Ok(()) => {
                 if self.waiting & self.if_exists != 0 {
@@ -195,6 +201,7 @@ impl Space {
         self.numbers[row] = number;
         self.ends[row] = end;
         self.blanks[row] = long.mask;
+        self.writers[row] = long.party;
         self.blank = self.blank & !bit | u64::from(long.mask != 0) << row;
         for (column, field) in self.fields.iter_mut().zip(long.fields) {
             column[row] = field;
@@ -207,6 +214,49 @@ impl Space {
             self.serve(bit, answers);
         }
         Ok(())
+    }
+
+    /// A step by a renewal. Its own record is all of the answer: nobody is served, and a look-up that waits for a
+    /// conflicting entry keeps it, since what is renewed is private to nobody and not held.
+    #[cold]
+    #[inline(never)]
+    fn renewal(&mut self, frame: &[u8], mut answers: Answers) -> u64 {
+        match decode_renewal(frame).and_then(|renewal| self.renew(renewal)) {
+            Ok(renewal) => {
+                answers.renewed(&renewal);
+                1
+            }
+            Err(number) => {
+                answers.refused(frame, number);
+                1 + 65536 * u64::from(number)
+            }
+        }
+    }
+
+    /// Carries out the renewal, or gives the first of refusals 6, 18, 19, 20, 10 that applies and changes nothing. An
+    /// end that is put off leaves `next_end` as it is: then one tick too many is looked at.
+    fn renew(&mut self, renewal: Renewal) -> Result<Renewal, u8> {
+        let Renewal { party, entry: number, lease } = renewal;
+        self.check_party(party)?;
+        let bit = self.used & equal(&self.numbers, number, ENTRIES / BLOCK);
+        if bit == 0 {
+            return Err(18);
+        }
+        let row = bit.trailing_zeros() as usize & 63;
+        if self.writers[row] != party {
+            return Err(19);
+        }
+        if (self.private | self.taken | self.read_by_others(NONE)) & bit != 0 {
+            return Err(20);
+        }
+        let end = self.common.end_of(lease)?;
+        if lease == 0 {
+            self.used &= !bit;
+        } else {
+            self.ends[row] = end;
+            self.common.next_end = self.common.next_end.min(end);
+        }
+        Ok(renewal)
     }
 
     #[inline(always)]

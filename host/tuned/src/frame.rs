@@ -64,7 +64,7 @@ fn long(frame: &[u8; 28]) -> Result<Long, u8> {
     Ok(long)
 }
 
-/// A create's, commit's or abort's bytes 1 to 3; refusals 4 and 5.
+/// A create's, commit's, abort's or renewal's bytes 1 to 3; refusals 4 and 5.
 #[inline(always)]
 fn short<const N: usize>(frame: &[u8; N]) -> Result<u8, u8> {
     let names_one = frame[0] == 6 && word(frame, 4) != 0;
@@ -77,7 +77,25 @@ fn short<const N: usize>(frame: &[u8; N]) -> Result<u8, u8> {
     Ok(frame[1])
 }
 
-/// Refusals 2 to 5, in document 01's order.
+pub struct Renewal {
+    pub party: u8,
+    pub entry: u32,
+    pub lease: u32,
+}
+
+#[inline(always)]
+pub fn is_renewal(frame: &[u8]) -> bool {
+    frame.first() == Some(&11)
+}
+
+/// Of a frame that is one; refusals 3 to 5.
+pub fn decode_renewal(frame: &[u8]) -> Result<Renewal, u8> {
+    let frame = <&[u8; 12]>::try_from(frame).map_err(|_| 3)?;
+    Ok(Renewal { party: short(frame)?, entry: word(frame, 4), lease: word(frame, 8) })
+}
+
+/// Refusals 2 to 5, in document 01's order. A renewal, which is rare, gets 2 here and is decoded apart: so no other
+/// frame is slower for it.
 #[inline(always)]
 pub fn decode(frame: &[u8]) -> Result<Request, u8> {
     let Some(&operation) = frame.first() else { return Err(2) };

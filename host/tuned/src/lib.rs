@@ -3,7 +3,7 @@
 //!
 //! - `frame`: frames decoded, refusals 2 to 5
 //! - `answer`: answer records
-//! - `rows`, `columns`: spaces, who holds what, what each frame does, refusals 1 and 6 to 13
+//! - `rows`, `columns`: spaces, who holds what, what each frame does, refusals 1, 6 to 13 and 18 to 20
 //! - `common`: what both have
 //! - `tray`: trays, refusals 15 and 16
 //!

@@ -11,7 +11,7 @@
 
 use crate::answer::{Answers, ABORTED, COMMITTED, EXCEPTION, NOTHING, WAITING};
 use crate::common::{Common, NO_SLOT, SLOTS};
-use crate::frame::{asked, decode, Fields, Long, Request, FOREVER};
+use crate::frame::{asked, decode, decode_renewal, is_renewal, Fields, Long, Renewal, Request, FOREVER};
 use crate::tray;
 
 const ENTRIES: usize = 64;
@@ -29,6 +29,8 @@ struct Entry {
     /// Bit p: the transaction in slot p has a read hold.
     readers: u8,
     blanks: u8,
+    /// The party that wrote it; a word, so that a row is copied whole.
+    writer: u32,
 }
 
 #[derive(Clone, Copy, PartialEq)]
@@ -119,7 +121,8 @@ impl crate::Space for Space {
         let (takes, if_exists) = (false, false);
         let (slot, bit, mask) = (NO_SLOT, 0, 0);
         let wait = LookUp { asks, pairs, transaction: 0, deadline: 0, party: 0, takes, if_exists, slot, bit, mask };
-        let entry = Entry { pairs, number: 0, end: 0, private: NO_SLOT, taken: NO_SLOT, readers: 0, blanks: 0 };
+        let (private, taken) = (NO_SLOT, NO_SLOT);
+        let entry = Entry { pairs, number: 0, end: 0, private, taken, readers: 0, blanks: 0, writer: 0 };
         Space {
             common: Common::beginning(clock, next_entry, next_transaction),
             active: 0,
@@ -142,6 +145,7 @@ impl crate::Space for Space {
                 }
                 answers.count as u64
             }
+            Err(2) if is_renewal(frame) => self.renewal(frame, answers),
             Err(number) => {
                 answers.refused(frame, number);
                 1 + 65536 * u64::from(number)
@@ -212,8 +216,8 @@ impl Space {
         if long.duration == 0 {
             return Ok(());
         }
-        let (pairs, blanks) = (paired(long.fields), long.mask);
-        self.entries[row & 63] = Entry { pairs, number, end, private, taken: NO_SLOT, readers: 0, blanks };
+        let (pairs, blanks, writer) = (paired(long.fields), long.mask, u32::from(long.party));
+        self.entries[row & 63] = Entry { pairs, number, end, private, taken: NO_SLOT, readers: 0, blanks, writer };
         self.entry_count = row + 1;
         self.common.next_end = self.common.next_end.min(end);
         self.active |= bit_of(private);
@@ -221,6 +225,46 @@ impl Space {
             self.serve(1 << row, answers);
         }
         Ok(())
+    }
+
+    /// A step by a renewal. Its own record is all of the answer: nobody is served, and a look-up that waits for a
+    /// conflicting entry keeps it, since what is renewed is private to nobody and not held.
+    #[cold]
+    #[inline(never)]
+    fn renewal(&mut self, frame: &[u8], mut answers: Answers) -> u64 {
+        match decode_renewal(frame).and_then(|renewal| self.renew(renewal)) {
+            Ok(renewal) => {
+                answers.renewed(&renewal);
+                1
+            }
+            Err(number) => {
+                answers.refused(frame, number);
+                1 + 65536 * u64::from(number)
+            }
+        }
+    }
+
+    /// Carries out the renewal, or gives the first of refusals 6, 18, 19, 20, 10 that applies and changes nothing. An
+    /// end that is put off leaves `next_end` as it is: then one tick too many is looked at.
+    fn renew(&mut self, renewal: Renewal) -> Result<Renewal, u8> {
+        let Renewal { party, entry: number, lease } = renewal;
+        self.check_party(party)?;
+        let row = self.rows().binary_search_by_key(&number, |entry| entry.number).map_err(|_| 18)?;
+        let Entry { writer, private, taken, readers, .. } = self.entries[row & 63];
+        if writer != u32::from(party) {
+            return Err(19);
+        }
+        if private != NO_SLOT || taken != NO_SLOT || readers != 0 {
+            return Err(20);
+        }
+        let end = self.common.end_of(lease)?;
+        if lease == 0 {
+            self.remove(row);
+        } else {
+            self.entries[row & 63].end = end;
+            self.common.next_end = self.common.next_end.min(end);
+        }
+        Ok(renewal)
     }
 
     #[inline(always)]

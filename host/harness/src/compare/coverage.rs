@@ -2,6 +2,7 @@
 
 use super::blanks::Blanks;
 use super::hand_outs::{hand_outs, HandOut, FOUNDS};
+use super::renewals::Renewals;
 use reference::answer::{Kind, Record};
 use reference::frame::{look_up_kind, word, Refusal, LOOK_UPS, NONE};
 use reference::space::{End, Entry, LookUp, Space, MOST_ENTRIES, MOST_TRANSACTIONS, MOST_WAITING};
@@ -9,10 +10,11 @@ use std::collections::BTreeMap;
 use tray::record::KINDS;
 use tray::tally::Tally;
 
-/// Document 02, T-04: "14 is never given out again".
-const NEVER_GIVEN: usize = 14;
+/// Document 02, T-04: "14 is never given out again". 17 is T-03's, which there is not.
+const NEVER_GIVEN: [usize; 2] = [14, 17];
+const LAST_NUMBER: usize = 20;
 
-const SITUATIONS: [&str; 48] = [
+const SITUATIONS: [&str; 82] = [
     "64 entries stored",
     "8 transactions live",
     "16 look-ups waiting",
@@ -61,7 +63,46 @@ const SITUATIONS: [&str; 48] = [
     "committed with blanks, found later",
     "put back with blanks",
     "put back with blanks, found again",
+    "renewed, a later end",
+    "renewed, an earlier end",
+    "renewed, the same end",
+    "renewed for good",
+    "renewed, no longer for good",
+    "renewed with lease 0",
+    "renewed up to the last clock",
+    "renewed while look-ups wait",
+    "renewed again",
+    "renewed, written in a transaction",
+    "renewed after it was put back",
+    "renewed, ended at its new end",
+    "renewed, outlived an old end",
+    "renewed, found later",
+    "renewal of a party that waits",
+    "renewal of a taken one",
+    "renewal of an ended one",
+    "renewal of an aborted one",
+    "renewal of one removed by lease 0",
+    "renewal of one never written",
+    "renewal of none, too late",
+    "renewal of another's",
+    "renewal of another's, held or private",
+    "renewal of a private one",
+    "renewal of a read-held one",
+    "renewal of a take-held one",
+    "renewal under the own take hold",
+    "renewal under the own read hold",
+    "renewal of a held one, too late",
+    "renewal too late",
+    "renewal refused: length",
+    "renewal refused: mask",
+    "renewal refused: byte 3",
+    "renewal refused: party",
 ];
+
+/// The refusals' numbers.
+fn given() -> impl Iterator<Item = usize> {
+    (1..=LAST_NUMBER).filter(|number| !NEVER_GIVEN.contains(number))
+}
 
 #[derive(Default)]
 pub struct Coverage {
@@ -69,12 +110,13 @@ pub struct Coverage {
     pub histories: u64,
     pub frames: u64,
     kinds: [u64; 16],
-    refusals: [u64; 17],
+    refusals: [u64; LAST_NUMBER + 1],
     situations: BTreeMap<&'static str, u64>,
     /// At once, and in service.
     founds: [[u64; 2]; FOUNDS.len()],
     /// Of the tray or history that is compared.
     blanks: Blanks,
+    renewals: Renewals,
     /// Of all trays and histories, and those waiting at their ends.
     pub sums: Tally,
     pub waiting: usize,
@@ -96,6 +138,7 @@ impl Coverage {
         self.sums += tally;
         self.waiting += waiting;
         self.blanks = Blanks::default();
+        self.renewals = Renewals::default();
     }
 
     /// A frame has been compared.
@@ -107,7 +150,9 @@ impl Coverage {
         }
         let Some(own) = records.first() else { return };
         self.escape(before, frame, own, records.len());
-        for (situation, times) in self.blanks.step(before, frame, records, after) {
+        let blanks = self.blanks.step(before, frame, records, after);
+        let renewals = self.renewals.step(before, frame, records, after);
+        for (situation, times) in blanks.into_iter().chain(renewals) {
             self.note(situation, times);
         }
         if own.is(Kind::Refused) {
@@ -230,7 +275,7 @@ impl Coverage {
     /// What can occur and did not.
     pub fn missing(&self) -> Vec<String> {
         let kinds = KINDS.iter().filter(|kind| self.kinds[usize::from(kind.number)] == 0);
-        let refusals = (1..=16).filter(|&number| number != NEVER_GIVEN && self.refusals[number] == 0);
+        let refusals = given().filter(|&number| self.refusals[number] == 0);
         let situations = SITUATIONS.iter().filter(|name| self.situations.get(**name).is_none_or(|&n| n == 0));
         let mut missing: Vec<String> = kinds.map(|kind| format!("record {}", kind.name)).collect();
         missing.extend(refusals.map(|number| format!("number {number}")));
@@ -248,7 +293,7 @@ impl Coverage {
             println!("  {:>2} {:<10} {:>10}", kind.number, kind.name, self.kinds[usize::from(kind.number)]);
         }
         println!("numbers (1 also as the end of a tray's run; 15 and 16 of trays):");
-        for number in (1..=16).filter(|&number| number != NEVER_GIVEN) {
+        for number in given() {
             println!("  {number:>2} {:>10}", self.refusals[number]);
         }
         println!("situations:");

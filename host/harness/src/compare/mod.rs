@@ -7,6 +7,7 @@ mod coverage;
 mod discrepancy;
 mod hand_outs;
 mod pair;
+mod renewals;
 mod steps;
 mod tally;
 mod trays;

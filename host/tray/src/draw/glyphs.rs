@@ -28,6 +28,11 @@ pub fn write(x: f64, y: f64) -> String {
     )
 }
 
+/// A lease set anew: in the party's lane, and on the entry's bar.
+pub fn renewed(x: f64, y: f64) -> String {
+    hourglass(x, y, "#fff", INK)
+}
+
 /// A look-up: a circle reads, a square takes; filled it has found, slashed it has nothing, hollow it waits.
 pub fn look_up(x: f64, y: f64, takes: bool, if_exists: bool, filled: bool, slashed: bool) -> String {
     let fill = if filled { INK } else { "#fff" };

@@ -7,9 +7,10 @@ use crate::frame::{
 };
 use crate::history::History;
 use crate::oracle::{Matcher, Sought, Standing};
-use crate::prose::withdraws;
+use crate::prose::{bars_renewal, lease_words, withdraws};
 use crate::record::{
-    kind_of, refusal_label, ABORTED, COMMITTED, CREATED, EXCEPTION, FOUND, NOTHING, REFUSED, WAITING, WRITTEN,
+    kind_of, refusal_label, Record, ABORTED, COMMITTED, CREATED, EXCEPTION, FOUND, NOTHING, REFUSED, RENEWED, WAITING,
+    WRITTEN,
 };
 use crate::words::{End, Tables, Template, Values};
 
@@ -44,20 +45,21 @@ fn fields_label(values: &Values) -> String {
 /// The request: operation, then its template, fields, lease or transaction.
 fn request_label(request: &Request, mark: &Mark, clock: u32) -> Vec<String> {
     let name = request.operation.name;
-    let lease = || match End::of(request.duration) {
-        End::At(lease) => format!("lease {}", end_text(End::At(clock.saturating_add(lease)))),
-        End::Never => "lease forever".to_string(),
+    let lease = || match request.duration {
+        0 if request.renews() => "lease 0".to_string(),
+        lease => lease_words(End::of_lease(clock, lease)),
     };
     let second = |part: &Part| match part {
         Part::Fields => Some(fields_label(&request.values())),
         Part::Template => Some(template_label(&request.template())),
         Part::Lease => Some(lease()),
         Part::Transaction => Some(format!("T{}", request.transaction)),
-        Part::Timeout | Part::Inside => None,
+        Part::Timeout | Part::Inside | Part::Entry => None,
     };
     // The timeout is shown only where it decides.
     let first = match mark.record.kind {
         NOTHING => format!("{name}, timeout {}", duration_text(request.duration)),
+        _ if request.renews() => format!("{name} E{}", request.entry),
         _ => name.to_string(),
     };
     std::iter::once(first).chain(request.operation.parts.iter().find_map(second)).collect()
@@ -180,7 +182,7 @@ fn word(mark: &Mark, history: &History) -> String {
     let record = &mark.record;
     let name = kind_of(record.kind).map_or("", |kind| kind.name);
     match record.kind {
-        WRITTEN | FOUND => format!("{name} E{}", record.entry),
+        WRITTEN | FOUND | RENEWED => format!("{name} E{}", record.entry),
         CREATED => format!("{name} T{}", record.transaction),
         REFUSED => format!("{name} {}", record.refusal),
         WAITING => {
@@ -188,6 +190,16 @@ fn word(mark: &Mark, history: &History) -> String {
             look_up.map_or(name.to_string(), |look_up| format!("{name} {}", end_text(look_up.deadline)))
         }
         _ => name.to_string(),
+    }
+}
+
+/// Why a frame is refused; of an entry that cannot be renewed, who holds it.
+fn refused(before: &Tables, request: Option<&Request>, record: &Record) -> String {
+    let (transaction, entry) = request.map_or((0, 0), |request| (request.transaction, request.entry));
+    let held = before.entry(entry).filter(|_| record.refusal == 20).and_then(|entry| hold_label(&bars_renewal(entry)));
+    match held {
+        Some(held) => format!("E{entry}: {held}"),
+        None => refusal_label(record.refusal, transaction, entry),
     }
 }
 
@@ -201,9 +213,9 @@ pub fn labels(history: &History, lives: &Lives, mark: &Mark, matcher: &mut Match
     let (second, barred) = match mark.record.kind {
         NOTHING | WAITING => reason(history, lives, mark, matcher),
         COMMITTED | ABORTED | EXCEPTION => (effects(history, lives, mark), Vec::new()),
-        REFUSED => {
-            let transaction = request.map_or(0, |request| request.transaction);
-            (refusal_label(mark.record.refusal, transaction), Vec::new())
+        REFUSED => (refused(history.before(mark.at.frame), request.as_ref(), &mark.record), Vec::new()),
+        RENEWED if history.steps[mark.at.frame].after.entry(mark.record.entry).is_none() => {
+            (format!("E{} removed", mark.record.entry), Vec::new())
         }
         FOUND => (oldest_of(history, mark, matcher), Vec::new()),
         _ => (String::new(), Vec::new()),

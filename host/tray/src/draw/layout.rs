@@ -115,7 +115,7 @@ fn quiet_tick(history: &History, lives: &Lives, frame: usize) -> bool {
         && before.transactions == after.transactions
         && before.look_ups == after.look_ups;
     let left_over = |lease: End| lease == End::At(after.clock);
-    same && !lives.entries.iter().any(|life| left_over(life.lease))
+    same && !lives.entries.iter().any(|life| left_over(life.last_lease()))
         && !lives.transactions.iter().any(|life| left_over(life.lease))
 }
 
@@ -123,6 +123,7 @@ fn quiet_tick(history: &History, lives: &Lives, frame: usize) -> bool {
 fn alike(one: &EntryLife, other: &EntryLife) -> bool {
     one.values == other.values
         && one.lease == other.lease
+        && one.renewals == other.renewals
         && one.end == other.end
         && one.segments.len() == other.segments.len()
         && one.segments.iter().skip(1).eq(other.segments.iter().skip(1))
@@ -436,7 +437,8 @@ impl Layout {
         let begin = self.x(bar.life.begin);
         let end = match bar.life.end {
             Some((end, _)) => {
-                let left_over = self.left_over(bar.life.lease, Some(end)).map_or(0.0, |column| self.columns[column].x);
+                let left_over = self.left_over(bar.life.last_lease(), Some(end));
+                let left_over = left_over.map_or(0.0, |column| self.columns[column].x);
                 (self.x(end) + bar.end_width()).max(left_over + 12.0)
             }
             None if !bar.life.is_stored() => begin + 12.0 + bar.end_width(),
@@ -457,7 +459,7 @@ impl Layout {
         let entries = self.lives.entries.iter().filter(|life| life.is_stored() && life.end.is_none());
         let transactions = self.lives.transactions.iter().filter(|life| life.end.is_none());
         let waits = self.lives.waits.iter().filter(|wait| wait.end.is_none());
-        let leases = entries.map(|life| life.lease).chain(transactions.map(|life| life.lease));
+        let leases = entries.map(EntryLife::last_lease).chain(transactions.map(|life| life.lease));
         leases.chain(waits.map(|wait| wait.look_up.deadline))
     }
 

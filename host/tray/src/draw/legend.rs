@@ -54,6 +54,9 @@ fn entries() -> String {
         + &glyphs::chevron(25.0, 12.0, INK)
         + &glyphs::hourglass(33.0, 12.0, "#fff", GREY)
         + &text(42.0, 16.0, "dim", "", "clock 9");
+    let renewed = rect(1.0, 3.0, 78.0, 20.0, &format!("fill=\"{COMMITTED_FILL}\""))
+        + &glyphs::renewed(12.0, 13.0)
+        + &text(21.0, 17.0, "", "", "to clock 9");
     [
         head("Entries, in the space"),
         item(&sign(72, 22, &name), "its number and fields; _ stands for a blank"),
@@ -61,9 +64,10 @@ fn entries() -> String {
         item(&bar(&Hold::Read(vec![])), "with a read hold: all can read it, others cannot take it"),
         item(&bar(&Hold::Taken(1)), "with a take hold: nobody finds it"),
         item(&bar(&Hold::Private(1)), "private to a transaction: only that finds it"),
+        item(&sign(80, 26, &renewed), "renewed: its lease now runs to that clock"),
         item(&sign(24, 28, &expired), "ends: its lease has ended (expired)"),
         item(&sign(18, 28, &taken), "ends: taken"),
-        item(&sign(20, 28, &removed), "ends: removed with its transaction"),
+        item(&sign(20, 28, &removed), "ends: removed with its transaction, or by a renewal with lease 0"),
         item(&sign(22, 24, &glyphs::never_stored(11.0, 12.0)), "lease 0: never stored"),
         item(&sign(62, 20, &lease), "lease that would have run on"),
         item(&sign(86, 24, &ahead), "goes on; its lease ends at that clock"),
@@ -102,7 +106,7 @@ fn requests() -> String {
     let barred = line(11.0, 5.0, 11.0, 33.0, &dotted) + &line(4.0, 4.0, 18.0, 4.0, &ink("2.6"));
     [
         head("Requests and answers"),
-        item(&sign(20, 22, &glyphs::write(10.0, 12.0)), "write"),
+        item(&(sign(20, 22, &glyphs::write(10.0, 12.0)) + &sign(20, 22, &glyphs::renewed(10.0, 11.0))), "write; renew"),
         item(&(look_up(false, false, true, false) + &look_up(true, false, true, false)), "read, take: found"),
         item(&(look_up(false, false, false, true) + &look_up(true, false, false, true)), "nothing"),
         item(&(look_up(false, true, false, false) + &look_up(true, true, true, false)), "readIfExists, takeIfExists"),

@@ -5,9 +5,9 @@
 use crate::frame::Class;
 use crate::history::{History, Step};
 use crate::record::{
-    Record, ABORTED, COMMITTED, CREATED, EXCEPTION, FOUND, NOTHING, REFUSED, TICKED, WAITING, WRITTEN,
+    Record, ABORTED, COMMITTED, CREATED, EXCEPTION, FOUND, NOTHING, REFUSED, RENEWED, TICKED, WAITING, WRITTEN,
 };
-use crate::words::{End, Entry, LookUp, Tables, Values, FOREVER};
+use crate::words::{End, Entry, LookUp, Tables, Values};
 
 /// A frame, counted from 0, and a slot in it: slot 0 is the frame's own record, its exceptions and what expires; each
 /// later found or nothing of the step is one slot further.
@@ -37,7 +37,10 @@ pub enum Gone {
 pub struct EntryLife {
     pub number: u32,
     pub values: Values,
+    /// As it was written.
     pub lease: End,
+    /// The lease from this moment on; one that removes the entry ends at once.
+    pub renewals: Vec<(Moment, End)>,
     /// Each hold from this moment on; none of an entry with lease 0.
     pub segments: Vec<(Moment, Hold)>,
     pub begin: Moment,
@@ -47,6 +50,24 @@ pub struct EntryLife {
 impl EntryLife {
     pub fn is_stored(&self) -> bool {
         !self.segments.is_empty()
+    }
+
+    /// The lease that it had last.
+    pub fn last_lease(&self) -> End {
+        self.renewals.last().map_or(self.lease, |&(_, lease)| lease)
+    }
+
+    /// The lease that it had before a frame.
+    pub fn lease_before(&self, frame: usize) -> End {
+        let earlier = self.renewals.iter().rev().find(|(at, _)| at.frame < frame);
+        earlier.map_or(self.lease, |&(_, lease)| lease)
+    }
+
+    /// When something of it changes next: its hold, its lease, or it ends.
+    pub fn next_change(&self, at: Moment) -> Option<Moment> {
+        let (holds, leases) =
+            (self.segments.iter().map(|(from, _)| *from), self.renewals.iter().map(|(from, _)| *from));
+        holds.chain(leases).chain(self.end.map(|(end, _)| end)).filter(|&moment| moment > at).min()
     }
 }
 
@@ -153,12 +174,18 @@ fn after_slot_0(history: &History, frame: usize) -> Vec<Entry> {
 fn written(step: &Step, before: &Tables, number: u32) -> Option<Entry> {
     let record = step.records.first().filter(|record| record.kind == WRITTEN && record.entry == number)?;
     let request = step.request()?;
-    let end = match request.duration {
-        FOREVER => End::Never,
-        lease => End::At(before.clock.saturating_add(lease)),
-    };
-    let Values { fields, blanks } = request.values();
-    Some(Entry { number, fields, blanks, end, private_to: record.transaction, taken_by: 0, read_by: Vec::new() })
+    let end = End::of_lease(before.clock, request.duration);
+    let (Values { fields, blanks }, writer) = (request.values(), record.party);
+    Some(Entry {
+        number,
+        fields,
+        blanks,
+        writer,
+        end,
+        private_to: record.transaction,
+        taken_by: 0,
+        read_by: Vec::new(),
+    })
 }
 
 /// A found of a later slot, carried over to the entries.
@@ -238,7 +265,23 @@ impl Lives {
         if let Some(entry) = entry {
             let (number, values, lease) = (entry.number, entry.values(), entry.end);
             let begin = Moment { frame, slot: 0 };
-            self.entries.push(EntryLife { number, values, lease, segments: vec![], begin, end: None });
+            self.entries.push(EntryLife {
+                number,
+                values,
+                lease,
+                renewals: vec![],
+                segments: vec![],
+                begin,
+                end: None,
+            });
+        }
+    }
+
+    fn renew(&mut self, history: &History, at: Moment, record: &Record) {
+        let Some(request) = history.steps[at.frame].request() else { return };
+        let lease = End::of_lease(history.before(at.frame).clock, request.duration);
+        if let Some(life) = self.entries.iter_mut().find(|life| life.number == record.entry) {
+            life.renewals.push((at, lease));
         }
     }
 
@@ -269,6 +312,7 @@ impl Lives {
                 CREATED => self.create(step, at, &record),
                 COMMITTED | ABORTED | EXCEPTION => self.end(at, &record),
                 WAITING => self.wait(step, at, &record),
+                RENEWED => self.renew(history, at, &record),
                 FOUND | NOTHING if slot > 0 => self.close(at, &record),
                 _ => {}
             }

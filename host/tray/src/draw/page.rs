@@ -56,7 +56,8 @@ fn in_short<'a>(rows: impl Iterator<Item = &'a Row>) -> Vec<String> {
 
 fn entry_row(entry: &Entry, tables: &Tables) -> Row {
     let holds = holds_words(entry, tables);
-    let full = format!("{}, {holds}, {}", plain_fields(&entry.values()), lease_words(entry.end));
+    let fields = plain_fields(&entry.values());
+    let full = format!("of party {}, {fields}, {holds}, {}", entry.writer, lease_words(entry.end));
     Row { of: "E", number: entry.number, short: holds, full }
 }
 

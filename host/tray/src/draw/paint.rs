@@ -6,10 +6,10 @@ use super::layout::{clock_label, Bar, Layout, Placed, System};
 use super::lives::{Gone, Hold, Moment, TransactionLife, Wait};
 use super::metrics::*;
 use super::svg::{attributes, group, line, n, path, rect, text};
-use crate::frame::{named_fields, operation_of, short_fields, template_text};
+use crate::frame::{end_text, named_fields, operation_of, short_fields, template_text};
 use crate::history::History;
 use crate::prose::{lease_words, told};
-use crate::record::{ABORTED, COMMITTED, EXCEPTION, FOUND, NOTHING, REFUSED, WRITTEN};
+use crate::record::{ABORTED, COMMITTED, EXCEPTION, FOUND, NOTHING, REFUSED, RENEWED, WRITTEN};
 use crate::words::End;
 
 /// A column that is pointed at, and the caption below it.
@@ -114,6 +114,11 @@ fn track_bar(party: u8, zone: f64, left: f64, right: f64, begins: bool, ends: bo
     bar
 }
 
+/// "renewed in frame 4: lease to clock 9"
+fn renewal_title((at, lease): (Moment, End)) -> String {
+    format!("renewed in frame {}: {}", at.frame + 1, lease_words(lease))
+}
+
 fn track_title(life: &TransactionLife) -> String {
     let ended = life.end.map_or(String::new(), |(at, kind)| {
         let word = crate::record::kind_of(kind).map_or("", |kind| kind.name);
@@ -187,7 +192,7 @@ impl<'a> Painter<'a> {
 
     fn bar_here(&self, bar: &Bar) -> bool {
         let end = bar.life.end.map(|(end, _)| end);
-        let left_over = self.layout.left_over(bar.life.lease, end);
+        let left_over = self.layout.left_over(bar.life.last_lease(), end);
         let last = match (end, left_over) {
             _ if !bar.life.is_stored() => self.layout.column(bar.life.begin),
             (None, _) => usize::MAX,
@@ -482,10 +487,12 @@ impl<'a> Painter<'a> {
             let height = self.row_sizes().1;
             let end = bar.life.end.map(|(end, _)| end);
             let word = format!("{}, {}", bar.name(), bar.end_word());
-            self.left_over_lease(&word, "entry", bar.life.number, (bar.life.lease, end), y + height / 2.0, GREY);
+            let lease = bar.life.last_lease();
+            self.left_over_lease(&word, "entry", bar.life.number, (lease, end), y + height / 2.0, GREY);
             self.segments(bar, y, height);
+            self.renewals(bar, y, height);
             if bar.life.is_stored() && end.is_none() {
-                self.ahead("entry", bar.life.number, bar.life.lease, y + height / 2.0, GREY);
+                self.ahead("entry", bar.life.number, lease, y + height / 2.0, GREY);
             }
             self.entry_end(bar, y, height);
             self.entry_name(bar, y, height);
@@ -495,7 +502,35 @@ impl<'a> Painter<'a> {
     fn entry_title(&self, bar: &Bar) -> String {
         let ended =
             bar.life.end.map_or(String::new(), |(at, _)| format!("; {} in frame {}", bar.end_word(), at.frame + 1));
-        format!("{}: {}; {}{ended}", bar.name(), named_fields(&bar.life.values), lease_words(bar.life.lease))
+        let renewed: String =
+            bar.life.renewals.iter().map(|&renewal| format!("; {}", renewal_title(renewal))).collect();
+        let lease = lease_words(bar.life.lease);
+        format!("{}: {}; {lease}{renewed}{ended}", bar.name(), named_fields(&bar.life.values))
+    }
+
+    /// Where its lease was set anew: a sign on the bar, and the new end behind it if there is room. One with lease 0 ends
+    /// the bar.
+    fn renewals(&mut self, bar: &Bar, y: f64, height: f64) {
+        let end = bar.life.end.map(|(end, _)| end);
+        for &(at, lease) in &bar.life.renewals {
+            if !self.has(at) || Some(at) == end {
+                continue;
+            }
+            let x = self.x(at);
+            let about = attributes(&[
+                ("class", &"renewal"),
+                ("data-entry", &bar.life.number),
+                ("data-frame", &(at.frame + 1)),
+                ("data-lease", &end_text(lease)),
+            ]);
+            let title = format!("{}: {}", bar.name(), renewal_title((at, lease)));
+            self.add(MARKS, &group(&about, &title, &glyphs::renewed(x, y + height / 2.0)));
+            let next = bar.life.next_change(at).filter(|&next| self.has(next));
+            let room = next.map_or(self.right, |next| self.x(next)) - x;
+            if !self.layout.compact && width(&end_text(lease)) + 20.0 <= room {
+                self.add(TEXT, &text(x + 9.0, y + 14.2, "", "", &end_text(lease)));
+            }
+        }
     }
 
     fn segments(&mut self, bar: &Bar, y: f64, height: f64) {
@@ -616,6 +651,8 @@ impl<'a> Painter<'a> {
         }
         let left = if begins { self.x(bar.life.begin) } else { GUTTER + 2.0 };
         let fields = short_fields(&bar.life.values);
+        let first = *self.layout.columns[self.first()].frames.start();
+        let lease = if begins { bar.life.lease } else { bar.life.lease_before(first) };
         if self.layout.compact {
             let told = format!("{} {fields}", bar.name());
             self.add(TEXT, &text(left + 4.0, y + height - 3.0, "h", "style=\"font-size:9px\"", &told));
@@ -626,7 +663,7 @@ impl<'a> Painter<'a> {
             n(left),
             n(y - 4.0),
             bar.name(),
-            lease_words(bar.life.lease)
+            lease_words(lease)
         );
         self.add(TEXT, &name);
     }
@@ -686,13 +723,15 @@ impl<'a> Painter<'a> {
         let height = self.row_sizes().1;
         let ink = format!("stroke=\"{INK}\" stroke-width=\"1.1\"");
         let handed = match record.kind {
-            WRITTEN | FOUND => self.bar_of(record.entry).map(|(_, top)| top),
+            WRITTEN | FOUND | RENEWED => self.bar_of(record.entry).map(|(_, top)| top),
             _ => None,
         };
         if let Some(top) = handed {
             let takes = look_up(placed.mark.class).is_some_and(|(takes, _)| takes);
             let inner = match record.kind {
-                WRITTEN => line(x, y - 8.0, x, top + height + 1.0, &ink) + &glyphs::head_up(x, top + height + 1.0),
+                WRITTEN | RENEWED => {
+                    line(x, y - 8.0, x, top + height + 1.0, &ink) + &glyphs::head_up(x, top + height + 1.0)
+                }
                 _ if takes => line(x, top + height - 2.0, x, y - 8.0, &ink) + &glyphs::head_down(x, y - 8.5),
                 _ => {
                     let ring = format!(
@@ -703,7 +742,11 @@ impl<'a> Painter<'a> {
                     line(x, top + height, x, y - 8.0, &ink) + &ring + &glyphs::head_open(x, y - 8.0)
                 }
             };
-            let class = if record.kind == WRITTEN { "wrote" } else { "handed" };
+            let class = match record.kind {
+                WRITTEN => "wrote",
+                RENEWED => "renews",
+                _ => "handed",
+            };
             let about = attributes(&[
                 ("class", &class),
                 ("data-entry", &record.entry),
@@ -743,6 +786,7 @@ impl<'a> Painter<'a> {
         match (record.kind, look_up(placed.mark.class)) {
             (REFUSED, _) => glyphs::refused(x, y, record.refusal),
             (WRITTEN, _) => glyphs::write(x, y),
+            (RENEWED, _) => glyphs::renewed(x, y),
             (COMMITTED, _) => glyphs::committed(x, y, record.party),
             (ABORTED, _) => glyphs::aborted(x, y, record.party),
             (EXCEPTION, _) => {

@@ -6,7 +6,7 @@ use super::store::TICK;
 use crate::boundary::{self, Space, Stepped};
 use crate::frame::tick_frame;
 use crate::panes::{Action, Pane, Script};
-use crate::record::{Record, CREATED, EXCEPTION, RECORD_BYTES, REFUSED, STEP_BYTES, WAITING};
+use crate::record::{Record, CREATED, EXCEPTION, FOUND, RECORD_BYTES, REFUSED, STEP_BYTES, WAITING, WRITTEN};
 use crate::words::FOREVER;
 
 /// In place of a pane, for the records of a party that is none.
@@ -31,7 +31,7 @@ pub struct Model<'a> {
     pub script: &'a Script,
     /// By party.
     pane_of: [Option<usize>; 17],
-    /// By pane and line; a named transaction is put in before it is sent.
+    /// By pane and line; a named transaction or entry is put in before it is sent.
     frames: Vec<Vec<Vec<u8>>>,
     tick: Vec<u8>,
     area: Vec<u8>,
@@ -39,10 +39,19 @@ pub struct Model<'a> {
     pub monitors: Monitors,
 }
 
-/// Bytes 4 to 7 of a frame name the transaction.
-const AT_TRANSACTION: std::ops::Range<usize> = 4..8;
-/// Sent for a name that no transaction has got: no transaction ever has this number.
-const NO_TRANSACTION: u32 = FOREVER;
+/// Bytes 4 to 7 of a frame name the transaction, or the entry that it renews.
+const AT_NUMBER: std::ops::Range<usize> = 4..8;
+/// Sent for a name that nothing has got: no transaction and no entry ever has this number.
+const NO_NUMBER: u32 = FOREVER;
+
+/// The number that an answer brings for a name.
+fn brought(record: &Record) -> Option<u32> {
+    match record.kind {
+        CREATED => Some(record.transaction),
+        WRITTEN | FOUND => Some(record.entry),
+        _ => None,
+    }
+}
 
 impl<'a> Model<'a> {
     pub fn new(script: &'a Script) -> Model<'a> {
@@ -83,12 +92,12 @@ impl<'a> Model<'a> {
         situation
     }
 
-    /// The transaction that a line of a pane names, or 0.
-    fn transaction(&self, situation: &Situation, pane: usize, line: usize) -> u32 {
+    /// The transaction that a line of a pane names, or 0; or the entry, if it names one.
+    fn number(&self, situation: &Situation, pane: usize, line: usize) -> u32 {
         let sent = &self.script.panes[pane].sent[line];
         match sent.inside.map(|name| situation.pane(pane)[NAMES + name]) {
             None => sent.request.map_or(0, |request| request.transaction),
-            Some(0) => NO_TRANSACTION,
+            Some(0) => NO_NUMBER,
             Some(number) => number,
         }
     }
@@ -100,8 +109,8 @@ impl<'a> Model<'a> {
         }
         let line = situation.line(sender).unwrap_or(0);
         if self.script.panes[sender].sent[line].inside.is_some() {
-            let transaction = self.transaction(situation, sender, line);
-            self.frames[sender][line][AT_TRANSACTION].copy_from_slice(&transaction.to_le_bytes());
+            let number = self.number(situation, sender, line);
+            self.frames[sender][line][AT_NUMBER].copy_from_slice(&number.to_le_bytes());
         }
         &self.frames[sender][line]
     }
@@ -143,7 +152,7 @@ impl<'a> Model<'a> {
         let script = &self.script.panes[pane];
         let sent = &script.sent[line];
         if record.kind == EXCEPTION && !own {
-            let closes = situation.waits(pane) && self.transaction(situation, pane, line) == record.transaction;
+            let closes = situation.waits(pane) && self.number(situation, pane, line) == record.transaction;
             if closes {
                 self.react(situation, pane, line, script.reaction(sent, EXCEPTION));
             } else if !situation.waits(pane) {
@@ -163,8 +172,8 @@ impl<'a> Model<'a> {
             situation.pane_mut(pane)[PLACE] = place(line, true);
             return;
         }
-        if let (CREATED, Some(name)) = (record.kind, sent.names) {
-            situation.pane_mut(pane)[NAMES + name] = record.transaction;
+        if let (Some(number), Some(name)) = (brought(record), sent.names) {
+            situation.pane_mut(pane)[NAMES + name] = number;
         }
         self.react(situation, pane, line, script.reaction(sent, record.kind));
     }

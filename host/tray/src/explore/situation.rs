@@ -2,7 +2,7 @@
 
 use crate::words::{Words, HEAD_WORDS, TABLES, WORDS};
 
-/// Where a pane is: the line that it sends next or waits on, the round, the transactions it has names for.
+/// Where a pane is: the line that it sends next or waits on, the round, the transactions and entries it has names for.
 pub const PLACE: usize = 0;
 pub const ROUND: usize = 1;
 pub const NAMES: usize = 2;
@@ -14,7 +14,7 @@ pub const STOPPED: u32 = 0;
 pub struct Situation {
     pub words: Words,
     pub ticks: u32,
-    /// For each pane, one behind the other: place, round, transactions by name.
+    /// For each pane, one behind the other: place, round, transactions and entries by name.
     states: Vec<u32>,
     /// Words of a pane's state.
     stride: usize,
@@ -28,7 +28,7 @@ pub fn place(line: usize, waits: bool) -> u32 {
 }
 
 impl Situation {
-    /// For so many panes, with so many names of transactions at most.
+    /// For so many panes, with so many names at most.
     pub fn new(panes: usize, names: usize, claims: usize) -> Situation {
         let stride = NAMES + names;
         Situation { words: [0; WORDS], ticks: 0, states: vec![0; panes * stride], stride, memory: vec![vec![]; claims] }

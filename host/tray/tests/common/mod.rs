@@ -3,6 +3,9 @@
 use std::io::Write;
 use std::path::{Path, PathBuf};
 use std::process::{Command, Stdio};
+use tray::boundary::Space;
+use tray::text::parse;
+use tray::words::{tables, Tables};
 
 pub struct Answer {
     pub status: i32,
@@ -59,9 +62,22 @@ impl Random {
     }
 }
 
+/// A renewal: mostly of a stored entry, by the party that wrote it.
+fn random_renewal(random: &mut Random, tables: &Tables) -> String {
+    let lease = random.pick(&["0", "1", "2", "4", "forever", "4294967294"]);
+    let known = random.below(tables.entries.len().max(1) as u64) as usize;
+    let (mut party, mut number) = tables.entries.get(known).map_or((1, 1), |entry| (entry.writer, entry.number));
+    match random.below(10) {
+        0 => party = 1 + random.below(6) as u8,
+        1 => number = 1 + random.below(u64::from(tables.next_entry)) as u32,
+        _ => {}
+    }
+    format!("party {party} renew {number} lease {lease}")
+}
+
 /// A line of a history in which much happens: few kinds, some blanks, short leases, and mostly the transactions' own
-/// parties.
-fn random_line(random: &mut Random, created: &mut Vec<u64>) -> String {
+/// parties and the entries' own writers.
+fn random_line(random: &mut Random, created: &mut Vec<u64>, tables: &Tables) -> String {
     let mut party = 1 + random.below(6);
     let mut inside = String::new();
     if random.below(2) == 0 && !created.is_empty() {
@@ -70,7 +86,7 @@ fn random_line(random: &mut Random, created: &mut Vec<u64>) -> String {
         inside = format!(" in {}", created.len() - back);
     }
     let kind = 1 + random.below(2);
-    match random.below(14) {
+    match random.below(17) {
         0..=3 => {
             let lease = random.pick(&["0", "1", "2", "3", "5", "forever", "forever"]);
             let rest = random.pick(&["0 4 9", "1 4 9", "2 4 0", "1 4 blank", "2 4 blank", "blank blank blank"]);
@@ -87,11 +103,18 @@ fn random_line(random: &mut Random, created: &mut Vec<u64>) -> String {
             format!("party {party} create lease {}", random.pick(&["1", "2", "4", "forever"]))
         }
         11 if !inside.is_empty() => format!("party {party} {}{}", random.pick(&["commit", "abort"]), &inside[3..]),
+        14..=16 => random_renewal(random, tables),
         _ => "tick".to_string(),
     }
 }
 
 pub fn random_text(seed: u64, frames: usize) -> String {
-    let (mut random, mut created) = (Random(seed), Vec::new());
-    (0..frames).map(|_| random_line(&mut random, &mut created) + "\n").collect()
+    let (mut random, mut created, mut space) = (Random(seed), Vec::new(), Space::default());
+    let mut text = String::new();
+    for _ in 0..frames {
+        let line = random_line(&mut random, &mut created, &tables(&space.words));
+        parse(&line).unwrap().frames().for_each(|asked| _ = space.step(&asked.frame));
+        text += &(line + "\n");
+    }
+    text
 }

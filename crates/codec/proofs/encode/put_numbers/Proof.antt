@@ -16,10 +16,10 @@ use Rattle.codec.proofs.encode.put_numbers.Tie as tie
 returns : tie.Need-returns
 returns c =
     let p = c .before .before .before .pre in
-    frame-none _ _ _ (c .before .length-of .ensures) (p .0) (p .1) (c .if1 .taken)
+    frame-none _ _ _ (c .before .length-of .ensures) p (c .if1 .taken)
 
 end : (c : tie.After-length-of) → Ends (c .length-of .result)
-end c = let p = c .before .before .pre in ends _ _ (c .length-of .ensures) (p .0) (p .1)
+end c = let p = c .before .before .pre in ends _ _ (c .length-of .ensures) p
 
 put-four-requires : tie.Need-put-four-requires
 put-four-requires c κs = omega (arith, end (c .before .before) .least)
@@ -38,7 +38,7 @@ all : (c : tie.Else1) (k : ℕ) (new : List ℕ) → c .before .length-of .resul
     (c .before .length-of .result)
 all c k new q e =
     let p = c .before .before .before .pre in
-    frame-all _ _ _ (c .before .length-of .ensures) (p .0) (p .1) k new q (c .if1 .left) e
+    frame-all _ _ _ (c .before .length-of .ensures) p k new q (c .if1 .left) e
 
 returns-2 : tie.Need-returns-2
 returns-2 c =

@@ -10,9 +10,10 @@ use Rattle.codec.proofs.frames.decode_tick.Statement.{statement}
 use Rattle.codec.proofs.frames.decode_tick.Tie as tie
 
 returns : tie.Need-returns
+unfolding layoutOf
 returns c =
     let e = c .before .before .before .pre in
-    refused _ _ (sym (other-length _ opTick (sym e, omega arith, omega arith)
+    refused _ _ (sym (other-length _ opTick (sym e, refl)
     (λ q. c .if1 .taken (q ∙ sym (c .before .length-of .ensures))))) (λ z. omega arith)
 
 returns-2 : tie.Need-returns-2
@@ -20,8 +21,7 @@ unfolding layoutOf
 returns-2 c =
     let n = c .before .before .before in
     let e = n .before .before .before .pre in
-    refused _ _ (c .before .head-refusal .ensures
-    ∙ sym (plain-head _ opTick (sym e, omega arith, omega arith) refl refl refl
+    refused _ _ (c .before .head-refusal .ensures ∙ sym (plain-head _ opTick (sym e, refl) refl refl refl
     (n .if1 .left ∙ n .before .length-of .ensures))) (c .if2 .taken)
 
 returns-3 : tie.Need-returns-3
@@ -29,7 +29,7 @@ unfolding layoutOf
 returns-3 c =
     let n = c .before .before .before in
     let e = n .before .before .before .pre in
-    tick-asks _ (plain-head _ opTick (sym e, omega arith, omega arith) refl refl refl
+    tick-asks _ (plain-head _ opTick (sym e, refl) refl refl refl
     (n .if1 .left ∙ n .before .length-of .ensures) ∙ sym (c .before .head-refusal .ensures) ∙ c .if2 .left) e
 
 pub decode-tick-spec : {M : Type 1} → statement M

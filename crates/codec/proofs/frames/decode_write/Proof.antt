@@ -10,21 +10,24 @@ use Rattle.codec.proofs.frames.decode_write.Statement.{statement}
 use Rattle.codec.proofs.frames.decode_write.Tie as tie
 
 returns : tie.Need-returns
+unfolding layoutOf
 returns c =
     let e = c .before .before .before .pre in
-    refused _ _ (sym (other-length _ opWrite (sym e, omega arith, omega arith)
+    refused _ _ (sym (other-length _ opWrite (sym e, refl)
     (λ q. c .if1 .taken (q ∙ sym (c .before .length-of .ensures))))) (λ z. omega arith)
 
 returns-2 : tie.Need-returns-2
+unfolding layoutOf
 returns-2 c =
     let n = c .before .before .before .before .before in
     let e = n .before .before .before .pre in
     refused _ _ (c .before .head-refusal .ensures
     ∙ rw (c .before .before .is-bad-blanks .ensures, c .before .before .before .whole-fields .ensures)
-    (sym (write-head _ opWrite (sym e, omega arith, omega arith) refl
+    (sym (write-head _ opWrite (sym e, refl) refl
     (n .if1 .left ∙ n .before .length-of .ensures)))) (c .if2 .taken)
 
 returns-3 : tie.Need-returns-3
+unfolding layoutOf
 returns-3 c =
     let txn = c .before .before in
     let head = txn .before .before in
@@ -32,7 +35,7 @@ returns-3 c =
     let n = head .before .before .before .before in
     let e = n .before .before .before .pre in
     rw (txn .whole-number .ensures, c .whole-number2 .ensures, fields)
-    (write-asks _ (write-head _ opWrite (sym e, omega arith, omega arith) refl
+    (write-asks _ (write-head _ opWrite (sym e, refl) refl
     (n .if1 .left ∙ n .before .length-of .ensures)
     ∙ sym (rw (head .before .is-bad-blanks .ensures, fields) at (head .head-refusal .ensures))
     ∙ txn .before .if2 .left) e)

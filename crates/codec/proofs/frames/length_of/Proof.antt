@@ -13,18 +13,18 @@ returns-2 c = length-is _ (c .before .if1 .left) (le-leb _ _ (c .if2 .taken)) re
 
 returns-3 : tie.Need-returns-3
 returns-3 c =
-    length-is _ (c .before .before .if1 .left) (lt-leb _ _ (c .before .if2 .left)) (le-leb _ _ (c .if3 .taken)) refl
+    length-is _ (c .before .before .if1 .left) (lt-leb _ _ (c .before .if2 .left)) (c .if3 .taken) refl
 
 returns-4 : tie.Need-returns-4
 returns-4 c =
     let n = c .before .before in
-    length-is _ (n .before .if1 .left) (lt-leb _ _ (n .if2 .left)) (lt-leb _ _ (c .before .if3 .left))
+    length-is _ (n .before .if1 .left) (lt-leb _ _ (n .if2 .left)) (c .before .if3 .left)
     (le-leb _ _ (c .if4 .taken))
 
 returns-5 : tie.Need-returns-5
 returns-5 c =
     let n = c .before .before in
-    length-is _ (n .before .if1 .left) (lt-leb _ _ (n .if2 .left)) (lt-leb _ _ (c .before .if3 .left))
+    length-is _ (n .before .if1 .left) (lt-leb _ _ (n .if2 .left)) (c .before .if3 .left)
     (lt-leb _ _ (c .if4 .left))
 
 pub length-of-spec : {M : Type 1} → statement M

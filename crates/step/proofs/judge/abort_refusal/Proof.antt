@@ -10,7 +10,7 @@ use Rattle.step.proofs.judge.abort_refusal.Tie as tie
 
 returns : tie.Need-returns
 unfolding layoutOf noLease tooLate entriesFull txnsFull noNumber
-returns c = by-admission-alone _ _ (c .party-refusal .ensures ∙ admission-parts _ _ _ _ (simp or-true) refl) refl
+returns c = by-admission-alone _ _ (c .party-refusal .ensures ∙ admission-parts _ _ _ _ refl (simp or-true) refl) refl
 
 pub abort-refusal-spec : {M : Type 1} → statement M
 abort-refusal-spec = tie.close (tie.spec (λ c κs. search needs) returns)

@@ -8,12 +8,14 @@ use Rattle.step.proofs.judge.create_refusal.Tie as tie
 
 returns : tie.Need-returns
 unfolding layoutOf
-returns c = by-admission _ _ (c .before .party-refusal .ensures ∙ admission-parts _ _ _ _ refl refl) (c .if1 .taken)
+returns c = by-admission _ _ (c .before .party-refusal .ensures ∙ admission-parts _ _ _ _ refl refl refl)
+    (c .if1 .taken)
 
 returns-2 : tie.Need-returns-2
 unfolding layoutOf
 returns-2 c =
-    by-room _ _ (c .before .before .party-refusal .ensures ∙ admission-parts _ _ _ _ refl refl) (c .before .if1 .left)
+    by-room _ _ (c .before .before .party-refusal .ensures ∙ admission-parts _ _ _ _ refl refl refl)
+    (c .before .if1 .left)
     (c .create-room .ensures)
 
 pub create-refusal-spec : {M : Type 1} → statement M

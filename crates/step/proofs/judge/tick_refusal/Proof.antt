@@ -10,18 +10,19 @@ use Rattle.step.proofs.judge.tick_refusal.Tie as tie
 
 returns : tie.Need-returns
 unfolding layoutOf
-returns c = by-admission _ _ (c .before .party-refusal .ensures ∙ admission-parts _ _ _ _ refl refl) (c .if1 .taken)
+returns c = by-admission _ _ (c .before .party-refusal .ensures ∙ admission-parts _ _ _ _ refl refl refl)
+    (c .if1 .taken)
 
 returns-2 : tie.Need-returns-2
 unfolding noLease tooLate layoutOf
 returns-2 c =
-    by-room _ _ (c .before .before .before .party-refusal .ensures ∙ admission-parts _ _ _ _ refl refl)
+    by-room _ _ (c .before .before .before .party-refusal .ensures ∙ admission-parts _ _ _ _ refl refl refl)
     (c .before .before .if1 .left) (rw (sym (c .before .clock .ensures), le-leb _ _ (c .if2 .taken)))
 
 returns-3 : tie.Need-returns-3
 unfolding noLease tooLate entriesFull txnsFull noNumber layoutOf
 returns-3 c =
-    by-room _ _ (c .before .before .before .party-refusal .ensures ∙ admission-parts _ _ _ _ refl refl)
+    by-room _ _ (c .before .before .before .party-refusal .ensures ∙ admission-parts _ _ _ _ refl refl refl)
     (c .before .before .if1 .left) (rw (sym (c .before .clock .ensures), lt-leb _ _ (c .if2 .left)))
 
 pub tick-refusal-spec : {M : Type 1} → statement M

@@ -10,12 +10,13 @@ use Rattle.step.proofs.judge.write_refusal.Tie as tie
 returns : tie.Need-returns
 unfolding layoutOf
 returns c =
-    by-admission _ _ (c .before .party-refusal .ensures ∙ admission-parts _ _ _ _ (or-false _) refl) (c .if1 .taken)
+    by-admission _ _ (c .before .party-refusal .ensures ∙ admission-parts _ _ _ _ refl (or-false _) refl)
+    (c .if1 .taken)
 
 returns-2 : tie.Need-returns-2
 unfolding layoutOf
 returns-2 c =
-    by-room _ _ (c .before .before .party-refusal .ensures ∙ admission-parts _ _ _ _ (or-false _) refl)
+    by-room _ _ (c .before .before .party-refusal .ensures ∙ admission-parts _ _ _ _ refl (or-false _) refl)
     (c .before .if1 .left) (c .write-room .ensures)
 
 pub write-refusal-spec : {M : Type 1} → statement M

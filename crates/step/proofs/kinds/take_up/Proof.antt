@@ -28,6 +28,11 @@ abort-frame-requires c κs =
     let told = c .before .before .before .before in rw (told .q5 .given .1) at
     (told .before .before .before .before .pre)
 
+renew-frame-requires : tie.Need-renew-frame-requires
+renew-frame-requires c κs =
+    let told = c .before .before .before .before in rw (told .q6 .given .1) at
+    (told .before .before .before .before .pre)
+
 tick-frame-requires : tie.Need-tick-frame-requires
 tick-frame-requires c κs =
     let told = c .before .before .before in rw (told .enum-told .given .1) at
@@ -39,6 +44,8 @@ take-up-spec =
     (tie.spec
     (λ c. search needs) write-frame-requires (λ c. search needs) find-frame-requires (λ c. search needs)
     create-frame-requires (λ c. search needs) commit-frame-requires (λ c. search needs) abort-frame-requires
-    (λ c. search needs) tick-frame-requires (λ c. search needs) (λ c. search needs) (λ c. search needs)
+    (λ c. search needs) renew-frame-requires (λ c. search needs) tick-frame-requires (λ c. search needs)
+    (λ c. search needs) (λ c. search needs)
     (λ c. search needs) (λ c. search needs) (λ c. search needs) (λ c. search needs) (λ c. search needs)
-    (λ c. search needs) (λ c. search needs) (λ c. search needs) (λ c. search needs))
+    (λ c. search needs) (λ c. search needs) (λ c. search needs) (λ c. search needs) (λ c. search needs)
+    (λ c. search needs))

@@ -9,7 +9,7 @@ use Rattle.step.proofs.AddsLaws.{does-nothing, does-as}
 use Rattle.step.proofs.FinishLaws.{nothings-end, quiet-ends}
 use Rattle.step.proofs.KindLaws.{find-ends, own-find, looks-up}
 use Rattle.step.proofs.LookUpAnswers.{carries-as}
-use Rattle.step.proofs.SteppedLaws.{stepped-judged, stepped-done}
+use Rattle.step.proofs.SteppedLaws.{ready-for, stepped-judged, stepped-done}
 use Rattle.step.proofs.step.take_find.Statement.{statement}
 use Rattle.step.proofs.step.take_find.Tie as tie
 
@@ -44,7 +44,9 @@ returns-2 c =
     let l = start .args .l in
     let ws = carried .find .last .0 in
     stepped-done (start .pre .1) (start .pre .0) 0 (sym (test .before .find-refusal .ensures) ∙ test .if1 .left) (
-      λ ready. carries-as _ _ (own-find _ l) (carried .find .ensures (ready (looks-up (l .takes) (l .«if_exists»)))),
+      λ s. carries-as _ _ (own-find _ l) (carried .find .ensures
+          (ready-for _ (start .pre .0) (sym (test .before .find-refusal .ensures) ∙ test .if1 .left) s
+          (looks-up (l .takes) (l .«if_exists»)))),
       refl,
     )
     (own .add-record .ensures) Nothings (find-ends l Nothings refl refl (sym (inside .if2 .taken)))
@@ -59,7 +61,9 @@ returns-3 c =
     let l = start .args .l in
     let ws = carried .find .last .0 in
     stepped-done (start .pre .1) (start .pre .0) 0 (sym (test .before .find-refusal .ensures) ∙ test .if1 .left) (
-      λ ready. carries-as _ _ (own-find _ l) (carried .find .ensures (ready (looks-up (l .takes) (l .«if_exists»)))),
+      λ s. carries-as _ _ (own-find _ l) (carried .find .ensures
+          (ready-for _ (start .pre .0) (sym (test .before .find-refusal .ensures) ∙ test .if1 .left) s
+          (looks-up (l .takes) (l .«if_exists»)))),
       refl,
     )
     (own .add-record .ensures) Quiet (find-ends l Quiet refl refl (sym (c .if2 .left)))

@@ -23,7 +23,12 @@ returns c =
     (omega (arith, n .ensures .1))
     (n .ensures .0)
     (entry-back (s .args .e)
-    (record { readers-fit = omega (arith, s .good); blanks-fit = omega (arith, s .good); end-fits = s .pre .1 }))
+    (record {
+      readers-fit = omega (arith, s .good);
+      blanks-fit = omega (arith, s .good);
+      writer-fits = omega (arith, s .good);
+      end-fits = s .pre .1;
+    }))
     (c .before .before .put-entry .ensures) (c .set-entry-count .ensures))
 
 pub add-entry-spec : {M : Type 1} → statement M

@@ -19,7 +19,12 @@ returns c =
     let long = c .before .before .whole .ensures in
     let back =
     entry-back e
-    (record { readers-fit = omega (arith, s .good); blanks-fit = omega (arith, s .good); end-fits = s .pre .1 }) in
+    (record {
+      readers-fit = omega (arith, s .good);
+      blanks-fit = omega (arith, s .good);
+      writer-fits = omega (arith, s .good);
+      end-fits = s .pre .1;
+    }) in
     let turned = put entryTable ws (s .args .i) (entryWords e) refl (omega (arith, s .pre)) (omega (arith, long)) in (
       ap view (c .put-entry .ensures)
           ∙ view-entries _ ws turned
