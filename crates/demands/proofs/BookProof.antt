@@ -133,7 +133,7 @@ unfolding books enters told written stored found nothing waiting created create 
     renewed renew ticked refused dropEnded lookUpOf
 book-event {f} b (refuses m bs area q) s h =
     booked (told-still {f = f} (refuses m bs area q) s h refl) (fine h) (h .clock) (h .next-entry) (h .next-txn)
-        (h .live) (h .waiting)
+    (h .live) (h .waiting)
 book-event {f} b (asks m t a) s h =
     booked (told-still {f = f} (asks m t a) s h refl) (h .right) (h .clock) (h .next-entry) (h .next-txn) (h .live)
     (ap₂ (λ (l : List LookUp) (n : ℕ). l ++ (lookUpOf (withClock n empty) f ∷ [])) (h .waiting) (h .clock))
@@ -145,38 +145,38 @@ book-event {f} b (writes m t a) s h =
 book-event {f} b (is-found m w x ws o i av) s h =
     let r = named (found w x) w (itself w) (s .each) o in
     booked (told-still {f = f} (is-found m w x ws o i av) s h refl)
-        (counted h _ 1 (ap (count (names (found w x))) (h .waiting) ∙ r .1)) (h .clock) (h .next-entry) (h .next-txn)
+    (counted h _ 1 (ap (count (names (found w x))) (h .waiting) ∙ r .1)) (h .clock) (h .next-entry) (h .next-txn)
     (h .live) (ap (filterb (λ v. not (names (found w x) v))) (h .waiting) ∙ r .0)
 book-event {f} b (is-nothing m w ws o c) s h =
     let r = named (nothing w) w (itself w) (s .each) o in
     booked (told-still {f = f} (is-nothing m w ws o c) s h refl)
-        (counted h _ 1 (ap (count (names (nothing w))) (h .waiting) ∙ r .1)) (h .clock) (h .next-entry) (h .next-txn)
+    (counted h _ 1 (ap (count (names (nothing w))) (h .waiting) ∙ r .1)) (h .clock) (h .next-entry) (h .next-txn)
     (h .live) (ap (filterb (λ v. not (names (nothing w) v))) (h .waiting) ∙ r .0)
 book-event {f} b (is-waiting m w i q n d c) s h =
     booked (told-still {f = f} (is-waiting m w i q n d c) s h refl) (fine h) (h .clock) (h .next-entry) (h .next-txn)
-        (h .live) (h .waiting)
+    (h .live) (h .waiting)
 book-event {f} b (creates m t a) s h =
     booked (told-still {f = f} (creates m t a) s h refl) (counted h (m .nextTxn) (b .nextTxn) (sym (h .next-txn)))
-        (h .clock) (h .next-entry)
+    (h .clock) (h .next-entry)
     (ap (λ n. n + 1) (h .next-txn)) (ap₂ (λ (l : List LiveTold) (k : ℕ).
     l ++ (record { number = m .nextTxn; party = f .party; end = until k (f .leaseOrTimeout) } ∷ []))
     (h .live) (h .clock) ∙ sym (map-append told (m .txns) _)) (h .waiting)
 book-event {f} b (commits m t a) s h =
     booked (told-still {f = f} (commits m t a) s h refl) (fine h) (h .clock) (h .next-entry) (h .next-txn)
-        (ended h (f .txn)) (h .waiting)
+    (ended h (f .txn)) (h .waiting)
 book-event {f} b (aborts m t a) s h =
     booked (told-still {f = f} (aborts m t a) s h refl) (fine h) (h .clock) (h .next-entry) (h .next-txn)
-        (ended h (f .txn))
+    (ended h (f .txn))
     (ap (filterb (λ (w : LookUp). not (eqb (w .txn .0) (f .txn)))) (h .waiting))
 book-event {f} b (renews m t a) s h =
     booked (told-still {f = f} (renews m t a) s h refl) (fine h) (h .clock) (h .next-entry) (h .next-txn) (h .live)
-        (h .waiting)
+    (h .waiting)
 book-event {f} b (ticks m t a) s h =
     booked (told-still {f = f} (ticks m t a) s h refl) (fine h) (ap (λ n. n + 1) (h .clock)) (h .next-entry)
-        (h .next-txn) (h .live) (h .waiting)
+    (h .next-txn) (h .live) (h .waiting)
 book-event {f} b (excepts m t k i r) s h =
     booked (told-still {f = f} (excepts m t k i r) s h refl) (fine h) (h .clock) (h .next-entry) (h .next-txn)
-        (ended h (t .id .0))
+    (ended h (t .id .0))
     (ap (filterb (λ (w : LookUp). not (eqb (w .txn .0) (t .id .0)))) (h .waiting))
 book-event {f} b (expires m k) s h = booked (told-still {f = f} (expires m k) s h refl) (h .right) (h .clock)
     (h .next-entry) (h .next-txn) (h .live) (h .waiting)

@@ -201,7 +201,7 @@ each-ruled-out =
           let s =
           by-serial putsBackLate d (write-by 1 0 1 E ∷ create-by 1 9 ∷ take-by 1 1 0 7 ∷ a-tick ∷ abort-by 1 1 ∷ []) in
           List·Memᴰ·not-nil (s .same (record { number = 1; fields = markOf 0 E; end = Tick 1 }) .1
-              (List·Memᴰ·head refl));
+          (List·Memᴰ·head refl));
       own-read-bars = λ d.
           by-said ownReadBars d (write-by 1 0 9 E ∷ create-by 1 9 ∷ read-by 1 1 0 7 ∷ []) (take-by 1 1 0 7) refl refl
           (kindAt 0) (λ (q : 2 ≡ 3). omega arith);

@@ -45,7 +45,6 @@ only-one p h (List·Memᴰ·tail {x = z} {xs = zs} i) s (List·Memᴰ·tail j) t
     only-one p (let l = count-cons p z zs in omega arith) i s j t
 
 module _ (f : Frame) (m : Model) (s : Consistent m) (x : Renewable f m) where
-
   abbrev end : Until
   end = until (m .clock) (f .leaseOrTimeout)
 

@@ -575,8 +575,14 @@ module _ {ts us : List Txn} {x y : Txn} (p : Peers (x .id .0) ts us) (same : liv
       → Matched (Like (ts ++ (x ∷ [])) (us ++ (y ∷ []))) es xs
   entries-snoc h =
       matched-so h (Like (ts ++ (x ∷ [])) (us ++ (y ∷ [])))
-      (λ e u l. record { kept = l .kept; owner = l .owner; taker = l .taker; writer = l .writer; held = held-snoc
-      (l .held) })
+      (λ e u l. record {
+        kept = l .kept;
+        owner = l .owner;
+        taker = l .taker;
+        writer = l .writer;
+        held = held-snoc
+            (l .held);
+      })
 
 create-twins : (f : Frame) {m n : Model} → Twins m n → length (m .txns) < maxTxns → length (n .txns) < maxTxns
     → Twins (create m f .model) (create n f .model)

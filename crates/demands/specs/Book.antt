@@ -91,7 +91,7 @@ enters f a b =
       nextTxn = cond (eqb (a .kind) kindCreated) (b .nextTxn + 1) (b .nextTxn);
       writers =
           cond (eqb (a .kind) kindWritten) (record { number = a .entry .0; party = a .party } ∷ b .writers)
-              (b .writers);
+          (b .writers);
       live = liveAfter f a b;
       waiting = waitingAfter a b;
       right = b .right && rightly a b;

@@ -122,7 +122,7 @@ admitted m bs area c =
       renewable = renew-named f m (c .writer) (c .unheld);
       inside = λ z.
           ⊎-elim (λ t. inl (eqb-true (f .txn) 0 t)) (λ (t : eqb (f .txn) 0 ≡ false). inr
-              (own-named f m (c .own) (rw (z, t))))
+          (own-named f m (c .own) (rw (z, t))))
           (bool-cases (eqb (f .txn) 0));
       ends = λ t. own-named f m (c .own) (rw (t, or-true));
       free = λ t w i. none-waits m f t (c .free) i;
@@ -143,8 +143,11 @@ admitted m bs area c =
 pub over-is : (m : Model) (w : LookUp) → isOver m w ≡ true → Closes m w
 unfolding isOver
 over-is m w e =
-    ⊎-elim inl (λ z. inr (and-left _ (not (someConflicts (m .txns) w (m .entries))) z, not-true _
-    (and-right (w .«if_exists») _ z)))
+    ⊎-elim inl (λ z. inr (
+      and-left _ (not (someConflicts (m .txns) w (m .entries))) z,
+      not-true _
+          (and-right (w .«if_exists») _ z),
+    ))
     (or-cases (reached (m .clock) (w .deadline)) _ e)
 
 module _ (m : Model) (w : LookUp) (e : isOver m w ≡ false) where

@@ -91,7 +91,7 @@ none-event {f} z (writes m t a) s h =
 
     hidden : (w : LookUp) → List·Memᴰ w (m .waits) → available (m .txns) w (newEntry m f) ≡ true → ⊥
     hidden w i u =
-        ⊎-elim inside (λ q. ⊎-elim inside (λ y. not-inside s a (write-not-abort (f .op) t) y w i (sym q)) 
+        ⊎-elim inside (λ q. ⊎-elim inside (λ y. not-inside s a (write-not-abort (f .op) t) y w i (sym q))
         (a .inside (write-names (f .op) t)))
         (available-free (m .txns) w (newEntry m f) u .owner)
 none-event z (is-found m w e ws o i av) s h =

@@ -1,21 +1,11 @@
 //! What occurs with blanks (document 02, T-08).
 
 use super::hand_outs::look_up_of;
-use reference::answer::{Kind, Record};
+use super::situation::{entry_in, Step, Times};
+use reference::answer::Kind;
 use reference::frame::{mark_of, word, Mark, Refusal, NONE};
-use reference::space::{Entry, LookUp, Space};
+use reference::space::{Entry, LookUp};
 use std::collections::BTreeSet;
-
-/// How often a situation has occurred.
-type Times = (&'static str, usize);
-
-/// A frame of the history, as it was compared.
-struct Step<'a> {
-    before: &'a Space,
-    frame: &'a [u8],
-    records: &'a [Record],
-    after: &'a Space,
-}
 
 /// The entries with blanks of a history, by what has become of them.
 #[derive(Default)]
@@ -41,15 +31,6 @@ fn passes_over(look_up: &LookUp, entry: &Entry) -> bool {
 }
 
 impl Step<'_> {
-    fn own(&self, kind: Kind) -> bool {
-        self.records[0].is(kind)
-    }
-
-    /// The numbers of the entries handed out.
-    fn founds(&self) -> impl Iterator<Item = u32> + '_ {
-        self.records.iter().filter(|record| record.is(Kind::Found)).map(|record| record.entry)
-    }
-
     fn founds_among(&self, numbers: &BTreeSet<u32>) -> usize {
         self.founds().filter(|number| numbers.contains(number)).count()
     }
@@ -102,10 +83,9 @@ impl Step<'_> {
 
     /// The look-ups that wait on, though the step sets an entry free that has 0 where it is blank.
     fn waiting_on(&self) -> usize {
-        let entry_before = |number| self.before.entries.iter().find(|entry| entry.number == number);
         let waited = |look_up: &&LookUp| self.before.waiting.contains(look_up);
         let set_free = |look_up: &LookUp, entry: &Entry| {
-            passes_over(look_up, entry) && !entry_before(entry.number).is_some_and(|it| passes_over(look_up, it))
+            passes_over(look_up, entry) && !entry_in(self.before, entry.number).is_some_and(|it| passes_over(look_up, it))
         };
         let passed = |look_up: &&LookUp| self.after.entries.iter().any(|entry| set_free(look_up, entry));
         self.after.waiting.iter().filter(waited).filter(passed).count()
@@ -114,8 +94,7 @@ impl Step<'_> {
 
 impl Blanks {
     /// A frame that wrote some record has been compared.
-    pub fn step(&mut self, before: &Space, frame: &[u8], records: &[Record], after: &Space) -> Vec<Times> {
-        let step = Step { before, frame, records, after };
+    pub fn step(&mut self, step: &Step) -> Vec<Times> {
         if step.own(Kind::Refused) {
             return step.refused();
         }
@@ -126,7 +105,7 @@ impl Blanks {
         times.extend(step.written());
         times.extend(step.asked());
         if step.own(Kind::Committed) {
-            let public = step.private(records[0].transaction);
+            let public = step.private(step.records[0].transaction);
             times.push(("committed with blanks, found in the step", step.founds_among(&public)));
             self.committed.extend(public);
         }

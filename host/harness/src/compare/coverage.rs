@@ -3,6 +3,7 @@
 use super::blanks::Blanks;
 use super::hand_outs::{hand_outs, HandOut, FOUNDS};
 use super::renewals::Renewals;
+use super::situation::Step;
 use reference::answer::{Kind, Record};
 use reference::frame::{look_up_kind, word, Refusal, LOOK_UPS, NONE};
 use reference::space::{End, Entry, LookUp, Space, MOST_ENTRIES, MOST_TRANSACTIONS, MOST_WAITING};
@@ -150,8 +151,9 @@ impl Coverage {
         }
         let Some(own) = records.first() else { return };
         self.escape(before, frame, own, records.len());
-        let blanks = self.blanks.step(before, frame, records, after);
-        let renewals = self.renewals.step(before, frame, records, after);
+        let step = Step { before, frame, records, after };
+        let blanks = self.blanks.step(&step);
+        let renewals = self.renewals.step(&step);
         for (situation, times) in blanks.into_iter().chain(renewals) {
             self.note(situation, times);
         }

@@ -8,6 +8,7 @@ mod discrepancy;
 mod hand_outs;
 mod pair;
 mod renewals;
+mod situation;
 mod steps;
 mod tally;
 mod trays;

@@ -1,20 +1,10 @@
 //! What occurs with renewals (document 02, T-05).
 
-use reference::answer::{Kind, Record};
+use super::situation::{entry_in, Step, Times};
+use reference::answer::Kind;
 use reference::frame::{word, FOREVER, NONE};
-use reference::space::{End, Entry, Space};
+use reference::space::{End, Entry};
 use std::collections::{BTreeMap, BTreeSet};
-
-/// How often a situation has occurred.
-type Times = (&'static str, usize);
-
-/// A frame of the history, as it was compared.
-struct Step<'a> {
-    before: &'a Space,
-    frame: &'a [u8],
-    records: &'a [Record],
-    after: &'a Space,
-}
 
 /// What has become of the entries of a history.
 #[derive(Default)]
@@ -31,24 +21,11 @@ pub struct Renewals {
     removed: BTreeSet<u32>,
 }
 
-fn entry_in(space: &Space, number: u32) -> Option<&Entry> {
-    space.entries.iter().find(|entry| entry.number == number)
-}
-
 fn held(entry: &Entry) -> bool {
     entry.private_to != NONE || entry.taken_by != NONE || !entry.read_by.is_empty()
 }
 
 impl Step<'_> {
-    fn own(&self, kind: Kind) -> bool {
-        self.records[0].is(kind)
-    }
-
-    /// The numbers of the entries handed out.
-    fn founds(&self) -> impl Iterator<Item = u32> + '_ {
-        self.records.iter().filter(|record| record.is(Kind::Found)).map(|record| record.entry)
-    }
-
     /// The entry that a renewal names.
     fn named(&self) -> Option<&Entry> {
         entry_in(self.before, word(self.frame, 4))
@@ -119,11 +96,10 @@ impl Step<'_> {
 
 impl Renewals {
     /// A frame that wrote some record has been compared.
-    pub fn step(&mut self, before: &Space, frame: &[u8], records: &[Record], after: &Space) -> Vec<Times> {
-        let step = Step { before, frame, records, after };
+    pub fn step(&mut self, step: &Step) -> Vec<Times> {
         let refused = step.own(Kind::Refused);
-        if frame.first() == Some(&11) && (refused || step.own(Kind::Renewed)) {
-            return self.renewal(&step);
+        if step.frame.first() == Some(&11) && (refused || step.own(Kind::Renewed)) {
+            return self.renewal(step);
         }
         if refused {
             return Vec::new();
@@ -131,9 +107,9 @@ impl Renewals {
         let mut times =
             vec![("renewed, found later", step.founds().filter(|it| self.renewed.contains_key(it)).count())];
         if step.own(Kind::Ticked) {
-            times.extend(self.tick(&step));
+            times.extend(self.tick(step));
         }
-        self.follow(&step);
+        self.follow(step);
         times
     }
 

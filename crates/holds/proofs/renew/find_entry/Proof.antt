@@ -26,9 +26,10 @@ returns c =
     let ws = l .before .before .args .space .now in
     let is = c .entry-at .ensures in
     let its = ap (λ (e : Entry). e .id .0) is ∙ sym (seen .entry-number .ensures) ∙ c .before .if1 .taken in
-    let count = l .before .entry-count .ensures .0 in
-    (sym (search-found (entries-read ws) (l .loop .inv .1) (omega arith) is (eq-eqb _ _ its)),
-    (omega (arith, count), is))
+    let count = l .before .entry-count .ensures .0 in (
+      sym (search-found (entries-read ws) (l .loop .inv .1) (omega arith) is (eq-eqb _ _ its)),
+      (omega (arith, count), is),
+    )
 
 loop-again : tie.Need-loop-again Inv-loop μ-loop
 loop-again c =

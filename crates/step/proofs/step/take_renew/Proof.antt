@@ -98,14 +98,16 @@ returns-4 c =
     let a = start .args in
     let r = in-row known in
     let ws = done .renew-entry .last .0 in
-    stepped-done (start .pre .1) (start .pre .0) 0 (sym (judged (test .before)) ∙ test .if2 .left)
-    (λ s. record {
-      model = done .renew-entry .ensures
-          ∙ renew-row (view (a .space .now)) _ (a .id) (a .lease) _ _ s (found known)
-          (omega (arith, r .0, length-entries (a .space .now)))
-          (entry-in (a .space .now) _ _ (r .0) ∙ sym (r .1));
-      own = own .before .before .renewed-record .ensures;
-    }, refl) (own .add-record .ensures) _ (renew-quiet _ _ _)
+    stepped-done (start .pre .1) (start .pre .0) 0 (sym (judged (test .before)) ∙ test .if2 .left) (
+      λ s. record {
+        model = done .renew-entry .ensures
+            ∙ renew-row (view (a .space .now)) _ (a .id) (a .lease) _ _ s (found known)
+            (omega (arith, r .0, length-entries (a .space .now)))
+            (entry-in (a .space .now) _ _ (r .0) ∙ sym (r .1));
+        own = own .before .before .renewed-record .ensures;
+      },
+      refl,
+    ) (own .add-record .ensures) _ (renew-quiet _ _ _)
     (does-as (sym (quiet-ends 0 (view ws) (view-bounded ws .entries-fit))) (does-nothing _ _ _))
 
 pub take-renew-spec : {M : Type 1} → statement M
