@@ -85,7 +85,8 @@ impl Step<'_> {
     fn waiting_on(&self) -> usize {
         let waited = |look_up: &&LookUp| self.before.waiting.contains(look_up);
         let set_free = |look_up: &LookUp, entry: &Entry| {
-            passes_over(look_up, entry) && !entry_in(self.before, entry.number).is_some_and(|it| passes_over(look_up, it))
+            passes_over(look_up, entry)
+                && !entry_in(self.before, entry.number).is_some_and(|it| passes_over(look_up, it))
         };
         let passed = |look_up: &&LookUp| self.after.entries.iter().any(|entry| set_free(look_up, entry));
         self.after.waiting.iter().filter(waited).filter(passed).count()
