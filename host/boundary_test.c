@@ -1,6 +1,6 @@
 /* Document 01's sample tray through the C boundary, byte by byte, and its printed lines to standard output; null
  * pointers; what each function leaves in its buffers; the headers' builders, names and layout of the words; the lengths
- * of frames; the oldest entry first; blanks; renewals. */
+ * of frames; the oldest entry first; blanks; renewals; registrations and their bells. */
 #include <stdlib.h>
 #include "lines.h"
 #include "space_frames.h"
@@ -81,7 +81,7 @@ static void pass_nulls(void)
 
 static int is_operation(unsigned operation)
 {
-    return (operation >= 1 && operation <= 9) || operation == 11;
+    return operation >= 1 && operation <= 11;
 }
 
 static void build_frames(void)
@@ -98,6 +98,9 @@ static void build_frames(void)
           memcmp(frame, (uint8_t[]){7, 3, 0, 0, 2, 1, 0, 0}, 8) == 0, "a commit's frame");
     check(space_frame_abort(frame, 3, 258) == 8 &&
           memcmp(frame, (uint8_t[]){8, 3, 0, 0, 2, 1, 0, 0}, 8) == 0, "an abort's frame");
+    check(space_frame_notify(frame, 3, SPACE_MASK_SIDE, mark, 258) == 28 &&
+          memcmp(frame, (uint8_t[28]){10, 3, 2, 0, 0, 0, 0, 0, 2, 1, 0, 0, 0, 0, 0, 0, 1}, 28) == 0,
+          "a notify's frame, with fields that are not asked for");
     check(space_frame_renew(frame, 3, 258, 772) == 12 &&
           memcmp(frame, (uint8_t[]){11, 3, 0, 0, 2, 1, 0, 0, 4, 3, 0, 0}, 12) == 0, "a renew's frame");
     space_empty(space);
@@ -108,9 +111,9 @@ static void build_frames(void)
         check(there_is ? length > 0 && space_step_number(returned) != 2 && space_step_number(returned) != 3
                        : length == 0, "the lengths");
         check((strcmp(space_operation_name((uint8_t)operation), "?") != 0) == there_is, "the operations' names");
-        int is_kind = (operation >= 1 && operation <= 9) || operation == 12 || operation == 15;
+        int is_kind = (operation >= 1 && operation <= 12) || operation == 15;
         check((strcmp(space_record_name((uint8_t)operation), "?") != 0) == is_kind, "the kinds'");
-        int given = operation >= 1 && operation <= 20 && operation != 14 && operation != 17;
+        int given = operation >= 1 && operation <= 20 && operation != 14;
         check((strcmp(space_refusal_meaning((uint32_t)operation), "?") != 0) == given, "the refusals' meanings");
     }
 }
@@ -118,7 +121,7 @@ static void build_frames(void)
 /* The lengths of documents 01 and 02, for every operation byte and every length up to 64. */
 static void judge_lengths(void)
 {
-    static const size_t lengths[] = {0, 28, 28, 28, 28, 28, 12, 8, 8, 4, 0, 12};
+    static const size_t lengths[] = {0, 28, 28, 28, 28, 28, 12, 8, 8, 4, 28, 12};
     uint8_t any[64] = {0};
     for (unsigned operation = 0; operation < 256; operation++)
         for (size_t length = 1; length <= sizeof any; length++) {
@@ -149,6 +152,8 @@ static void read_words(void)
 {
     space_empty(space);
     step(space_frame_tick(frame));
+    step(space_frame_notify(frame, 6, SPACE_MASK_SIDE | SPACE_MASK_IMAGE, mark, 11));       /* 1, ends at 12 */
+    step(space_frame_notify(frame, 7, 0, mark, SPACE_FOREVER));                             /* 2 */
     step(space_frame_write(frame, 1, mark, 5, 0));                          /* entry 1, ends at 6 */
     step(space_frame_write_blanks(frame, 1, SPACE_MASK_KIND | SPACE_MASK_IMAGE, mark, 6, 0)); /* entry 2, ends at 7 */
     step(space_frame_write(frame, 1, mark, 7, 0));                          /* entry 3, ends at 8 */
@@ -161,10 +166,11 @@ static void read_words(void)
     check(space_record_at(answers, 0).entry == 3, "the one that is neither taken nor read nor private");
     step(space_frame_look_up(frame, SPACE_OP_TAKE, 5, SPACE_MASK_SIDE, (uint32_t[4]){0, 2, 0, 0}, 3, 0));
 
-    check(space[SPACE_WORD_CLOCK] == 1 && space[SPACE_WORD_NEXT_ENTRY] == 5 && space[SPACE_WORD_NEXT_TRANSACTION] == 3,
+    check(space[SPACE_WORD_CLOCK] == 1 && space[SPACE_WORD_NEXT_ENTRY] == 5 &&
+          space[SPACE_WORD_NEXT_TRANSACTION] == 3 && space[SPACE_WORD_NEXT_REGISTRATION] == 3,
           "the clock and the next numbers");
     check(space[SPACE_WORD_ENTRY_COUNT] == 3 && space[SPACE_WORD_TRANSACTION_COUNT] == 2 &&
-          space[SPACE_WORD_WAITING_COUNT] == 1, "the counts of rows");
+          space[SPACE_WORD_WAITING_COUNT] == 1 && space[SPACE_WORD_REGISTRATION_COUNT] == 2, "the counts of rows");
     check(row_is(SPACE_TRANSACTIONS_AT, SPACE_TRANSACTION_WORDS, 0, (uint32_t[]){1, 2, 10, 0}) &&
           row_is(SPACE_TRANSACTIONS_AT, SPACE_TRANSACTION_WORDS, 1, (uint32_t[]){2, 3, SPACE_FOREVER, 1}),
           "the transactions' rows");
@@ -175,11 +181,14 @@ static void read_words(void)
           row_is(SPACE_ENTRIES_AT, SPACE_ENTRY_WORDS, 2,
                  (uint32_t[]){4, 7, 1, 0, 9, SPACE_FOREVER, 2, 0, 256 * 4 + 65536 * 3}),
           "the entries' rows");
+    check(row_is(SPACE_REGISTRATIONS_AT, SPACE_REGISTRATION_WORDS, 0, (uint32_t[]){1, 6, 6, 0, 1, 40, 0, 12, 2}) &&
+          row_is(SPACE_REGISTRATIONS_AT, SPACE_REGISTRATION_WORDS, 1,
+                 (uint32_t[]){2, 7, 0, 0, 0, 0, 0, SPACE_FOREVER, 3}), "the registrations' rows");
     const uint32_t *second = space + SPACE_ENTRIES_AT + SPACE_ENTRY_WORDS;
     check(space_entry_readers(second) == 2 && space_entry_blanks(second) == (SPACE_MASK_KIND | SPACE_MASK_IMAGE) &&
           space_entry_writer(second) == 1 && space_entry_writer(second + SPACE_ENTRY_WORDS) == 3,
           "readers, blanks and writer by name");
-    check(SPACE_WORDS == 758, "the words of a space");
+    check(SPACE_WORDS == 832, "the words of a space");
 }
 
 static uint32_t found(uint8_t operation, uint8_t party, uint32_t transaction)
@@ -233,8 +242,8 @@ static size_t put_write(uint8_t mask, int field, uint32_t lease)
     return length;
 }
 
-/* Every mask of a write, with every field filled in turn and with none, stored or not; and of the frames that have no
- * blanks. */
+/* Every mask of a write, with every field filled in turn and with none, stored or not; and of the frames that have
+ * neither blanks nor a template. */
 static void judge_masks(void)
 {
     for (unsigned mask = 0; mask < 256; mask++) {
@@ -250,7 +259,7 @@ static void judge_masks(void)
                 check(!stored || space_entry_blanks(space + SPACE_ENTRIES_AT) == mask, "the mask is the blanks");
             }
         for (uint8_t operation = SPACE_OP_CREATE; operation <= SPACE_OP_RENEW; operation++) {
-            if (!is_operation(operation))
+            if (operation == SPACE_OP_NOTIFY)
                 continue;
             size_t length = space_frame(frame, operation, operation == SPACE_OP_TICK ? 0 : 1);
             frame[2] = (uint8_t)mask;
@@ -374,13 +383,146 @@ static void judge_renewals(void)
     check(step(space_frame_renew(frame, 1, 1, 1)).refusal == SPACE_REFUSAL_NO_ENTRY, "taken");
 }
 
-/* Words that frames did not make are read as host/space.h tells. */
-static void step_on_odd_words(void)
+/* Every template of a notify, with every field filled in turn and with none, is judged as a read's. */
+static void judge_templates(void)
 {
-    static uint32_t odd[SPACE_WORDS];
-    static uint8_t odd_answers[SPACE_STEP_BYTES];
-    static const uint32_t numbers[] = {11, 6, 8, 19, 20, 0, 0, 0, 0};
+    for (unsigned mask = 0; mask < 256; mask++)
+        for (int field = 0; field <= 4; field++) {
+            uint32_t numbers[2];
+            for (int i = 0; i < 2; i++) {
+                space_empty(space);
+                size_t length = space_frame_notify(frame, 1, 0, mark, 1);
+                frame[0] = i ? SPACE_OP_READ : SPACE_OP_NOTIFY;
+                frame[2] = (uint8_t)mask;
+                if (field < 4)
+                    frame[SPACE_FRAME_AT_FIELDS + 4 * field] = 1;
+                numbers[i] = step(length).refusal;
+            }
+            int asked = field == 4 || mask >> field & 1;
+            check(numbers[0] == (mask > 15 || !asked ? SPACE_REFUSAL_BAD_FORM : 0), "4, by a notify's template");
+            check(numbers[0] == numbers[1], "as a read's");
+        }
+}
+
+/* Carries out a frame that is not refused. The bytes behind its records are as they were; gives how many these are. */
+static uint32_t count_records(size_t length)
+{
+    memset(answers, 0xa5, SPACE_STEP_BYTES);
+    uint64_t returned = space_step(space, frame, length, answers, SPACE_STEP_BYTES);
+    size_t end = SPACE_RECORD_BYTES * (size_t)space_step_records(returned);
+    check(space_step_number(returned) == 0, "it is carried out");
+    check(all(answers + end, SPACE_STEP_BYTES - end, 0xa5), "bytes after the last record");
+    return space_step_records(returned);
+}
+
+/* Whether the record with this place is such a bell, to the last byte. */
+static int is_bell(uint32_t place, uint8_t party, uint32_t registration, uint32_t count, uint32_t total)
+{
+    uint8_t bell[SPACE_RECORD_BYTES] = {SPACE_RECORD_RUNG, party};
+    space_put_word(bell + SPACE_RECORD_AT_REGISTRATION, registration);
+    space_put_word(bell + SPACE_RECORD_AT_COUNT, count);
+    space_put_word(bell + SPACE_RECORD_AT_TOTAL, total);
+    return memcmp(answers + SPACE_RECORD_BYTES * place, bell, sizeof bell) == 0;
+}
+
+/* Bells stand behind all other records, by number. An entry that service hands out in the step counts; one that the
+ * transaction has taken again does not. */
+static void ring_bells(void)
+{
+    static const uint8_t notified[SPACE_RECORD_BYTES] = {10, 3, 0, 0, 0, 0, 0, 0, 1};
     space_empty(space);
+    check(count_records(space_frame_notify(frame, 3, SPACE_MASK_KIND, mark, SPACE_FOREVER)) == 1, "one record");
+    check(memcmp(answers, notified, sizeof notified) == 0, "a notify's record");
+    step(space_frame_notify(frame, 4, 0, mark, 1));                         /* registration 2 */
+    step(space_frame_notify(frame, 3, SPACE_MASK_KIND, (uint32_t[4]){8}, SPACE_FOREVER)); /* 3, which matches none */
+    step(space_frame_create(frame, 1, SPACE_FOREVER));                      /* transaction 1 */
+    for (int i = 0; i < 2; i++)
+        check(count_records(space_frame_write(frame, 1, mark, 9, 1)) == 1, "no bell for a private entry");
+    check(found(SPACE_OP_TAKE, 1, 1) == 1, "it takes one again");
+    for (uint8_t party = 5; party <= 6; party++)
+        step(space_frame_look_up(frame, SPACE_OP_TAKE_IF_EXISTS, party, SPACE_MASK_KIND, mark, SPACE_FOREVER, 0));
+    check(count_records(space_frame_commit(frame, 1, 1)) == 5, "committed, a found, a nothing, two bells");
+    check(space_record_at(answers, 1).kind == SPACE_RECORD_FOUND &&
+          space_record_at(answers, 2).kind == SPACE_RECORD_NOTHING, "founds and nothings first");
+    check(is_bell(3, 3, 1, 1, 1) && is_bell(4, 4, 2, 1, 1), "the bells of a commit");
+    step(space_frame_create(frame, 1, SPACE_FOREVER));                      /* transaction 2 */
+    for (int i = 0; i < 3; i++)
+        step(space_frame_write_blanks(frame, 1, i == 1 ? SPACE_MASK_KIND : 0, mark, 9, 2));
+    check(count_records(space_frame_commit(frame, 1, 2)) == 3, "committed, two bells");
+    check(is_bell(1, 3, 1, 2, 3) && is_bell(2, 4, 2, 3, 4), "counts and totals; a blank is not matched");
+    check(count_records(space_frame_write(frame, 3, mark, 9, 0)) == 3, "written, two bells");
+    check(is_bell(1, 3, 1, 1, 4) && is_bell(2, 4, 2, 1, 5), "the bells of a write, to its own party too");
+}
+
+/* All blanks against all templates that ask 0: a bell exactly if no blank is asked for. */
+static void ring_for_blanks(void)
+{
+    static const uint32_t zeros[4];
+    for (uint8_t blanks = 0; blanks < 16; blanks++)
+        for (uint8_t mask = 0; mask < 16; mask++) {
+            space_empty(space);
+            step(space_frame_notify(frame, 2, mask, zeros, 1));
+            uint32_t records = count_records(space_frame_write_blanks(frame, 1, blanks, zeros, 1, 0));
+            check(records == ((blanks & mask) == 0 ? 2 : 1), "a bell, unless 0 is asked of a blank");
+        }
+}
+
+/* No bell for what a step does not make public, nor once the registration has ended. */
+static void stay_silent(void)
+{
+    space_empty(space);
+    step(space_frame_notify(frame, 3, 0, mark, 2));                         /* registration 1, ends at 2 */
+    step(space_frame_notify(frame, 4, 0, mark, SPACE_FOREVER));             /* registration 2 */
+    check(count_records(space_frame_write(frame, 1, mark, 0, 0)) == 1, "lease 0");
+    check(count_records(space_frame_write(frame, 1, mark, SPACE_FOREVER, 0)) == 3, "both ring");
+    step(space_frame_create(frame, 1, SPACE_FOREVER));                      /* transaction 1 */
+    check(found(SPACE_OP_TAKE, 1, 1) == 2 && count_records(space_frame_abort(frame, 1, 1)) == 1, "an abort puts back");
+    step(space_frame_create(frame, 1, 1));                                  /* transaction 2, ends at 1 */
+    check(found(SPACE_OP_TAKE, 1, 2) == 2 && count_records(space_frame_tick(frame)) == 2, "so does an exception");
+    check(count_records(space_frame_renew(frame, 1, 2, 9)) == 1, "a renewal");
+    check(count_records(space_frame_tick(frame)) == 1 && space[SPACE_WORD_REGISTRATION_COUNT] == 1 &&
+          space[SPACE_REGISTRATIONS_AT + SPACE_REGISTRATION_NUMBER] == 2, "the first ends without a record");
+    check(count_records(space_frame_write(frame, 1, mark, SPACE_FOREVER, 0)) == 2, "one rings");
+    check(is_bell(1, 4, 2, 1, 2), "the other, which is left");
+    check(step(space_frame_notify(frame, 3, 0, mark, 1)).entry == 3, "a number is never used again");
+}
+
+/* 4, 5, 6, 9, 10 and 17, in this order: in each case all later ones would apply as well, 13 too. Then 13. */
+static void judge_notifies(void)
+{
+    static const struct { uint8_t party; uint32_t transaction, lease, number; } cases[] = {
+        {17, 1, 0, SPACE_REFUSAL_BAD_FORM}, {17, 0, 0, SPACE_REFUSAL_BAD_PARTY}, {3, 0, 0, SPACE_REFUSAL_PARTY_WAITS},
+        {1, 0, 0, SPACE_REFUSAL_WITHOUT_LEASE}, {1, 0, SPACE_FOREVER - 1, SPACE_REFUSAL_TOO_LATE},
+        {1, 0, SPACE_FOREVER - 2, SPACE_REFUSAL_REGISTRATIONS_FULL},
+        {1, 0, SPACE_FOREVER, SPACE_REFUSAL_REGISTRATIONS_FULL}};
+    static uint32_t before[SPACE_WORDS];
+    space_empty(space);
+    step(space_frame_tick(frame));
+    for (uint32_t i = 1; i <= SPACE_MAX_REGISTRATIONS; i++)
+        check(step(space_frame_notify(frame, 1, 0, mark, i == 5 ? 1 : SPACE_FOREVER - 2)).entry == i, "by number");
+    step(space_frame_look_up(frame, SPACE_OP_TAKE, 3, 0, mark, SPACE_FOREVER, 0));
+    space[SPACE_WORD_NEXT_REGISTRATION] = SPACE_FOREVER;
+    memcpy(before, space, sizeof space);
+    for (size_t i = 0; i < sizeof cases / sizeof cases[0]; i++) {
+        size_t length = space_frame_notify(frame, cases[i].party, 0, mark, cases[i].lease);
+        space_put_word(frame + SPACE_FRAME_AT_TRANSACTION, cases[i].transaction);
+        check(step(length).refusal == cases[i].number, "the order of a notify's refusals");
+        check(memcmp(before, space, sizeof space) == 0, "a refused notify leaves the space as it was");
+    }
+    step(space_frame_tick(frame));                                          /* registration 5 ends */
+    size_t length = space_frame_notify(frame, 1, 0, mark, 1);
+    check(step(length).refusal == SPACE_REFUSAL_NUMBERS_USED_UP, "13, with seven live");
+    space[SPACE_WORD_NEXT_REGISTRATION] = SPACE_FOREVER - 1;
+    check(step(length).entry == SPACE_FOREVER - 1, "the last number");
+    check(step(length).refusal == SPACE_REFUSAL_REGISTRATIONS_FULL, "17 before 13");
+}
+
+/* A space with each kind of row, and the same words as no frames make them: host/space.h tells how they are read. */
+static void make_odd(uint32_t odd[SPACE_WORDS])
+{
+    space_empty(space);
+    for (uint8_t party = 1; party <= SPACE_MAX_REGISTRATIONS; party++)
+        step(space_frame_notify(frame, party, SPACE_MASK_SIDE, (uint32_t[4]){0, 2, 0, 0}, SPACE_FOREVER));
     for (int i = 0; i < SPACE_MAX_ENTRIES; i++)
         step(space_frame_write_blanks(frame, 1, SPACE_MASK_IMAGE, mark, SPACE_FOREVER, 0));
     step(space_frame_create(frame, 2, SPACE_FOREVER));
@@ -388,8 +530,9 @@ static void step_on_odd_words(void)
     for (uint8_t party = 4; party >= 3; party--) /* parties 4, 3: read, take */
         step(space_frame_look_up(frame, party == 4 ? SPACE_OP_READ : SPACE_OP_TAKE, party, SPACE_MASK_SIDE,
                                  (uint32_t[4]){0, 2, 0, 0}, SPACE_FOREVER, 0));
-    memcpy(odd, space, sizeof odd);
+    memcpy(odd, space, sizeof space);
     odd[SPACE_WORD_ENTRY_COUNT] += 1000;
+    odd[SPACE_WORD_REGISTRATION_COUNT] += 1000;
     odd[SPACE_TRANSACTIONS_AT + SPACE_TRANSACTION_OWNER] += 256;
     odd[SPACE_TRANSACTIONS_AT + SPACE_TRANSACTION_SLOT] += 8;
     odd[SPACE_WAITING_AT + SPACE_WAITING_OPERATION] += 256;
@@ -399,22 +542,43 @@ static void step_on_odd_words(void)
     }
     for (uint32_t row = 0; row < SPACE_MAX_ENTRIES; row++)
         odd[SPACE_ENTRIES_AT + SPACE_ENTRY_WORDS * row + SPACE_ENTRY_READERS] += 16777216; /* writer modulo 256 */
-    for (int i = 0; i < 9; i++) {
-        size_t length = i == 0   ? space_frame_write(frame, 1, mark, 1, 0)         /* 11 */
-                        : i == 1 ? space_frame_write(frame, 3, mark, 1, 0)         /* 6 */
-                        : i == 2 ? space_frame_commit(frame, 1, 1)                 /* 8 */
-                        : i == 3 ? space_frame_renew(frame, 2, 64, 1)              /* 19 */
-                        : i == 4 ? space_frame_renew(frame, 1, 1, 1)               /* 20 */
-                        : i == 5 ? space_frame_renew(frame, 1, 64, 1)
-                        : i == 6 ? space_frame_look_up(frame, SPACE_OP_TAKE, 2, 0, mark, 0, 1)
-                        : i == 7 ? space_frame_commit(frame, 2, 1)
-                                 : space_frame_write(frame, 1, (uint32_t[4]){7, 2, 0, 0}, 1, 0); /* serves both */
+    for (uint32_t row = 0; row < SPACE_MAX_REGISTRATIONS; row++) {
+        odd[SPACE_REGISTRATIONS_AT + SPACE_REGISTRATION_WORDS * row + SPACE_REGISTRATION_PARTY] += 256;
+        odd[SPACE_REGISTRATIONS_AT + SPACE_REGISTRATION_WORDS * row + SPACE_REGISTRATION_MASK] += 256;
+    }
+}
+
+/* The frames that are carried out on both; behind each, its number. */
+static size_t put_next(int place)
+{
+    switch (place) {
+    case 0: return space_frame_write(frame, 1, mark, 1, 0);                 /* 11 */
+    case 1: return space_frame_write(frame, 3, mark, 1, 0);                 /* 6 */
+    case 2: return space_frame_commit(frame, 1, 1);                         /* 8 */
+    case 3: return space_frame_renew(frame, 2, 64, 1);                      /* 19 */
+    case 4: return space_frame_renew(frame, 1, 1, 1);                       /* 20 */
+    case 5: return space_frame_notify(frame, 1, 0, mark, 1);                /* 17 */
+    case 6: return space_frame_renew(frame, 1, 64, 1);
+    case 7: return space_frame_look_up(frame, SPACE_OP_TAKE, 2, 0, mark, 0, 1);
+    case 8: return space_frame_commit(frame, 2, 1);
+    default: return space_frame_write(frame, 1, (uint32_t[4]){7, 2, 0, 0}, 1, 0); /* serves both; eight bells */
+    }
+}
+
+static void step_on_odd_words(void)
+{
+    static uint32_t odd[SPACE_WORDS];
+    static uint8_t odd_answers[SPACE_STEP_BYTES];
+    static const uint32_t numbers[] = {11, 6, 8, 19, 20, 17, 0, 0, 0, 0};
+    make_odd(odd);
+    for (int i = 0; i < 10; i++) {
+        size_t length = put_next(i);
         memset(answers, 0xa5, SPACE_STEP_BYTES);
         memset(odd_answers, 0xa5, SPACE_STEP_BYTES);
         uint64_t returned = space_step(space, frame, length, answers, SPACE_STEP_BYTES);
         check(space_step(odd, frame, length, odd_answers, SPACE_STEP_BYTES) == returned, "odd words: returned");
         check(memcmp(answers, odd_answers, sizeof odd_answers) == 0, "odd words: the answers");
-        check(space_step_number(returned) == numbers[i] && space_step_records(returned) == (i == 8 ? 3 : 1),
+        check(space_step_number(returned) == numbers[i] && space_step_records(returned) == (i == 9 ? 11 : 1),
               "odd words: what each frame gives");
     }
 }
@@ -456,6 +620,8 @@ static void use_zeroed_words(void)
     check(created.kind == SPACE_RECORD_CREATED && created.transaction == 0, "transaction 0");
     check(step(space_frame_commit(frame, 2, 0)).refusal == SPACE_REFUSAL_NOT_LIVE, "it cannot be committed");
     check(step(space_frame_abort(frame, 2, 0)).refusal == SPACE_REFUSAL_NOT_LIVE, "it cannot be aborted");
+    struct space_record notified = step(space_frame_notify(frame, 3, 0, mark, 1));
+    check(notified.kind == SPACE_RECORD_NOTIFIED && notified.entry == 0, "registration 0");
     step(space_frame_write(frame, 2, mark, SPACE_FOREVER, 0));
     check(step(space_frame_look_up(frame, SPACE_OP_READ, 3, 0, mark, 0, 0)).kind == SPACE_RECORD_FOUND, "not private");
     check(space_step(space, frame, space_frame_tick(frame), answers, SPACE_STEP_BYTES) == 2, "its end");
@@ -480,6 +646,11 @@ int main(void)
     renew_entries();
     outlive_leases();
     judge_renewals();
+    judge_templates();
+    ring_bells();
+    ring_for_blanks();
+    stay_silent();
+    judge_notifies();
     step_on_odd_words();
     step_where_none_can_wait();
     use_zeroed_words();

@@ -51,9 +51,9 @@ static void release(uint8_t *memory)
  * number in place of a transaction's. */
 static size_t put_frame(uint8_t *frame, int operation, int party, uint32_t transaction, uint32_t duration)
 {
-    int is_look_up = operation >= SPACE_OP_READ && operation <= SPACE_OP_TAKE_IF_EXISTS;
+    int asks = (operation >= SPACE_OP_READ && operation <= SPACE_OP_TAKE_IF_EXISTS) || operation == SPACE_OP_NOTIFY;
     uint8_t blanks = operation == SPACE_OP_WRITE ? (uint8_t)(2 * below(8)) : 0;
-    uint8_t whole[SPACE_MAX_FRAME_BYTES] = {(uint8_t)operation, (uint8_t)party, is_look_up ? SPACE_MASK_KIND : blanks};
+    uint8_t whole[SPACE_MAX_FRAME_BYTES] = {(uint8_t)operation, (uint8_t)party, asks ? SPACE_MASK_KIND : blanks};
     size_t length = space_frame_bytes((uint8_t)operation);
     space_put_word(whole + SPACE_FRAME_AT_TRANSACTION, transaction);
     space_put_word(whole + SPACE_FRAME_AT_DURATION, duration);
@@ -65,12 +65,10 @@ static size_t put_frame(uint8_t *frame, int operation, int party, uint32_t trans
 /* A random frame, garbled in some cases. */
 static size_t make_frame(uint8_t frame[SPACE_MAX_FRAME_BYTES])
 {
-    static const int operations[] = {1, 2, 3, 4, 5, 6, 7, 8, 9, SPACE_OP_RENEW};
-    int operation = operations[below(10)];
+    int operation = 1 + (int)below(SPACE_OP_RENEW);
     int party = operation == SPACE_OP_TICK ? 0 : 1 + (int)below(5);
-    uint32_t transaction = operation == SPACE_OP_RENEW               ? below(30) /* an entry */
-                           : operation == SPACE_OP_CREATE || below(2) ? 0
-                                                                      : below(9);
+    int names_none = operation == SPACE_OP_CREATE || operation == SPACE_OP_NOTIFY || below(2);
+    uint32_t transaction = operation == SPACE_OP_RENEW ? below(30) /* an entry */ : names_none ? 0 : below(9);
     memset(frame, 0, SPACE_MAX_FRAME_BYTES);
     size_t length = put_frame(frame, operation, party, transaction, below(9) ? below(6) : odd_number());
     if (!below(12))
@@ -133,7 +131,7 @@ static void read_records(const uint8_t *answers, uint32_t records, int odd)
         uint32_t any = record[SPACE_RECORD_AT_BLANKS];
         for (int at = 4; at < SPACE_RECORD_BYTES; at += 4)
             any |= space_get_word(record + at);
-        if (record[0] == 0 || (record[0] > SPACE_RECORD_TICKED && record[0] != SPACE_RECORD_RENEWED && !refused))
+        if (record[0] == 0 || (record[0] > SPACE_RECORD_RENEWED && !refused))
             fail("a record", i);
         if (!(odd && found) && !blanks_fit(space_record_at(answers, i)))
             fail("a record's blanks", i);
@@ -193,11 +191,32 @@ static void run_longest_step(void)
         fail("the longest step", returned);
 }
 
+/* The longest step with bells: fifteen parties wait for what the sixteenth writes, and eight registrations hear of it.
+ * The area is as long as ever, and the records are one fewer than in a tick. */
+static void run_longest_ringing(void)
+{
+    static uint32_t fresh[SPACE_WORDS];
+    uint8_t frame[SPACE_MAX_FRAME_BYTES];
+    uint64_t returned = 0;
+    space_empty(fresh);
+    for (int i = 0; i < 24; i++) {
+        size_t frame_len = i < 8    ? put_frame(frame, SPACE_OP_NOTIFY, 9 + i, 0, SPACE_FOREVER)
+                           : i < 23 ? put_frame(frame, SPACE_OP_READ, i - 6, 0, SPACE_FOREVER)
+                                    : put_frame(frame, SPACE_OP_WRITE, 1, 0, SPACE_FOREVER);
+        uint8_t *answers = buffer(2, SPACE_STEP_BYTES);
+        returned = space_step(fresh, frame, frame_len, answers, SPACE_STEP_BYTES);
+        read_records(answers, space_step_records(returned), 0);
+        release(answers);
+    }
+    if (returned != SPACE_MAX_STEP_RECORDS - 1)
+        fail("the longest step with bells", returned);
+}
+
 /* 0, or a refusal of a frame. */
 static int is_frames_number(uint32_t number)
 {
     return number <= SPACE_REFUSAL_NUMBERS_USED_UP ||
-           (number >= SPACE_REFUSAL_NO_ENTRY && number <= SPACE_REFUSAL_ENTRY_HELD);
+           (number >= SPACE_REFUSAL_REGISTRATIONS_FULL && number <= SPACE_REFUSAL_ENTRY_HELD);
 }
 
 static void run_steps(void)
@@ -237,6 +256,7 @@ int main(int count, char **arguments)
         if (i % 10 == 0) {
             run_steps();
             run_longest_step();
+            run_longest_ringing();
         }
     }
     printf("%ld trays and %ld spaces, no error\n", trays, (trays + 9) / 10);

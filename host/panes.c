@@ -14,12 +14,14 @@ struct pane {
     struct space_record last;    /* the latest record that it got */
 };
 
+static void count_new(struct pane *pane);
 static void set_marks(struct pane *pane);
 static void report(struct pane *pane);
 static void show_findings(struct pane *pane);
 static void stumble(struct pane *pane);
 
 static struct pane panes[] = {
+    {.name = "thumbs", .party = 5, .turn = count_new},
     {.name = "marks", .party = 1, .turn = set_marks},
     {.name = "report", .party = 2, .turn = report},
     {.name = "strip", .party = 3, .turn = show_findings},
@@ -43,6 +45,8 @@ static void receive(struct pane *pane, struct space_record record)
 {
     printf("    to %s: ", pane->name);
     print_record(record);
+    if (record.kind == SPACE_RECORD_RUNG) /* answers no frame of the pane, whose look-up may wait on */
+        return;
     pane->last = record;
     switch (record.kind) {
     case SPACE_RECORD_WAITING: pane->waits = 1; break;
@@ -75,6 +79,14 @@ static void send(struct pane *sender, const uint8_t *frame, size_t length)
         if (to)
             receive(to, record);
     }
+}
+
+/* Registers in every seventh round, for five ticks: bells tell it of all marks and findings, and it need not ask. */
+static void count_new(struct pane *pane)
+{
+    uint8_t frame[SPACE_MAX_FRAME_BYTES];
+    if (round_number % 7 == 1)
+        send(pane, frame, space_frame_notify(frame, pane->party, 0, (uint32_t[4]){0}, 5));
 }
 
 /* Sets a mark in every seventh round, with a lease of three ticks, and renews it until it is refused: then somebody
@@ -151,7 +163,8 @@ int main(void)
                 panes[i].turn(&panes[i]);
         send(NULL, tick, space_frame_tick(tick));
     }
-    printf("at the end: %" PRIu32 " stored, %" PRIu32 " live, %" PRIu32 " waiting\n", space[SPACE_WORD_ENTRY_COUNT],
-           space[SPACE_WORD_TRANSACTION_COUNT], space[SPACE_WORD_WAITING_COUNT]);
+    printf("at the end: %" PRIu32 " stored, %" PRIu32 " live, %" PRIu32 " waiting, %" PRIu32 " registered\n",
+           space[SPACE_WORD_ENTRY_COUNT], space[SPACE_WORD_TRANSACTION_COUNT], space[SPACE_WORD_WAITING_COUNT],
+           space[SPACE_WORD_REGISTRATION_COUNT]);
     return 0;
 }

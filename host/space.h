@@ -18,12 +18,14 @@ extern "C" {
  * 2: of several available entries the one with the lowest number is found. 3: no refusal has the number 14.
  * 4: an abort of the transaction in which its party's look-up waits is carried out. 5: a waiting IfExists look-up with
  * no conflicting entry left gets nothing at once. 6: a write's mask tells blank fields, so does byte 3 of a found.
- * 7: an entry remembers the party that wrote it, which can renew it: operation 11, kind 12, refusals 18 to 20. */
-#define SPACE_VERSION 7
+ * 7: an entry remembers the party that wrote it, which can renew it: operation 11, kind 12, refusals 18 to 20.
+ * 8: a registration tells its party of new entries: operation 10, kinds 10 and 11, refusal 17, more words. */
+#define SPACE_VERSION 8
 
 #define SPACE_MAX_ENTRIES 64         /* entries stored at most */
 #define SPACE_MAX_TRANSACTIONS 8     /* transactions live at most */
 #define SPACE_MAX_WAITING 16         /* look-ups waiting at most */
+#define SPACE_MAX_REGISTRATIONS 8    /* registrations live at most */
 #define SPACE_MAX_PARTY 16           /* parties are 1 to 16 */
 #define SPACE_MAX_STEP_RECORDS 25    /* records of a step at most */
 #define SPACE_MAX_TRAY_BYTES 65536   /* bytes of a tray at most */
@@ -48,7 +50,8 @@ enum space_operation {
     SPACE_OP_COMMIT = 7,
     SPACE_OP_ABORT = 8,
     SPACE_OP_TICK = 9,
-    SPACE_OP_RENEW = 11              /* 10 is no operation */
+    SPACE_OP_NOTIFY = 10,
+    SPACE_OP_RENEW = 11
 };
 
 /* Lengths of frames. */
@@ -58,6 +61,7 @@ enum space_operation {
 #define SPACE_COMMIT_BYTES 8
 #define SPACE_ABORT_BYTES 8
 #define SPACE_TICK_BYTES 4
+#define SPACE_NOTIFY_BYTES 28        /* its transaction is 0 */
 #define SPACE_RENEW_BYTES 12
 #define SPACE_MAX_FRAME_BYTES 28
 
@@ -65,9 +69,9 @@ enum space_operation {
 #define SPACE_TRAY_COUNT_BYTES 4
 #define SPACE_TRAY_PAIR_BYTES 8
 
-/* Mask bits. In a look-up: the fields to which the template gives a value; the others must be 0. In a write: the fields
- * that are blank; these must be 0. In other frames the mask is 0. A template's value, be it 0, never matches a blank; a
- * field without one matches blanks and values alike. */
+/* Mask bits. In a look-up and a notify: the fields to which the template gives a value; the others must be 0. In a
+ * write: the fields that are blank; these must be 0. In other frames the mask is 0. A template's value, be it 0, never
+ * matches a blank; a field without one matches blanks and values alike. */
 #define SPACE_MASK_KIND 1
 #define SPACE_MASK_SIDE 2
 #define SPACE_MASK_IMAGE 4
@@ -78,7 +82,10 @@ enum space_operation {
 #define SPACE_RECORD_AT_BLANKS 3
 #define SPACE_RECORD_AT_TRANSACTION 4
 #define SPACE_RECORD_AT_ENTRY 8
+#define SPACE_RECORD_AT_REGISTRATION 8 /* of a notified and a rung, which name no entry */
 #define SPACE_RECORD_AT_FIELDS 12
+#define SPACE_RECORD_AT_COUNT 12     /* of a rung, in the place of kind: matching entries that the step made public */
+#define SPACE_RECORD_AT_TOTAL 16     /* of a rung, in the place of side: all since the registration, these too */
 
 /* A found record has the available entry with the lowest entry number, at once as in service: the oldest. So the
  * answer to every list of frames is fixed, to the last byte. */
@@ -92,12 +99,15 @@ enum space_record_kind {
     SPACE_RECORD_ABORTED = 7,
     SPACE_RECORD_EXCEPTION = 8,
     SPACE_RECORD_TICKED = 9,
+    SPACE_RECORD_NOTIFIED = 10,      /* a registration is made */
+    SPACE_RECORD_RUNG = 11,          /* its bell, behind all other records of the step, by registration number */
     SPACE_RECORD_RENEWED = 12,
     SPACE_RECORD_REFUSED = 15
 };
 
-/* Numbers 1 to 13 and 18 to 20 are of a frame, 15 and 16 of a tray; 0 is no refusal. 14 and 17 are never given out.
- * docs/MANUAL.md says what to do about each. A renew is judged by 1 to 6, 18, 19, 20 and 10, in this order. */
+/* Numbers 1 to 13 and 17 to 20 are of a frame, 15 and 16 of a tray; 0 is no refusal. 14 is never given out.
+ * docs/MANUAL.md says what to do about each. A notify is judged by 1 to 6, 9, 10, 17 and 13, in this order; a renew by
+ * 1 to 6, 18, 19, 20 and 10. */
 enum space_refusal {
     SPACE_REFUSAL_AREA_TOO_SMALL = 1,
     SPACE_REFUSAL_BAD_OPERATION = 2,
@@ -107,13 +117,14 @@ enum space_refusal {
     SPACE_REFUSAL_PARTY_WAITS = 6,
     SPACE_REFUSAL_NOT_LIVE = 7,
     SPACE_REFUSAL_NOT_OWNER = 8,
-    SPACE_REFUSAL_CREATE_WITHOUT_LEASE = 9,
+    SPACE_REFUSAL_WITHOUT_LEASE = 9, /* a create or a notify */
     SPACE_REFUSAL_TOO_LATE = 10,
     SPACE_REFUSAL_ENTRIES_FULL = 11,
     SPACE_REFUSAL_TRANSACTIONS_FULL = 12,
     SPACE_REFUSAL_NUMBERS_USED_UP = 13,
     SPACE_REFUSAL_BAD_TRAY = 15,
     SPACE_REFUSAL_BAD_PAIR = 16,
+    SPACE_REFUSAL_REGISTRATIONS_FULL = 17,
     SPACE_REFUSAL_NO_ENTRY = 18,     /* no stored entry has the number that a renew names */
     SPACE_REFUSAL_NOT_WRITER = 19,   /* another party wrote it */
     SPACE_REFUSAL_ENTRY_HELD = 20    /* it is private or held, be it by the party's own transaction */
@@ -128,10 +139,12 @@ enum space_refusal {
 #define SPACE_WORD_ENTRY_COUNT 3
 #define SPACE_WORD_TRANSACTION_COUNT 4
 #define SPACE_WORD_WAITING_COUNT 5
+#define SPACE_WORD_NEXT_REGISTRATION 6
+#define SPACE_WORD_REGISTRATION_COUNT 7
 
 /* Stored entries, by number. Readers: bit s for a read hold of the transaction in slot s. Blanks: mask bits. Writer:
  * the party that wrote it. */
-#define SPACE_ENTRIES_AT 6
+#define SPACE_ENTRIES_AT 8
 #define SPACE_ENTRY_NUMBER 0
 #define SPACE_ENTRY_FIELDS 1         /* kind, side, image, place */
 #define SPACE_ENTRY_END 5
@@ -160,13 +173,23 @@ enum space_refusal {
 #define SPACE_WAITING_DEADLINE 8
 #define SPACE_WAITING_WORDS 9
 
-#define SPACE_WORDS (SPACE_WAITING_AT + SPACE_WAITING_WORDS * SPACE_MAX_WAITING)
+/* Live registrations, by number. */
+#define SPACE_REGISTRATIONS_AT (SPACE_WAITING_AT + SPACE_WAITING_WORDS * SPACE_MAX_WAITING)
+#define SPACE_REGISTRATION_NUMBER 0
+#define SPACE_REGISTRATION_PARTY 1
+#define SPACE_REGISTRATION_MASK 2
+#define SPACE_REGISTRATION_FIELDS 3  /* kind, side, image, place */
+#define SPACE_REGISTRATION_END 7
+#define SPACE_REGISTRATION_TOTAL 8   /* matching entries made public since */
+#define SPACE_REGISTRATION_WORDS 9
+
+#define SPACE_WORDS (SPACE_REGISTRATIONS_AT + SPACE_REGISTRATION_WORDS * SPACE_MAX_REGISTRATIONS)
 
 /* SPACE_VERSION as the archive has it. A host calls it once: if the two differ, header and archive do not belong
  * together. */
 uint32_t space_version(void);
 
-/* Makes `space` the empty space: clock 0, nothing stored, live or waiting, 1 as both next numbers.
+/* Makes `space` the empty space: clock 0, nothing stored, live or waiting, 1 as each next number.
  * What the words held before does not matter. Words of 0 are no empty space: their next numbers are 0. */
 void space_empty(uint32_t space[SPACE_WORDS]);
 
@@ -178,10 +201,11 @@ void space_empty(uint32_t space[SPACE_WORDS]);
  * On words made in any other way the call ends and keeps to its buffers, and a refused frame is answered in the same
  * way. The words are read as tables: counts above the limits as the limits, a party, a mask, readers, blanks and a
  * writer modulo 256, a slot modulo 8, a waiting look-up's operation that is not 2 to 5 as 2. A frame that is carried
- * out gives what the rules give for these tables if they are sound, as all are that frames make: entries and
- * transactions stand by number, below the next numbers; what holds an entry is live; who waits is a party of 1 to 16,
- * once, outside transactions or in a live one of its own; no lease and no deadline is over; nobody waits who has an
- * available entry, or, of the IfExists kinds, who has no conflicting one (`Sound`, crates/rules/specs/Sound.antt). */
+ * out gives what the rules give for these tables if they are sound, as all are that frames make: entries, transactions
+ * and registrations stand by number, below the next numbers; what holds an entry is live; who waits is a party of 1 to
+ * 16, once, outside transactions or in a live one of its own; no lease of an entry and no deadline is over; nobody
+ * waits who has an available entry, or, of the IfExists kinds, who has no conflicting one; a registration's total, and
+ * the private entries with it, are no more than the next entry's number (`Sound`, crates/rules/specs/Sound.antt). */
 uint64_t space_step(uint32_t space[SPACE_WORDS], const uint8_t *frame, size_t frame_len,
                     uint8_t *answers, size_t answers_len);
 

@@ -10,7 +10,7 @@
 extern "C" {
 #endif
 
-/* The length of an operation's frame; 0 if the operation is not 1-9 or 11. */
+/* The length of an operation's frame; 0 if the operation is not 1-11. */
 static inline size_t space_frame_bytes(uint8_t operation)
 {
     switch (operation) {
@@ -21,6 +21,7 @@ static inline size_t space_frame_bytes(uint8_t operation)
     case SPACE_OP_COMMIT: return SPACE_COMMIT_BYTES;
     case SPACE_OP_ABORT: return SPACE_ABORT_BYTES;
     case SPACE_OP_TICK: return SPACE_TICK_BYTES;
+    case SPACE_OP_NOTIFY: return SPACE_NOTIFY_BYTES;
     case SPACE_OP_RENEW: return SPACE_RENEW_BYTES;
     default: return 0;
     }
@@ -58,18 +59,23 @@ static inline size_t space_frame_write(uint8_t *frame, uint8_t party, const uint
     return space_frame_write_blanks(frame, party, 0, fields, lease, transaction);
 }
 
-/* Read, take, readIfExists or takeIfExists. Fields whose bit in the mask is 0 are not looked at; the others match no
- * blank. Of several available entries the one with the lowest number is found. */
+/* Fields whose bit in the mask is 0 are not looked at; the others match no blank. */
+static inline void space_put_template(uint8_t *frame, uint8_t mask, const uint32_t fields[4])
+{
+    frame[2] = mask;
+    for (int i = 0; i < 4; i++)
+        if (mask >> i & 1)
+            space_put_word(frame + SPACE_FRAME_AT_FIELDS + 4 * i, fields[i]);
+}
+
+/* Read, take, readIfExists or takeIfExists. Of several available entries the one with the lowest number is found. */
 static inline size_t space_frame_look_up(uint8_t *frame, uint8_t operation, uint8_t party, uint8_t mask,
                                          const uint32_t fields[4], uint32_t timeout, uint32_t transaction)
 {
     size_t length = space_frame(frame, operation, party);
-    frame[2] = mask;
+    space_put_template(frame, mask, fields);
     space_put_word(frame + SPACE_FRAME_AT_TRANSACTION, transaction);
     space_put_word(frame + SPACE_FRAME_AT_DURATION, timeout);
-    for (int i = 0; i < 4; i++)
-        if (mask >> i & 1)
-            space_put_word(frame + SPACE_FRAME_AT_FIELDS + 4 * i, fields[i]);
     return length;
 }
 
@@ -99,6 +105,17 @@ static inline size_t space_frame_tick(uint8_t *frame)
     return space_frame(frame, SPACE_OP_TICK, 0);
 }
 
+/* The party registers: until the lease is over, it gets a rung record in each step in which entries that match become
+ * public, by a write or a commit. */
+static inline size_t space_frame_notify(uint8_t *frame, uint8_t party, uint8_t mask, const uint32_t fields[4],
+                                        uint32_t lease)
+{
+    size_t length = space_frame(frame, SPACE_OP_NOTIFY, party);
+    space_put_template(frame, mask, fields);
+    space_put_word(frame + SPACE_FRAME_AT_DURATION, lease);
+    return length;
+}
+
 /* The party renews an entry that it wrote: it ends at clock + lease then, with SPACE_FOREVER never; with lease 0 it is
  * removed. */
 static inline size_t space_frame_renew(uint8_t *frame, uint8_t party, uint32_t entry, uint32_t lease)
@@ -109,6 +126,8 @@ static inline size_t space_frame_renew(uint8_t *frame, uint8_t party, uint32_t e
     return length;
 }
 
+/* In a notified and a rung the entry is the registration's number; a rung's first field is its count, the second its
+ * total. */
 struct space_record {
     uint8_t kind, party, refusal, blanks;
     uint32_t transaction, entry, fields[4];
@@ -135,14 +154,15 @@ static inline struct space_record space_record_at(const uint8_t *answers, uint32
 static inline const char *space_operation_name(uint8_t operation)
 {
     static const char *const names[] = {"?", "write", "read", "take", "readIfExists", "takeIfExists", "create",
-                                        "commit", "abort", "tick", "?", "renew"};
+                                        "commit", "abort", "tick", "notify", "renew"};
     return operation < sizeof names / sizeof names[0] ? names[operation] : "?";
 }
 
 static inline const char *space_record_name(uint8_t kind)
 {
     static const char *const names[] = {"?", "written", "found", "nothing", "waiting", "created", "committed",
-                                        "aborted", "exception", "ticked", "?", "?", "renewed", "?", "?", "refused"};
+                                        "aborted", "exception", "ticked", "notified", "rung", "renewed", "?", "?",
+                                        "refused"};
     return kind < sizeof names / sizeof names[0] ? names[kind] : "?";
 }
 
@@ -157,14 +177,14 @@ static inline const char *space_refusal_meaning(uint32_t number)
     static const char *const meanings[] = {
         "?",
         "the answers area has under 700 bytes",
-        "the frame is empty, or its operation is not 1-9 or 11",
+        "the frame is empty, or its operation is not 1-11",
         "the frame's length is not its operation's",
-        "byte 3, the mask, a field that must be 0 or create's transaction is not as it must be",
+        "byte 3, the mask, a field that must be 0 or a create's or notify's transaction is not as it must be",
         "the party is not 1-16, or not 0 for tick",
         "the party has a waiting look-up that the frame does not withdraw",
         "the transaction is not live",
         "the transaction is another party's",
-        "create with lease 0",
+        "create or notify with lease 0",
         "the lease, the timeout or the tick ends after 4294967294",
         "64 entries are stored",
         "8 transactions are live",
@@ -172,7 +192,7 @@ static inline const char *space_refusal_meaning(uint32_t number)
         "?", /* 14 is never given out */
         "the tray is too short, too long or has too many frames",
         "a pair of the tray is out of order or runs past its end",
-        "?", /* nor is 17 */
+        "8 registrations are live",
         "no stored entry has that number",
         "another party wrote the entry",
         "the entry is private or held"};

@@ -8,7 +8,7 @@ use native.Mathlib.Omega.{arith}
 use lib.Dec.{eqb, ltb}
 use lib.ListN.{length}
 use borrow.Author.Tests.{le-leb, eq-eqb, ne-eqb, eqb-true, eqb-false}
-use Rattle.rules.specs.Numbers.{opWrite, opRead, opTakeIfExists, opCreate, opCommit, opAbort, lengthRefused}
+use Rattle.rules.specs.Numbers.{opWrite, opRead, opTakeIfExists, opCreate, opCommit, opAbort, opNotify, lengthRefused}
 use Rattle.rules.specs.Numbers.{formRefused, partyRefused}
 use Rattle.rules.specs.Frame.{Frame, frameLength, decode, byteAt, numberAt, fieldsAt, isOperation, Layout, layoutOf}
 use Rattle.rules.specs.Frame.{hasTemplate, hasBlanks, namesNoTxn}
@@ -82,6 +82,12 @@ module _ (f : Frame) where
   unfolding malformed layoutOf
   create-form e = rw e (simp or-false (ap (λ b. b || not (eqb (f .txn) 0)) no-mask))
 
+  pub notify-form : f .op ≡ opNotify
+      → malformed f
+      ≡ (not (eqb (f .byte3) 0) || ltb 15 (f .mask) || badTemplate (f .mask) (f .fields) || not (eqb (f .txn) 0))
+  unfolding malformed layoutOf
+  notify-form e = rw e (simp or-false)
+
   pub plain-form : hasTemplate (f .op) ≡ false → hasBlanks (f .op) ≡ false → namesNoTxn (f .op) ≡ false
       → malformed f ≡ (not (eqb (f .byte3) 0) || not (eqb (f .mask) 0))
   unfolding malformed
@@ -136,6 +142,19 @@ module _ (bs : List ℕ) (op : ℕ) (is : (op ≡ byteAt bs 0) × (isOperation o
   create-head e h =
       right-length _ h (create-form (decode bs) (sym (is .0) ∙ e)
       ∙ or-assoc (not (eqb (byteAt bs 3) 0)) (not (eqb (byteAt bs 2) 0)) (not (eqb (numberAt bs 4) 0)))
+
+  pub notify-head : op ≡ opNotify → length bs ≡ frameLength op
+      → formRefusal bs
+      ≡ headRefusal bs op
+      (ltb 15 (byteAt bs 2) || badTemplate (byteAt bs 2) (fieldsAt bs 12) || not (eqb (numberAt bs 4) 0))
+  unfolding decode
+  notify-head e h =
+      let filled = not (eqb (byteAt bs 3) 0) in
+      let high = ltb 15 (byteAt bs 2) in
+      let bad = badTemplate (byteAt bs 2) (fieldsAt bs 12) in
+      right-length _ h (notify-form (decode bs) (sym (is .0) ∙ e)
+      ∙ ap (λ b. b || not (eqb (numberAt bs 4) 0)) (or-assoc filled high bad)
+      ∙ or-assoc filled (high || bad) (not (eqb (numberAt bs 4) 0)))
 
   pub write-head : op ≡ opWrite → length bs ≡ frameLength op
       → formRefusal bs ≡ headRefusal bs op (ltb 15 (byteAt bs 2) || badBlanks (byteAt bs 2) (fieldsAt bs 12))

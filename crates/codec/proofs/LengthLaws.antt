@@ -7,7 +7,7 @@ use native.Mathlib.Omega.{arith}
 use lib.Dec.{eqb, leb, ltb}
 use lib.ListN.{List·getD-eq-default}
 use borrow.Author.Tests.{ltb-true, ltb-false}
-use Rattle.rules.specs.Numbers.{opTakeIfExists, opCreate, opAbort, opRenew}
+use Rattle.rules.specs.Numbers.{opTakeIfExists, opCreate, opAbort, opNotify, opRenew}
 use Rattle.rules.specs.Frame.{Layout, layouts, layoutOf, frameLength}
 use Rattle.rules.proofs.BoolLaws.{bool-cases}
 use Rattle.codec.specs.Lengths.{lengthByRule, LengthsAsBefore}
@@ -41,8 +41,9 @@ lengths-as-before op = ⊎-elim none one (bool-cases (ltb opRenew op))
     one t = up-to op (ltb-false opRenew op t)
 
 -- by the tests on the way to it
-pub length-is : (op : ℕ) {no-op fields lease txn : Bool} → (eqb op 0 || eqb op 10 || ltb opRenew op) ≡ no-op
-    → leb op opTakeIfExists ≡ fields → (leb op opCreate || eqb op opRenew) ≡ lease → leb op opAbort ≡ txn
+pub length-is : (op : ℕ) {no-op fields lease txn : Bool} → (eqb op 0 || ltb opRenew op) ≡ no-op
+    → (leb op opTakeIfExists || eqb op opNotify) ≡ fields → (leb op opCreate || eqb op opRenew) ≡ lease
+    → leb op opAbort ≡ txn
     → cond no-op 0 (cond fields 28 (cond lease 12 (cond txn 8 4))) ≡ frameLength op
 unfolding lengthByRule
 length-is op a b c d = rw (← lengths-as-before op, a, b, c, d)

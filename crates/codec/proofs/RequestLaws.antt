@@ -8,10 +8,10 @@ use native.Mathlib.Omega.{arith}
 use lib.Dec.{eqb, ltb}
 use lib.ListN.{length, List·getD-eq-default}
 use borrow.Author.Tests.{le-leb, eq-eqb, ne-eqb, eqb-true, not-false}
-use Rattle.rules.specs.Numbers.{opWrite, opRead, opTakeIfExists, opCreate, opCommit, opAbort, opTick, opRenew}
+use Rattle.rules.specs.Numbers.{opWrite, opRead, opTakeIfExists, opCreate, opCommit, opAbort, opTick, opNotify, opRenew}
 use Rattle.rules.specs.Numbers.{operationRefused}
 use Rattle.rules.specs.declared.Request.{Request}
-use Rattle.rules.specs.declared.Request.the-variants.{Write, Find, Create, Commit, Abort, Renew, Tick}
+use Rattle.rules.specs.declared.Request.the-variants.{Write, Find, Create, Commit, Abort, Renew, Notify, Tick}
 use Rattle.rules.specs.declared.Decoded.the-variants.{Asks, Refused}
 use Rattle.rules.specs.Frame.{Frame, decode, byteAt, numberAt, fieldsAt, layoutOf, frameLength, hasTemplate, namesNoTxn}
 use Rattle.rules.specs.Frame.{hasBlanks, Layout, layouts, isOperation, isTake, isIfExists}
@@ -30,7 +30,7 @@ pub no-operation : (bs : List ℕ) → isOperation (byteAt bs 0) ≡ false → D
 unfolding formRefusal noOperation decode
 no-operation bs o = refused bs operationRefused (rw (o, or-true)) (λ z. omega arith)
 
--- 0, 10 and what is above 11
+-- 0, and what is above 11
 pub unused : (op n : ℕ) → op ≡ n → isOperation n ≡ false → isOperation op ≡ false
 unused op n e t = ap isOperation e ∙ t
 
@@ -136,6 +136,16 @@ module _ (bs : List ℕ) (clear : formRefusal bs ≡ 0) where
       → Decodes bs (Asks (Renew (byteAt bs 1) (record { 0 = numberAt bs 4 }) (numberAt bs 8)))
   unfolding frameLength layoutOf
   renew-asks e = asks _ (plain opRenew e refl refl (omega arith))
+
+  pub notify-asks : byteAt bs 0 ≡ opNotify
+      → Decodes bs (Asks (Notify (record {
+        party = byteAt bs 1;
+        mask = byteAt bs 2;
+        lease = numberAt bs 8;
+        fields = fieldsAt bs 12;
+      })))
+  unfolding decode layoutOf
+  notify-asks e = asks _ (rw (formed .byte3, formed .txn (rw e), e))
 
   pub tick-asks : byteAt bs 0 ≡ opTick → Decodes bs (Asks Tick)
   unfolding frameLength layoutOf wrongParty decode

@@ -3,7 +3,7 @@ use Prim.Native.Nat.{ℕ}
 use mathlib.Core.Bool.{cond, _||_}
 use mathlib.Core.Path.{_≡_}
 use lib.Dec.{eqb, leb, ltb}
-use Rattle.rules.specs.Numbers.{opTakeIfExists, opCreate, opAbort, opRenew}
+use Rattle.rules.specs.Numbers.{opTakeIfExists, opCreate, opAbort, opNotify, opRenew}
 use Rattle.rules.specs.Frame.{frameLength}
 
 -- "The constant table of frame lengths is to go; the length is worked out from the operation instead." A frame ends
@@ -11,8 +11,8 @@ use Rattle.rules.specs.Frame.{frameLength}
 -- operation has no length.
 unfoldable pub lengthByRule : ℕ → ℕ
 lengthByRule op =
-    cond (eqb op 0 || eqb op 10 || ltb opRenew op) 0
-    (cond (leb op opTakeIfExists) 28
+    cond (eqb op 0 || ltb opRenew op) 0
+    (cond (leb op opTakeIfExists || eqb op opNotify) 28
     (cond (leb op opCreate || eqb op opRenew) 12
     (cond (leb op opAbort) 8 4)))
 

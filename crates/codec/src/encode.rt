@@ -18,6 +18,7 @@ use rules::Request;
 use rules::numbers::OP_ABORT;
 use rules::numbers::OP_COMMIT;
 use rules::numbers::OP_CREATE;
+use rules::numbers::OP_NOTIFY;
 use rules::numbers::OP_READ;
 use rules::numbers::OP_READ_IF_EXISTS;
 use rules::numbers::OP_RENEW;
@@ -113,6 +114,7 @@ pub fn put_frame(out: &mut [u8], q: Request) -> usize
         Request::Commit(party, txn) => put_plain(out, OP_COMMIT, party, txn.0, 0),
         Request::Abort(party, txn) => put_plain(out, OP_ABORT, party, txn.0, 0),
         Request::Renew(party, entry, lease) => put_plain(out, OP_RENEW, party, entry.0, lease),
+        Request::Notify(n) => { put_numbers(out, OP_NOTIFY, n.party, n.mask, 0, n.lease, n.fields) }
         Request::Tick => put_plain(out, OP_TICK, 0, 0, 0),
     }
 }

@@ -2,7 +2,8 @@
 ghost use mathlib.Core.Path.{_≡_};
 ghost use Prim.Native.Nat.{_≤_};
 ghost use lib.ListN.{length};
-ghost use Rattle.rules.specs.Numbers.{opWrite, opRead, opTakeIfExists, opCreate, opCommit, opAbort, opTick, opRenew};
+ghost use Rattle.rules.specs.Numbers.{opWrite, opRead, opTakeIfExists, opCreate, opCommit, opAbort, opTick, opNotify};
+ghost use Rattle.rules.specs.Numbers.{opRenew};
 ghost use Rattle.rules.specs.Frame.{byteAt, frameLength};
 ghost use Rattle.rules.specs.Refusals.{someFilled, badTemplate, badBlanks};
 ghost use Rattle.rules.specs.Requests.{Decodes};
@@ -22,6 +23,7 @@ use rules::Decoded;
 use rules::EntryId;
 use rules::Fields;
 use rules::FindRequest;
+use rules::NotifyRequest;
 use rules::Request;
 use rules::TxnId;
 use rules::WriteRequest;
@@ -31,6 +33,7 @@ use rules::numbers::MAX_PARTY;
 use rules::numbers::OP_ABORT;
 use rules::numbers::OP_COMMIT;
 use rules::numbers::OP_CREATE;
+use rules::numbers::OP_NOTIFY;
 use rules::numbers::OP_READ;
 use rules::numbers::OP_READ_IF_EXISTS;
 use rules::numbers::OP_RENEW;
@@ -110,18 +113,15 @@ fn head_refusal(frame: &[u8], op: u8, bad: bool) -> u8
     0
 }
 
-// Between tick and renew, and no operation.
-const UNUSED: u8 = 10;
-
 // The length of an operation's frames, worked out from the operation: a frame ends where the first part would begin
 // that its operation's frames do not have (fields, lease or timeout, transaction); 0 if it is no operation.
 pub(crate) fn length_of(op: u8) -> usize
     ensures { λ r. ⌜ r ≡ frameLength op ⌝ }
 {
-    if (op == 0) | (op == UNUSED) | (OP_RENEW < op) {
+    if (op == 0) | (OP_RENEW < op) {
         return 0;
     }
-    if op <= OP_TAKE_IF_EXISTS {
+    if (op <= OP_TAKE_IF_EXISTS) | (op == OP_NOTIFY) {
         return FIELDS_END;
     }
     if (op <= OP_CREATE) | (op == OP_RENEW) {
@@ -235,6 +235,29 @@ fn decode_tick(frame: &[u8]) -> Decoded
     Decoded::Asks(Request::Tick)
 }
 
+// As long as a read, and judged as one; it names no transaction.
+fn decode_notify(frame: &[u8]) -> Decoded
+    requires { ⌜ byteAt (now frame) 0 ≡ opNotify ⌝ }
+    ensures { λ r. ⌜ Decodes (now (frame .entry)) r ⌝ }
+{
+    if frame.len() != length_of(OP_NOTIFY) {
+        return Decoded::Refused(LENGTH_REFUSED);
+    }
+    let mask = frame[MASK_AT];
+    let fields = whole_fields(frame, FIELDS_AT);
+    let bad = (15 < mask) | is_bad_template(mask, fields);
+    let n = head_refusal(frame, OP_NOTIFY, bad | (whole_number(frame, TXN_AT) != 0));
+    if n != 0 {
+        return Decoded::Refused(n);
+    }
+    Decoded::Asks(Request::Notify(NotifyRequest {
+        party: frame[PARTY_AT],
+        mask,
+        lease: whole_number(frame, LEASE_AT),
+        fields,
+    }))
+}
+
 fn decode_renew(frame: &[u8]) -> Decoded
     requires { ⌜ byteAt (now frame) 0 ≡ opRenew ⌝ }
     ensures { λ r. ⌜ Decodes (now (frame .entry)) r ⌝ }
@@ -264,6 +287,7 @@ pub fn decode(frame: &[u8]) -> Decoded
         OP_CREATE => decode_create(frame),
         OP_COMMIT..=OP_ABORT => decode_ending(frame, op),
         OP_TICK => decode_tick(frame),
+        OP_NOTIFY => decode_notify(frame),
         OP_RENEW => decode_renew(frame),
         _ => Decoded::Refused(OPERATION_REFUSED),
     }

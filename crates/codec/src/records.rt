@@ -1,8 +1,8 @@
 // Answer records, and their 28 bytes: written, and read.
 ghost use mathlib.Core.Path.{_≡_};
 ghost use Rattle.rules.specs.Template.{markOf, bare};
-ghost use Rattle.rules.specs.Records.{noMark, plain, written, found, renewed, refused, recordAt};
-ghost use Rattle.rules.specs.declared.Request.the-variants.{Write, Renew};
+ghost use Rattle.rules.specs.Records.{noMark, plain, written, found, renewed, notified, rung, refused, recordAt};
+ghost use Rattle.rules.specs.declared.Request.the-variants.{Write, Renew, Notify};
 ghost use Rattle.rules.specs.Requests.{frameOf};
 ghost use Rattle.codec.specs.Area.{recordPut};
 use crate::bytes::byte_at;
@@ -23,12 +23,17 @@ use rules::EntryId;
 use rules::Fields;
 use rules::LookUp;
 use rules::Mark;
+use rules::NotifyRequest;
 use rules::Record;
+use rules::Registration;
+use rules::RegistrationId;
 use rules::TxnId;
 use rules::WriteRequest;
 use rules::numbers::KIND_FOUND;
+use rules::numbers::KIND_NOTIFIED;
 use rules::numbers::KIND_REFUSED;
 use rules::numbers::KIND_RENEWED;
+use rules::numbers::KIND_RUNG;
 use rules::numbers::KIND_WRITTEN;
 use rules::numbers::RECORD_SIZE;
 
@@ -140,6 +145,46 @@ pub fn renewed_record(party: u8, entry: EntryId, lease: u32) -> Record
     Record {
         kind: KIND_RENEWED,
         party,
+        refusal: 0,
+        txn,
+        entry,
+        fields,
+    }
+}
+
+// A registration has been made, with this number.
+pub fn notified_record(n: NotifyRequest, id: RegistrationId) -> Record
+    ensures { λ r. ⌜ r ≡ notified (frameOf (Notify n)) (id .0) ⌝ }
+{
+    let txn = TxnId(0);
+    let entry = EntryId(id.0);
+    let fields = no_mark();
+    Record {
+        kind: KIND_NOTIFIED,
+        party: n.party,
+        refusal: 0,
+        txn,
+        entry,
+        fields,
+    }
+}
+
+// Entries that a registration matches have been made public: so many in this step.
+pub fn rung_record(count: u32, g: Registration) -> Record
+    ensures { λ r. ⌜ r ≡ rung count g ⌝ }
+{
+    let txn = TxnId(0);
+    let entry = EntryId(g.id.0);
+    let fields = Mark {
+        kind: count,
+        side: g.total,
+        image: 0,
+        place: 0,
+        blanks: 0,
+    };
+    Record {
+        kind: KIND_RUNG,
+        party: g.party,
         refusal: 0,
         txn,
         entry,

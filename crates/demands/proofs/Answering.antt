@@ -4,7 +4,7 @@ use mathlib.Core.Bool.{Bool, true, false, not, _&&_, _||_}
 use mathlib.Core.Logic.{_⊎_, inl, inr}
 use mathlib.Core.Path.{_≡_, refl, sym, _∙_, subst, subst⁻¹}
 use mathlib.Core.Option.{Option, none, some}
-use mathlib.Core.List.{List, [], _∷_, _++_, List·Memᴰ·not-nil}
+use mathlib.Core.List.{List, [], _∷_, _++_}
 use native.Mathlib.Omega.{arith}
 use native.Mathlib.Nat.{pow-succ'}
 use borrow.Author.Tests.{eqb-true, eqb-false, ltb-false, not-false}
@@ -13,6 +13,7 @@ use lib.ListN.{length}
 use Rattle.rules.specs.declared.Entry.{Entry}
 use Rattle.rules.specs.declared.Txn.{Txn}
 use Rattle.rules.specs.declared.LookUp.{LookUp}
+use Rattle.rules.specs.declared.Registration.{Registration}
 use Rattle.rules.specs.Numbers.{maxParty}
 use Rattle.rules.specs.Lists.{findb, anyb, All}
 use Rattle.rules.specs.State.{Model, empty}
@@ -24,22 +25,25 @@ use Rattle.rules.specs.Refusals.{badTemplate, badBlanks, malformed, wrongParty,
 use Rattle.rules.specs.Step.{Outcome, step}
 use Rattle.rules.specs.Words.{view}
 use Rattle.rules.specs.Allowed.{Answered, Allowed}
-use Rattle.rules.specs.Sound.{Consistent}
+use Rattle.rules.specs.Notify.{newRegistration, hearing}
+use Rattle.rules.specs.Sound.{Consistent, Sound}
+use Rattle.rules.specs.Write.{newEntry}
 use Rattle.rules.proofs.ListLaws.{find-some, none-mem}
 use Rattle.rules.proofs.BoolLaws.{cond-cases, bool-cases, or-left, or-right}
 use Rattle.rules.proofs.RefusalLaws.{clear}
 use Rattle.rules.proofs.ReaderLaws.{bit-suc, no-bits}
 use Rattle.demands.specs.Machine.{Handed, Input, inputOf, theSpace, answeredBy, theRules}
 use Rattle.demands.specs.History.{inputsOf, EveryState}
-use Rattle.rules.specs.Write.{newEntry}
 use Rattle.sound.proofs.HoldLaws.{not-so}
 use Rattle.demands.proofs.Runs.{runs, made, made-keep}
 use Rattle.demands.proofs.ByRule.{space-follows, run-of}
 use Rattle.demands.proofs.JudgedProof.{number-is, refused-model}
 use Rattle.sound.proofs.Events.{Heard, Events, over, then}
 use Rattle.sound.proofs.EventsProof.{step-events}
-use Rattle.sound.proofs.Becomes.{waits-all, txns-all, written-all}
-use Rattle.sound.proofs.ConsistentProof.{consistent-events, consistent-empty, consistent-event}
+use Rattle.sound.proofs.AllLaws.{all-none}
+use Rattle.sound.proofs.Becomes.{waits-all, txns-all, written-all, registrations-all}
+use Rattle.sound.proofs.ConsistentProof.{consistent-event}
+use Rattle.sound.proofs.SoundProof.{sound-empty, sound-step}
 use Rattle.demands.proofs.ByEvents.{consistent}
 use Rattle.demands.proofs.Capacities.{bounded}
 use Rattle.demands.proofs.BoundsProof.{timely}
@@ -96,21 +100,28 @@ NarrowWait w = (w .party < 256) × (w .mask < 256)
 abbrev NarrowEntry : Entry → Type 0
 NarrowEntry e = (e .fields .blanks < 256) × (e .writer < 256)
 
-abbrev Narrow : Model → Type 0
-Narrow m = All NarrowTxn (m .txns) × All NarrowWait (m .waits) × All NarrowEntry (m .entries)
+abbrev NarrowRegistration : Registration → Type 0
+NarrowRegistration g = (g .party < 256) × (g .mask < 256)
+
+record Narrow (m : Model) : Type 0 where
+  txns : All NarrowTxn (m .txns)
+  waits : All NarrowWait (m .waits)
+  entries : All NarrowEntry (m .entries)
+  registrations : All NarrowRegistration (m .registrations)
 
 narrow-events : {f : Frame} {m n : Model} {hs : List Heard} → f .party < 256 → f .mask < 256 → Events f m hs n
     → Consistent m → Narrow m → Narrow n
-unfolding lookUpOf newEntry
+unfolding lookUpOf newEntry newRegistration hearing
 narrow-events p k over s h = h
 narrow-events p k (then {m} e rest) s h =
-    narrow-events p k rest (consistent-event e s) (
-      txns-all NarrowTxn e (λ _ _. (p, slot-fits (m .txns))) (h .0),
-      waits-all NarrowWait e (λ _ _. (p, k)) (h .1),
-      written-all (λ n x w. (x .blanks < 256) × (w < 256)) e (s .ordered) (λ _ _. (k, p)) (h .2),
-    )
+    narrow-events p k rest (consistent-event e s) (record {
+      txns = txns-all NarrowTxn e (λ _ _. (p, slot-fits (m .txns))) (h .txns);
+      waits = waits-all NarrowWait e (λ _ _. (p, k)) (h .waits);
+      entries = written-all (λ n x w. (x .blanks < 256) × (w < 256)) e (s .ordered) (λ _ _. (k, p)) (h .entries);
+      registrations = registrations-all NarrowRegistration e (λ _ _. (p, k)) (λ es g i. i) (h .registrations);
+    })
 
-narrow-step : (i : Input) (m : Model) → Consistent m × Narrow m → Narrow (step m (i .frame) (i .area) .model)
+narrow-step : (i : Input) (m : Model) → Sound m × Narrow m → Narrow (step m (i .frame) (i .area) .model)
 narrow-step i m (s, h) = go (bool-cases (eqb (refusal m (i .frame) (i .area)) 0))
   where
     go : (eqb (refusal m (i .frame) (i .area)) 0 ≡ true) ⊎ (eqb (refusal m (i .frame) (i .area)) 0 ≡ false)
@@ -118,23 +129,15 @@ narrow-step i m (s, h) = go (bool-cases (eqb (refusal m (i .frame) (i .area)) 0)
     go (inl z) =
         let c = clear m (i .frame) (i .area) (eqb-true _ 0 z) in
         let f = decode (i .frame) in
-        let e = step-events m (i .frame) (i .area) (s .ordered .txns) in
-        narrow-events (party-fits f (c .party)) (mask-fits f (c .form)) e s h
+        let e = step-events m (i .frame) (i .area) s in
+        narrow-events (party-fits f (c .party)) (mask-fits f (c .form)) e (s .consistent) h
     go (inr z) = subst⁻¹ Narrow (refused-model m (i .frame) (i .area) (eqb-false _ 0 z)) h
 
 narrow : (is : List Input) → Narrow (made is)
 narrow is =
-    made-keep (λ m. Consistent m × Narrow m)
-    (λ i m h. (
-      consistent-events (step-events m (i .frame) (i .area) (h .0 .ordered .txns)) (h .0),
-      narrow-step i m h,
-    )) (
-      consistent-empty,
-      (
-        (λ t i. absurd (List·Memᴰ·not-nil i)),
-        (λ w i. absurd (List·Memᴰ·not-nil i)),
-        λ e i. absurd (List·Memᴰ·not-nil i),
-      ),
+    made-keep (λ m. Sound m × Narrow m) (λ i m h. (sound-step m (i .frame) (i .area) (h .0), narrow-step i m h)) (
+      sound-empty,
+      record { txns = all-none _; waits = all-none _; entries = all-none _; registrations = all-none _ },
     ) is .1
 
 fits : (is : List Input) → Fits (made is)
@@ -145,13 +148,14 @@ fits is =
     record {
       bounded = bounded is;
       entries = λ x i. (
-        bits-below 8 (x .readers) (λ p t. let y = s .held x i .readers p t in let l = n .0 (y .0) (y .1) .1 in
+        bits-below 8 (x .readers) (λ p t. let y = s .held x i .readers p t in let l = n .txns (y .0) (y .1) .1 in
             let q = y .2 in omega arith),
-        n .2 x i,
+        n .entries x i,
         e .entries x i,
       );
-      txns = λ t i. (n .0 t i .0, n .0 t i .1, e .txns t i);
-      waits = λ w i. (n .1 w i .0, n .1 w i .1, e .waits w i);
+      txns = λ t i. (n .txns t i .0, n .txns t i .1, e .txns t i);
+      waits = λ w i. (n .waits w i .0, n .waits w i .1, e .waits w i);
+      registrations = λ g i. (n .registrations g i .0, n .registrations g i .1, e .registrations g i);
     }
 
 -- ---- every frame is answered

@@ -25,7 +25,8 @@ use Rattle.rules.specs.Write.{stored}
 use Rattle.rules.specs.LookUp.{lookUpOf, givesNothing, asked}
 use Rattle.rules.specs.Transactions.{create, commit, abort}
 use Rattle.rules.specs.Renew.{renew}
-use Rattle.rules.specs.Tick.{dropEnded}
+use Rattle.rules.specs.Notify.{notify, heardOf}
+use Rattle.rules.specs.Tick.{tick, unregistered, dropEnded}
 use Rattle.rules.specs.Closing.{closeWaits}
 use Rattle.rules.specs.Refusals.{refusal}
 use Rattle.rules.specs.Step.{Outcome, step}
@@ -42,7 +43,8 @@ use Rattle.sound.proofs.AllLaws.{out-or}
 use Rattle.sound.proofs.HoldLaws.{equal-or, eqb-cases}
 use Rattle.sound.proofs.EachLaws.{Each, same-party}
 use Rattle.sound.proofs.Events.{Admitted, Closes, Heard, asking, saying, says, Event, refuses, asks, writes, is-found}
-use Rattle.sound.proofs.Events.{is-nothing, is-waiting, creates, commits, aborts, renews, ticks, excepts, expires}
+use Rattle.sound.proofs.Events.{is-nothing, is-waiting, creates, commits, aborts, renews, notifies, ticks, excepts}
+use Rattle.sound.proofs.Events.{expires, rings}
 use Rattle.sound.proofs.Becomes.{clock-moves}
 use Rattle.sound.proofs.EventsProof.{over-is, Shut, AtOnce, Rested, Carries, step-carries}
 use Rattle.sound.proofs.Consistent.{owner-inside}
@@ -73,7 +75,7 @@ nothing-left m k bs area n w i j = ⊎-elim over-now at-once (r .closed (nothing
     f = decode bs
 
     c : Admitted f m × Carries f m (step m bs area .records) (step m bs area .model)
-    c = step-carries m bs area (k .consistent .ordered .txns) n
+    c = step-carries m bs area k n
 
     r : Rested f m (step m bs area .records) (step m bs area .model)
     r = c .1 .rested
@@ -113,16 +115,18 @@ nothing-shuts w = rw (itself w (nothing w) refl refl)
 
 -- where a transaction ends, it waits on, outside, or inside is closed by the record of the end
 shut-or : (w : LookUp) (a : Record) (t : ℕ) {ws : List LookUp} → List·Memᴰ w ws
-    → (w .txn .0 ≡ t → List·Memᴰ w (filterb (λ v. not (eqb (v .txn .0) t)) ws) ⊎ (anyb (shuts w) (saying a ∷ []) ≡ true))
+    → (w .txn .0 ≡ t → List·Memᴰ w (filterb (λ v. not (eqb (v .txn .0) t)) ws) ⊎
+    (anyb (shuts w) (saying a ∷ []) ≡ true))
     → List·Memᴰ w (filterb (λ v. not (eqb (v .txn .0) t)) ws) ⊎ (anyb (shuts w) (saying a ∷ []) ≡ true)
 shut-or w a t i inside =
     ⊎-elim inside (λ d. inl (filter-mem (λ v. not (eqb (v .txn .0) t)) i (ap not (ne-eqb (w .txn .0) t d))))
     (equal-or (w .txn .0) t)
 
 -- it waits on, or is closed
-waits-or : {f : Frame} {m n : Model} {hs : List Heard} (w : LookUp) → Event f m hs n → Consistent m → List·Memᴰ w (m .waits)
+waits-or : {f : Frame} {m n : Model} {hs : List Heard} (w : LookUp) → Event f m hs n → Consistent m
+    → List·Memᴰ w (m .waits)
     → List·Memᴰ w (n .waits) ⊎ (anyb (shuts w) hs ≡ true)
-unfolding stored create commit abort renew dropEnded aborted exception
+unfolding stored heardOf create commit abort renew notify tick unregistered dropEnded aborted exception
 waits-or w (refuses m bs area q) s i = inl i
 waits-or w (asks m t a) s i = inl (Memᴰ·append-left _ i)
 waits-or w (writes m t a) s i = inl i
@@ -140,11 +144,13 @@ waits-or {f} w (aborts m t a) s i =
     let y = a .ends (abort-ends (f .op) t) in
     shut-or w (aborted f) (f .txn) i
     (λ q. inr (rw (itself w (aborted f) (sym (owner-inside s y w i q)) (sym q))))
+waits-or w (notifies m t a) s i = inl i
 waits-or w (ticks m t a) s i = inl i
 waits-or w (excepts m t k j r) s i =
     shut-or w (exception t) (t .id .0) i
     (λ q. inr (rw (itself w (exception t) (sym (owner-inside s (t, j, refl, refl) w i q)) (sym q))))
 waits-or w (expires m k) s i = inl i
+waits-or w (rings m c g j l) s i = inl i
 
 -- the records in order
 collects : Reader (List Record)
@@ -182,7 +188,7 @@ collected =
     same false rs = refl
 
 -- the ticked records count the clock on
-clock-counts : (m : Model) (js : List Input) → Consistent m
+clock-counts : (m : Model) (js : List Input) → Sound m
     → runs m js .model .clock ≡ m .clock + count isTicked (answersTo m js)
 unfolding answersTo
 clock-counts m js s =
@@ -203,7 +209,7 @@ unfolding answersTo reached
 closed m js w d k i q l =
     ⊎-elim (λ j. absurd (true≢false
     (sym over ∙ ap (reached (n .clock)) (sym q) ∙ keep-runs Sound sound-kept m js k .ahead w j))) (λ c. c)
-    (subst (Q n) (collected (runs m js .log) []) (runs-keep collects Q keeps m [] js (k .consistent) (inl i) .1))
+    (subst (Q n) (collected (runs m js .log) []) (runs-keep collects Q keeps m [] js k (inl i) .1))
   where
     n : Model
     n = runs m js .model
@@ -220,7 +226,7 @@ closed m js w d k i q l =
         (waits-or w e s j)) (λ c. inr (any-heard p f hs rs ∙ ap (λ x. x || anyb (says p) hs) c))
 
     over : reached (n .clock) (Tick d) ≡ true
-    over = le-leb d (n .clock) (omega (arith, l, clock-counts m js (k .consistent)))
+    over = le-leb d (n .clock) (omega (arith, l, clock-counts m js k))
 
 pub answersTo-cons : (m : Model) (i : Input) (is : List Input) → answersTo m (i ∷ is)
     ≡ step m (i .frame) (i .area) .records ++ answersTo (step m (i .frame) (i .area) .model) is
@@ -266,7 +272,7 @@ in-time is i js n l f h =
         omega (
           arith,
           h,
-          clock-counts m (i ∷ []) (sound is .consistent),
+          clock-counts m (i ∷ []) (sound is),
           ap (count isTicked) (answersTo-cons m i js) ∙ count-append isTicked (o .records) (answersTo (o .model) js),
           ap (count isTicked) (answersTo-cons m i []) ∙ count-append isTicked (o .records) [],
         )

@@ -19,24 +19,24 @@ use Rattle.rules.specs.Time.{until}
 use Rattle.rules.specs.State.{Model, empty, withClock}
 use Rattle.rules.specs.Frame.{Frame}
 use Rattle.rules.specs.Records.{written, found, nothing, waiting, created, committed, aborted, exception, ticked}
-use Rattle.rules.specs.Records.{renewed, refused}
+use Rattle.rules.specs.Records.{renewed, notified, rung, refused}
 use Rattle.rules.specs.Write.{stored}
 use Rattle.rules.specs.LookUp.{lookUpOf}
 use Rattle.rules.specs.Transactions.{create, withoutTxn, commit, abort}
 use Rattle.rules.specs.Renew.{renew}
-use Rattle.rules.specs.Tick.{dropEnded}
+use Rattle.rules.specs.Notify.{notify, heardOf}
+use Rattle.rules.specs.Tick.{tick, unregistered, dropEnded}
 use Rattle.rules.specs.Sound.{ofParty, Consistent}
 use Rattle.rules.proofs.ListLaws.{filter-filter, filter-pass, length-filter, count, count-cons, count-mem}
 use Rattle.demands.specs.Machine.{Input}
-use Rattle.demands.specs.Book.{WrittenBy, writerOf}
-use Rattle.demands.specs.Book.{LiveTold, Book, newBook, names, enters, entersAll, withAsked, arrives, keepBook}
-use Rattle.demands.specs.Book.{bookOf, Booked}
+use Rattle.demands.specs.Book.{WrittenBy, writerOf, LiveTold, Book, newBook, names, enters, entersAll, withAsked}
+use Rattle.demands.specs.Book.{arrives, keepBook, bookOf, Booked}
 use Rattle.demands.proofs.Runs.{runs, made}
 use Rattle.sound.proofs.AllLaws.{all-none, filter-map, Out, here, there}
 use Rattle.sound.proofs.HoldLaws.{not-so}
 use Rattle.sound.proofs.EachLaws.{Each}
 use Rattle.sound.proofs.Events.{Heard, Event, refuses, asks, writes, is-found, is-nothing, is-waiting, creates, commits}
-use Rattle.sound.proofs.Events.{aborts, renews, ticks, excepts, expires}
+use Rattle.sound.proofs.Events.{aborts, renews, notifies, ticks, excepts, expires, rings}
 use Rattle.sound.proofs.Becomes.{written-all}
 use Rattle.sound.proofs.ConsistentProof.{consistent-event}
 use Rattle.demands.proofs.ByEvents.{Reader, hearsAll, reads-log, made-keep}
@@ -130,7 +130,7 @@ told-still {m = m} {b = b} e s h q x i =
 book-event : {f : Frame} {m n : Model} {hs : List Heard} (b : Book) → Event f m hs n → Consistent m → Booked b m
     → Booked (hearsAll books f hs b) n
 unfolding books enters told written stored found nothing waiting created create committed commit aborted abort exception
-    renewed renew ticked refused dropEnded lookUpOf
+    renewed renew notified notify rung heardOf ticked tick unregistered refused dropEnded lookUpOf
 book-event {f} b (refuses m bs area q) s h =
     booked (told-still {f = f} (refuses m bs area q) s h refl) (fine h) (h .clock) (h .next-entry) (h .next-txn)
     (h .live) (h .waiting)
@@ -171,6 +171,9 @@ book-event {f} b (aborts m t a) s h =
 book-event {f} b (renews m t a) s h =
     booked (told-still {f = f} (renews m t a) s h refl) (fine h) (h .clock) (h .next-entry) (h .next-txn) (h .live)
     (h .waiting)
+book-event {f} b (notifies m t a) s h =
+    booked (told-still {f = f} (notifies m t a) s h refl) (fine h) (h .clock) (h .next-entry) (h .next-txn) (h .live)
+    (h .waiting)
 book-event {f} b (ticks m t a) s h =
     booked (told-still {f = f} (ticks m t a) s h refl) (fine h) (ap (λ n. n + 1) (h .clock)) (h .next-entry)
     (h .next-txn) (h .live) (h .waiting)
@@ -180,6 +183,9 @@ book-event {f} b (excepts m t k i r) s h =
     (ap (filterb (λ (w : LookUp). not (eqb (w .txn .0) (t .id .0)))) (h .waiting))
 book-event {f} b (expires m k) s h = booked (told-still {f = f} (expires m k) s h refl) (h .right) (h .clock)
     (h .next-entry) (h .next-txn) (h .live) (h .waiting)
+book-event {f} b (rings m c g i l) s h =
+    booked (told-still {f = f} (rings m c g i l) s h refl) (fine h) (h .clock) (h .next-entry) (h .next-txn)
+    (h .live) (h .waiting)
 
 pub book-demand : (is : List Input) → Booked (bookOf (runs empty is .log)) (made is)
 unfolding books bookOf keepBook entersAll arrives told

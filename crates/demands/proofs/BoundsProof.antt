@@ -19,9 +19,10 @@ use Rattle.rules.specs.Write.{newEntry}
 use Rattle.rules.specs.LookUp.{lookUpOf}
 use Rattle.rules.specs.Sound.{ByNumber, At, TxnsOk, Consistent}
 use Rattle.rules.specs.Time.{EndFits}
+use Rattle.rules.specs.Notify.{newRegistration, hearing}
 use Rattle.rules.proofs.BoolLaws.{bool-cases, and-left, and-right}
 use Rattle.rules.proofs.ListLaws.{any-mem, none-mem}
-use Rattle.rules.proofs.LayoutLaws.{write-leases, renew-leases, lookUp-leases, create-leases}
+use Rattle.rules.proofs.LayoutLaws.{write-leases, renew-leases, notify-leases, lookUp-leases, create-leases}
 use Rattle.rules.proofs.ReaderLaws.{bit-of-zero, no-bits}
 use Rattle.demands.specs.Machine.{Input}
 use Rattle.demands.specs.Bounds.{ReadByLive, OwnTakeHold, Timely}
@@ -29,17 +30,17 @@ use Rattle.demands.proofs.Runs.{made}
 use Rattle.sound.proofs.AllLaws.{all-none}
 use Rattle.sound.proofs.HoldLaws.{equal-or, not-so, available-free}
 use Rattle.sound.proofs.Events.{Heard, Event}
-use Rattle.sound.proofs.Becomes.{kept-all, waits-all, txns-all, clock-moves}
+use Rattle.sound.proofs.Becomes.{kept-all, waits-all, txns-all, registrations-all, clock-moves}
 use Rattle.sound.proofs.HolderLaws.{drop-live, drop-own, drop-other}
 use Rattle.demands.proofs.ByEvents.{made-has, consistent}
 
--- entries and live transactions stand by number
+-- entries, live transactions and registrations stand by number
 pub numbers-ascend : (is : List Input) → ByNumber (made is)
 numbers-ascend is = consistent is .ordered
 
 -- the clock and every end that is not FOREVER are at most the last clock
 timely-event : {f : Frame} {m n : Model} {hs : List Heard} → Event f m hs n → Consistent m → Timely m → Timely n
-unfolding newEntry lookUpOf
+unfolding newEntry lookUpOf newRegistration hearing
 timely-event {f} e s h =
     record {
       clock =
@@ -50,12 +51,21 @@ timely-event {f} e s h =
           (λ t a _ _ _. a .in-time (renew-leases (f .op) t)) (h .entries);
       txns = txns-all (λ x. EndFits (x .end)) e (λ t a. a .in-time (create-leases (f .op) t)) (h .txns);
       waits = waits-all (λ w. EndFits (w .deadline)) e (λ t a. a .in-time (lookUp-leases (f .op) t)) (h .waits);
+      registrations =
+          registrations-all (λ g. EndFits (g .end)) e (λ t a. a .in-time (notify-leases (f .op) t)) (λ es g x. x)
+          (h .registrations);
     }
 
 pub timely : (is : List Input) → Timely (made is)
 timely =
     made-has Timely (λ f m n hs. timely-event)
-    (record { clock = omega arith; entries = all-none _; txns = all-none _; waits = all-none _ })
+    (record {
+      clock = omega arith;
+      entries = all-none _;
+      txns = all-none _;
+      waits = all-none _;
+      registrations = all-none _;
+    })
 
 -- "no live transaction other than its own holds a read on it": each bit of an entry's readers is the slot of a live one
 module _ {n : ℕ} {ts : List Txn} (ok : TxnsOk n ts) (e : Entry) (live : (p : ℕ) → bit p (e .readers) ≡ true → At p ts)

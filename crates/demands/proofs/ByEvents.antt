@@ -15,7 +15,7 @@ use Rattle.demands.proofs.Runs.{runs, made, made-keep as keep-made}
 use Rattle.sound.proofs.OrderLaws.{InOrder}
 use Rattle.sound.proofs.Events.{Heard, asking, saying, heard, Event, Events, over, then}
 use Rattle.sound.proofs.EventsProof.{step-events}
-use Rattle.sound.proofs.ConsistentProof.{consistent-event, consistent-events, consistent-empty}
+use Rattle.sound.proofs.ConsistentProof.{consistent-event}
 use Rattle.sound.proofs.SoundProof.{sound-step, sound-empty}
 
 -- who reads frames and records: what it makes of a look-up that arrives, and of a record
@@ -80,18 +80,19 @@ module _ {R : Type 0} (k : Reader R) (Q : Model → R → Type 0) (keeps : Keeps
       subst⁻¹ (Q o) (hears-append k f hs ks r)
       (events-keep (hearsAll k f hs r) t (consistent-event e s) (keeps f m n hs r e s h))
 
-  pub runs-keep : (m : Model) (r : R) (is : List Input) → Consistent m → Q m r
-      → Consistent (runs m is .model) × Q (runs m is .model) (readsLog k (runs m is .log) r)
+  pub runs-keep : (m : Model) (r : R) (is : List Input) → Sound m → Q m r
+      → Sound (runs m is .model) × Q (runs m is .model) (readsLog k (runs m is .log) r)
   unfolding runs readsLog
   runs-keep m r [] s h = (s, h)
   runs-keep m r (i ∷ is) s h =
       let f = decode (i .frame) in
       let o = step m (i .frame) (i .area) in
-      let e = step-events m (i .frame) (i .area) (s .ordered .txns) in
-      runs-keep (o .model) (hearsAll k f (heard f (o .records)) r) is (consistent-events e s) (events-keep r e s h)
+      let e = step-events m (i .frame) (i .area) s in
+      runs-keep (o .model) (hearsAll k f (heard f (o .records)) r) is (sound-step m (i .frame) (i .area) s)
+      (events-keep r e (s .consistent) h)
 
   pub made-keep : (r : R) → Q empty r → (is : List Input) → Q (made is) (readsLog k (runs empty is .log) r)
-  made-keep r h is = runs-keep empty r is consistent-empty h .1
+  made-keep r h is = runs-keep empty r is sound-empty h .1
 
 -- of the space alone
 noReader : Reader (Unit {0})
@@ -102,18 +103,18 @@ module _ (P : Model → Type 0)
   pub made-has : P empty → (is : List Input) → P (made is)
   made-has h is = made-keep noReader (λ m r. P m) (λ f m n hs r. keeps f m n hs) tt h is
 
-pub consistent : (is : List Input) → Consistent (made is)
-consistent is = runs-keep noReader (λ m r. Unit {0}) (λ f m n hs r e s h. tt) empty tt is consistent-empty tt .0
-
-pub orderly : (is : List Input) → InOrder (made is)
-orderly is = let s = consistent is in (s .ordered .entries, s .below)
-
 -- every space that frames make is sound
 pub sound-kept : (i : Input) (m : Model) → Sound m → Sound (step m (i .frame) (i .area) .model)
 sound-kept i m s = sound-step m (i .frame) (i .area) s
 
 pub sound : (is : List Input) → Sound (made is)
 sound = keep-made Sound sound-kept sound-empty
+
+pub consistent : (is : List Input) → Consistent (made is)
+consistent is = sound is .consistent
+
+pub orderly : (is : List Input) → InOrder (made is)
+orderly is = let s = consistent is in (s .ordered .entries, s .below)
 
 pub lasting : (is : List Input) → Lasting (made is)
 lasting is = sound is .lasting

@@ -11,6 +11,12 @@ use Rattle.demands.proofs.Runs.{made, made-keep}
 pub bounded : (is : List Input) → Bounded (made is)
 bounded is =
     made-keep (λ m. Sound m × Bounded m)
-    (λ i m k. (sound-step m (i .frame) (i .area) (k .0), step-fits m (i .frame) (i .area) (k .0) (k .1) .0))
-    (sound-empty, record { entries-fit = omega arith; txns-fit = omega arith; waits-fit = omega arith })
-    is .1
+    (λ i m k. (sound-step m (i .frame) (i .area) (k .0), step-fits m (i .frame) (i .area) (k .0) (k .1) .0)) (
+      sound-empty,
+      record {
+        entries-fit = omega arith;
+        txns-fit = omega arith;
+        waits-fit = omega arith;
+        registrations-fit = omega arith;
+      },
+    ) is .1

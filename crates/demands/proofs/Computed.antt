@@ -4,19 +4,21 @@ use Rattle.rules.specs.Template.{bit, matches}
 use Rattle.rules.specs.Holds.{liveTxn, addReader, dropReader, readByOther, visible, available, conflicts}
 use Rattle.rules.specs.Frame.{numberAt, decode, layoutOf, frameLength, serves}
 use Rattle.rules.specs.Records.{written, found, nothing, waiting, created, committed, aborted, exception, ticked}
-use Rattle.rules.specs.Records.{renewed, refused}
-use Rattle.rules.specs.LookUp.{lookUpOf, removes, withHold, marked, handOut, givesNothing, answerFound}
-use Rattle.rules.specs.LookUp.{answerNothing, answerWaiting, answer, lookUp}
+use Rattle.rules.specs.Records.{renewed, notified, rung, refused}
+use Rattle.rules.specs.LookUp.{lookUpOf, removes, withHold, marked, handOut, givesNothing, answerFound, answerNothing}
+use Rattle.rules.specs.LookUp.{answerWaiting, answer, lookUp}
 use Rattle.rules.specs.Transactions.{freeSlot, create, released, withoutTxn, commit, abort}
 use Rattle.rules.specs.Renew.{storedEntry, renewEntries, renew}
 use Rattle.rules.specs.Service.{serve, service}
-use Rattle.rules.specs.Tick.{endedTxns, abortAll, dropEnded, lapsed, tick}
+use Rattle.rules.specs.Notify.{newRegistration, notify, madePublic, matching, hearing, heardOf, ringing}
+use Rattle.rules.specs.Tick.{endedTxns, abortAll, dropEnded, lapsed, unregistered, tick}
 use Rattle.rules.specs.Closing.{isOver, closeWaits}
 use Rattle.rules.specs.Refusals.{noOperation, wrongLength, malformed, wrongParty, partyWaits, notLive, notOwn, noLease}
-use Rattle.rules.specs.Refusals.{noEntry, notWriter, notFree}
-use Rattle.rules.specs.Refusals.{tooLate, entriesFull, txnsFull, noNumber, refusal}
+use Rattle.rules.specs.Refusals.{noEntry, notWriter, notFree, tooLate, entriesFull, txnsFull, registrationsFull}
+use Rattle.rules.specs.Refusals.{noNumber, refusal}
 use Rattle.rules.specs.Write.{newEntry, stored, write}
-use Rattle.rules.specs.Step.{ownPart, finish, commitFrame, abortFrame, carriedOut, refusedWith, accepted, step}
+use Rattle.rules.specs.Step.{ownPart, finish, writeFrame, commitFrame, abortFrame, carriedOut, refusedWith, accepted}
+use Rattle.rules.specs.Step.{step}
 use Rattle.rules.specs.Tray.{pairsOf, pairs, badTray, badPairs, trayRefusal, frameAt, runFrames, runPairs, runTray}
 use Rattle.rules.specs.Tray.{hostNumber}
 
@@ -27,7 +29,8 @@ unfolding until reached bit matches liveTxn addReader dropReader readByOther vis
     freeSlot create released withoutTxn commit abort serve service endedTxns abortAll dropEnded lapsed isOver
     closeWaits tick noOperation wrongLength malformed wrongParty partyWaits notLive notOwn noLease tooLate entriesFull
     txnsFull noNumber refusal newEntry stored write ownPart finish commitFrame abortFrame carriedOut refusedWith
-    accepted step renewed storedEntry renewEntries renew noEntry notWriter notFree
+    accepted step renewed storedEntry renewEntries renew noEntry notWriter notFree notified rung newRegistration notify
+    madePublic matching hearing heardOf ringing unregistered registrationsFull writeFrame
 all-rules = tt
 
 -- and the trays'

@@ -8,17 +8,16 @@ use lib.ListN.{take, drop}
 use Rattle.rules.specs.declared.LookUp.{LookUp}
 use Rattle.rules.specs.declared.Record.{Record}
 use Rattle.rules.specs.declared.Until.the-variants.{Forever}
-use Rattle.rules.specs.Numbers.{opRead, forever}
-use Rattle.rules.specs.State.{Model, empty, withWaits, withClock, withNextEntry, withNextTxn}
+use Rattle.rules.specs.Numbers.{opRead, opNotify, forever}
+use Rattle.rules.specs.State.{Model, empty, withWaits, withClock, withNextEntry, withNextTxn, withNextRegistration}
 use Rattle.rules.specs.Frame.{byteAt, fourBytes}
 use Rattle.rules.specs.Records.{noFields, recordBytes}
 use Rattle.rules.specs.Step.{step}
 use Rattle.rules.specs.Tray.{runTray, hostNumber}
 use Rattle.rules.specs.Print.{digits, line, recordLine, doneLine, printed}
-use Rattle.demands.specs.Frames.{write-blank, Found-blank, renew-by, Renewed}
-use Rattle.demands.specs.Frames.{F, E, long, write-by, read-by, take-by, create-by, commit-by, abort-by, a-tick}
-use Rattle.demands.specs.Frames.{times, Written, Found, Nothing, Created, Committed, Aborted, Exception, Ticked}
-use Rattle.demands.specs.Frames.{Refused}
+use Rattle.demands.specs.Frames.{write-blank, Found-blank, renew-by, Renewed, notify-by, Notified, Rung, F, E}
+use Rattle.demands.specs.Frames.{long, write-by, read-by, take-by, create-by, commit-by, abort-by, a-tick, times}
+use Rattle.demands.specs.Frames.{Written, Found, Nothing, Created, Committed, Aborted, Exception, Ticked, Refused}
 use Rattle.demands.specs.Course.{answersFrom, answers, Starred}
 use Rattle.demands.proofs.Computed.{all-rules, all-trays}
 
@@ -135,7 +134,7 @@ refused-1 = refl
 refusals : Refused-with
     ((empty, [], 2)
     ∷ (empty, 0 ∷ 5 ∷ [], 2)
-    ∷ (empty, 10 ∷ 5 ∷ [], 2)
+    ∷ (empty, 10 ∷ 5 ∷ [], 3)
     ∷ (empty, 12 ∷ 5 ∷ [], 2)
     ∷ (empty, take 11 (renew-by 1 1 9), 3)
     ∷ (empty, 9 ∷ 0 ∷ 0 ∷ [], 3)
@@ -146,21 +145,27 @@ refusals : Refused-with
     ∷ (empty, write-blank 1 0 9 1 E, 4)
     ∷ (empty, long 2 1 0 9 1 E, 4)
     ∷ (empty, (6 ∷ 1 ∷ 0 ∷ 0 ∷ []) ++ fourBytes 1 ++ fourBytes 9, 4)
+    ∷ (empty, long opNotify 1 1 9 1 (F 7 0 0 0), 4)
+    ∷ (empty, long opNotify 1 0 9 1 E, 4)
     ∷ (empty, create-by 0 9, 5)
     ∷ (empty, create-by 17 9, 5)
     ∷ (empty, 9 ∷ 1 ∷ 0 ∷ 0 ∷ [], 5)
     ∷ (one-waits, create-by 1 9, 6)
     ∷ (one-waits, renew-by 1 1 9, 6)
+    ∷ (one-waits, notify-by 1 9 7, 6)
     ∷ (withClock 4294967294 empty, renew-by 1 1 9, 18)
     ∷ (empty, write-by 1 1 9 E, 7)
     ∷ (empty, commit-by 1 0, 7)
     ∷ (empty, create-by 1 0, 9)
+    ∷ (empty, notify-by 1 0 7, 9)
+    ∷ (withClock 1 empty, notify-by 1 4294967294 7, 10)
     ∷ (withClock 1 empty, read-by 1 0 4294967294 7, 10)
     ∷ (withClock 4294967294 empty, a-tick, 10)
     ∷ (withNextEntry 4294967295 empty, write-by 1 0 0 E, 13)
     ∷ (withNextTxn 4294967295 empty, create-by 1 9, 13)
+    ∷ (withNextRegistration 4294967295 empty, notify-by 1 9 7, 13)
     -- two faults: the first is given
-    ∷ (empty, 10 ∷ [], 2)
+    ∷ (empty, 12 ∷ [], 2)
     ∷ (empty, 9 ∷ 0 ∷ 0 ∷ 1 ∷ 0 ∷ [], 3)
     ∷ (empty, 9 ∷ 1 ∷ 1 ∷ 0 ∷ [], 4)
     ∷ (empty, commit-by 0 1, 5)
@@ -174,6 +179,7 @@ refusals = refl
 refused-last : Ends-with
     ((1, create-by 1 9 ∷ write-by 2 1 9 E ∷ [], 2, 8)
     ∷ (8, times 9 (create-by 1 9), 1, 12)
+    ∷ (8, times 9 (notify-by 1 9 7), 1, 17)
     -- two faults
     ∷ (2, create-by 1 9 ∷ a-tick ∷ write-by 2 1 4294967294 E ∷ [], 2, 8)
     ∷ (8, times 8 (create-by 1 9) ++ (create-by 1 0 ∷ []), 1, 9)
@@ -269,6 +275,28 @@ pub record Renewing : Type 0 where
 renewing : Renewing
 unfolding all-rules answers answersFrom
 renewing = record { from-now = refl; removes = refl; barred = refl }
+
+-- "Bell for new images": 2 is registered for E's kind
+pub record Bells : Type 0 where
+  -- each write rings once, with the total so far; one with lease 0 does not, nor does another kind
+  pub writes : later 1 (notify-by 2 9 7 ∷ write-by 1 0 9 E ∷ write-by 1 0 0 E ∷ write-by 1 0 9 (F 8 0 0 0)
+      ∷ write-by 1 0 9 E ∷ [])
+      ≡ (Written 1 0 1 ∷ Rung 2 1 1 1 ∷ []) ∷ (Written 1 0 2 ∷ []) ∷ (Written 1 0 3 ∷ [])
+      ∷ (Written 1 0 4 ∷ Rung 2 1 1 2 ∷ []) ∷ []
+  -- a commit rings once for its two, after the found of the take that service gives one of them; for what the
+  -- transaction took again it does not
+  pub commits : later 6 (notify-by 2 9 7 ∷ take-by 3 0 9 7 ∷ create-by 1 9 ∷ times 3 (write-by 1 1 9 E)
+      ++ (take-by 1 1 0 7 ∷ commit-by 1 1 ∷ []))
+      ≡ (Found 1 1 1 E ∷ []) ∷ (Committed 1 1 ∷ Found 3 0 2 E ∷ Rung 2 1 2 2 ∷ []) ∷ []
+  -- a put-back does not ring; two registrations ring by number; at the end of its lease one rings no more
+  pub put-back : later 2 (write-by 1 0 9 E ∷ create-by 1 9 ∷ notify-by 2 1 7 ∷ notify-by 3 9 7 ∷ take-by 1 1 0 7
+      ∷ abort-by 1 1 ∷ write-by 1 0 9 E ∷ a-tick ∷ write-by 1 0 9 E ∷ [])
+      ≡ (Notified 2 1 ∷ []) ∷ (Notified 3 2 ∷ []) ∷ (Found 1 1 1 E ∷ []) ∷ (Aborted 1 1 ∷ [])
+      ∷ (Written 1 0 2 ∷ Rung 2 1 1 1 ∷ Rung 3 2 1 1 ∷ []) ∷ (Ticked ∷ []) ∷ (Written 1 0 3 ∷ Rung 3 2 1 2 ∷ []) ∷ []
+
+bells : Bells
+unfolding all-rules answers answersFrom
+bells = record { writes = refl; commits = refl; put-back = refl }
 
 -- the bytes of a record
 found-bytes : recordBytes (Found-blank 2 0 1 1 (F 0 1 40 258))

@@ -1,14 +1,14 @@
 -- A space that meets demands 1 and 2 answers as the rules do; so demand 3 follows.
-use Prim.Native.Nat.{ℕ, suc, _*_, _≤_, _<_}
+use Prim.Native.Nat.{ℕ, suc, _*_, _<_}
 use mathlib.Core.Bool.{Bool, true, false, _&&_, _||_}
 use mathlib.Core.Logic.{_⊎_, inl, inr, ⊎-elim}
 use mathlib.Core.Path.{_≡_, refl, sym, ap, ap₂, _∙_, subst, subst⁻¹}
 use mathlib.Core.Option.{Option, none, some}
-use mathlib.Core.List.{List, [], _∷_, _++_, map, List·Memᴰ, Memᴰ·of-map, Memᴰ·cast}
+use mathlib.Core.List.{List, [], _∷_, _++_, map, List·Memᴰ, Memᴰ·cast}
 use native.Mathlib.Omega.{arith}
-use borrow.Author.Tests.{eqb-true, eqb-false, eq-eqb, leb-false}
+use borrow.Author.Tests.{eqb-true, eqb-false, leb-false}
 use lib.Dec.{eqb}
-use lib.ListN.{length, take, drop, length-map, take-append-drop}
+use lib.ListN.{length, take, drop, take-append-drop}
 use Rattle.rules.specs.declared.Entry.{Entry}
 use Rattle.rules.specs.declared.Record.{Record}
 use Rattle.rules.specs.declared.Txn.{Txn}
@@ -21,13 +21,13 @@ use Rattle.rules.specs.Frame.{entryNamed, decode, isCreate}
 use Rattle.rules.specs.Records.{waiting, refused, answerBytes, areaAfter}
 use Rattle.rules.specs.Transactions.{privateTo}
 use Rattle.rules.specs.Renew.{hasNumber, storedEntry}
-use Rattle.rules.specs.Refusals.{isMissing, noEntry, isBy, notWriter, isFree, notFree}
-use Rattle.rules.specs.Refusals.{partyWaits, notLive, isOf, notOwn, tooLate, entriesFull, txnsFull, noNumber, refusal}
+use Rattle.rules.specs.Refusals.{isMissing, noEntry, isBy, notWriter, isFree, notFree, partyWaits, notLive, isOf}
+use Rattle.rules.specs.Refusals.{notOwn, tooLate, entriesFull, txnsFull, registrationsFull, noNumber, refusal}
 use Rattle.rules.specs.Step.{Outcome, step, accepted}
 use Rattle.rules.specs.Allowed.{Answered}
 use Rattle.rules.specs.SerialRun.{Logged, Kept, keptOf, Run, committedIn, numbersOf}
 use Rattle.rules.specs.Sound.{Ascending, TxnsOk, Consistent}
-use Rattle.rules.proofs.ListLaws.{mem-any, any-find, find-some, any-none, none-any, some-any}
+use Rattle.rules.proofs.ListLaws.{any-find, find-some, any-none, none-any, some-any}
 use Rattle.rules.proofs.BoolLaws.{option-cases, bool-cases, and-false-right}
 use Rattle.rules.proofs.RefusalLaws.{clear}
 use Rattle.rules.proofs.DistinctLaws.{distinct-filter}
@@ -35,12 +35,12 @@ use Rattle.demands.specs.Machine.{Handed, Machine, answeredBy, theRules}
 use Rattle.demands.specs.History.{logged, History, begun, handed, handedOf, answersOf, Made, inputsOf}
 use Rattle.demands.specs.Judged.{Judged}
 use Rattle.demands.specs.Book.{LiveTold, writerOf, Book, Booked}
+use Rattle.demands.specs.Registry.{Registry, RegisteredIn}
 use Rattle.demands.specs.Told.{Told, AsTold, Explained}
 use Rattle.demands.specs.Demands.{Demand1, Demand2, Demand3}
 use Rattle.demands.specs.Consequences.{Consequences}
 use Rattle.demands.specs.Determined.{ruled, Determined, ThirdFollows}
 use Rattle.sound.proofs.AscendingLaws.{ascend-unique}
-use Rattle.sound.proofs.Consistent.{cover}
 use Rattle.sound.proofs.OrderLaws.{InOrder}
 use Rattle.demands.proofs.ByEvents.{consistent, orderly}
 use Rattle.demands.proofs.ByRule.{rules-follow, run-of}
@@ -48,8 +48,8 @@ use Rattle.demands.proofs.Follows.{follows-2, follows-3, follow-on}
 use Rattle.demands.proofs.JudgedProof.{number-is, refused-record, no-record}
 use Rattle.sound.proofs.OwnPartLaws.{step-accepted}
 use Rattle.demands.proofs.SaidProof.{said-given}
-use Rattle.demands.proofs.Twins.{same-test, cond-both, Matched, matched-filter, matched-map, SameLive, live-ind}
-use Rattle.demands.proofs.Twins.{matched-any, other-live, zero-same, Like, Twins, Roomy, said-twins}
+use Rattle.demands.proofs.Twins.{no-more, same-test, cond-both, Matched, matched-filter, matched-map, SameLive}
+use Rattle.demands.proofs.Twins.{live-ind, matched-any, other-live, zero-same, Like, Twins, Roomy, said-twins}
 
 -- ---- two spaces with the same log are twins
 
@@ -112,14 +112,16 @@ module _ {b : Book} {r : Run} {m n : Model} (p : Booked b m) (q : Booked b n) (x
             (e .0, e .1, like-told (e .0) u (e .1) j (z .0) (e .2) (z .2));
       }
 
-twins-told : {b : Book} {r : Run} (m n : Model) → Booked b m → Booked b n → Explained r m → Explained r n → Consistent n
-    → Twins m n
-twins-told m n p q x y s =
+twins-told : {b : Book} {r : Run} {g : Registry} (m n : Model) → Booked b m → Booked b n → Explained r m → Explained r n
+    → RegisteredIn g m → RegisteredIn g n → Consistent n → Twins m n
+twins-told m n p q x y k l s =
     let live = sym (p .live) ∙ q .live in
     let clock = sym (p .clock) ∙ q .clock in
     let entry = sym (p .next-entry) ∙ q .next-entry in
     let txn = sym (p .next-txn) ∙ q .next-txn in
     let waits = sym (p .waiting) ∙ q .waiting in
+    let registration = sym (k .next) ∙ l .next in
+    let registrations = k .live ∙ sym (l .live) in
     record {
       same = cc;
       peers = record {
@@ -134,20 +136,6 @@ twins-told m n p q x y s =
     }
 
 -- ---- twins refuse alike
-
-no-more : {R : Entry → Entry → Type 0} (es xs : List Entry) → ((e x : Entry) → R e x → e .id .0 ≡ x .id .0)
-    → distinct (map (λ (e : Entry). e .id .0) es) ≡ true
-    → ((e : Entry) → List·Memᴰ e es → (x : Entry) × List·Memᴰ x xs × R e x) → length es ≤ length xs
-no-more es xs same d h =
-    omega (
-      arith,
-      length-map es (λ (e : Entry). e .id .0),
-      cover (λ (e : Entry). e .id .0) (map (λ (e : Entry). e .id .0) es) xs d
-          (λ p i. let e = Memᴰ·of-map (λ (e : Entry). e .id .0) es i in
-          let x = h (e .0) (e .1) in
-          mem-any (λ (y : Entry). eqb (y .id .0) p) (x .1)
-          (eq-eqb (x .0 .id .0) p (sym (same (e .0) (x .0) (x .2)) ∙ e .2))),
-    )
 
 -- the entry that a frame names, if it is stored, is the same but for its readers' bits
 named-same : (m n : Model) (k : ℕ) → Twins m n
@@ -179,13 +167,16 @@ named-same m n k t unique T same = go (option-cases (findb (hasNumber k) (m .ent
 refusal-same : (m n : Model) (bs : List ℕ) (area : ℕ) → Twins m n → length (m .entries) ≡ length (n .entries)
     → ((x y : Entry) → List·Memᴰ x (n .entries) → List·Memᴰ y (n .entries) → x .id .0 ≡ y .id .0 → x ≡ y)
     → refusal m bs area ≡ refusal n bs area
-unfolding refusal noEntry notWriter notFree partyWaits notLive notOwn liveTxn tooLate entriesFull txnsFull noNumber
+unfolding refusal noEntry notWriter notFree partyWaits notLive notOwn liveTxn tooLate entriesFull txnsFull
+    registrationsFull noNumber
 refusal-same m n bs area t entries unique =
     let f = decode bs in
     let waits : m .waits ≡ n .waits = ap (λ k. k .waits) (t .same) in
     let clock : m .clock ≡ n .clock = ap (λ k. k .clock) (t .same) in
     let next-entry : m .nextEntry ≡ n .nextEntry = ap (λ k. k .nextEntry) (t .same) in
     let next-txn : m .nextTxn ≡ n .nextTxn = ap (λ k. k .nextTxn) (t .same) in
+    let next-registration : m .nextRegistration ≡ n .nextRegistration = ap (λ k. k .nextRegistration) (t .same) in
+    let registrations : m .registrations ≡ n .registrations = ap (λ k. k .registrations) (t .same) in
     let live = t .peers .live in
     let any =
     live-ind (λ ts us. anyb (λ (x : Txn). eqb (x .id .0) (f .txn)) ts ≡ anyb (λ (x : Txn). eqb (x .id .0) (f .txn)) us)
@@ -203,7 +194,21 @@ refusal-same m n bs area t entries unique =
     let missing = named isMissing (λ e x l. refl) in
     let by = named (isBy (f .party)) (λ e x l. ap (λ w. eqb w (f .party)) (l .writer)) in
     let free = named isFree (λ e x l. free-same l) in
-    rw (waits, missing, by, free, any, own, clock, entries, txns, next-entry, next-txn)
+    rw (
+      waits,
+      missing,
+      by,
+      free,
+      any,
+      own,
+      clock,
+      entries,
+      txns,
+      registrations,
+      next-entry,
+      next-txn,
+      next-registration,
+    )
   where
     free-same : {e x : Entry} → Like (m .txns) (n .txns) e x → isFree (some e) ≡ isFree (some x)
     free-same l =
@@ -255,7 +260,7 @@ module _ (S : Machine) (d1 : Demand1 S) (d2 : Demand2 S) where
     twins =
         let r = run-of theRules rules-follow run in
         twins-told (S .view t) n (d2 .booked log t made) (rules-2 .booked log n run) (d2 .told log t made)
-        (rules-2 .told log n run)
+        (rules-2 .told log n run) (d2 .registered log t made) (rules-2 .registered log n run)
         (subst⁻¹ Consistent (r .model) (consistent (inputsOf run)))
 
     same-length : length (S .view t .entries) ≡ length (n .entries)
@@ -299,7 +304,9 @@ module _ (S : Machine) (d1 : Demand1 S) (d2 : Demand2 S) where
               let here = same-refusal h ∙ none in
               let room : (k : Model) → refusal k (h .frame) (length (h .area)) ≡ 0 → Roomy (decode (h .frame)) k =
               λ k. roomy k (h .frame) (length (h .area)) in
-              sym (said-given (said-twins twins (room _ here) (room n none) (d2 .said log t u h a made p here)) stands)
+              sym (said-given (said-twins twins (d2 .told log t made .once) (rules-2 .told log n run .once)
+              (room _ here)
+              (room n none) (d2 .said log t u h a made p here)) stands)
               ∙ ap (λ (o : Outcome). o .records) (sym (step-accepted n (h .frame) (length (h .area)) none))
           go (inr z) (inl k) =
               let one = eqb-true _ 1 k in

@@ -31,6 +31,7 @@ use Rattle.demands.specs.Answers.{AnsweredNow, NothingLeft, closes}
 use Rattle.demands.specs.Said.{Said}
 use Rattle.demands.specs.Book.{bookOf, Booked}
 use Rattle.demands.specs.Told.{Explained}
+use Rattle.demands.specs.Registry.{registryOf, RegisteredIn}
 use Rattle.demands.specs.Demands.{Demand1, Demand2, Demand3}
 use Rattle.demands.specs.Consequences.{Consequences}
 use Rattle.demands.specs.Bounds.{Timely, ReadByLive, OwnTakeHold, AreBytes, AllInRange, Bounds}
@@ -48,6 +49,7 @@ use Rattle.demands.proofs.AnswersProof.{nothing-left, in-time, answersT
 use Rattle.demands.proofs.BoundsRange.{range-demand}
 use Rattle.demands.proofs.BookProof.{book-demand}
 use Rattle.demands.proofs.ToldProof.{told-demand}
+use Rattle.demands.proofs.RegistryProof.{registry-demand}
 use Rattle.demands.proofs.SerialRunProof.{serializes}
 
 -- the records of a step fit its area
@@ -143,6 +145,7 @@ module _ (S : Machine) (f : Follows S) where
         counted = λ log t u h a r p. by-rule r p .count;
         booked = of-log (λ l m. Booked (bookOf l) m) book-demand;
         told = of-log (λ l m. Explained (serialRun l) m) told-demand;
+        registered = of-log (λ l m. RegisteredIn (registryOf l) m) registry-demand;
       }
 
   pub follows-3 : Demand3 S

@@ -17,6 +17,7 @@ pub mod Answering
 pub mod SaidProof
 pub mod BookProof
 pub mod ToldProof
+pub mod RegistryProof
 pub mod AnswersProof
 -- demand 3
 pub mod SerialRunOps

@@ -27,16 +27,18 @@ use Rattle.rules.proofs.ListLaws.{none-mem}
 use Rattle.rules.proofs.BoolLaws.{and-left, and-right}
 use Rattle.demands.specs.Machine.{Handed, Stepper, StepsBy, answeredBy, spaceOf}
 use Rattle.demands.specs.History.{History, begun, handed, Made}
+use Rattle.demands.specs.Registry.{published, registers, registersAll, notes, keepRegistry, registryOf}
 use Rattle.demands.specs.Book.{writerOf, enters, entersAll, arrives, keepBook, bookOf}
 use Rattle.demands.specs.Told.{Told, readsNumber, whoTakes, whoReads, committedTold, privateTold, told}
 use Rattle.demands.specs.Demands.{Demand1, Demand2, Demand3}
 use Rattle.demands.specs.Frames.{E, write-by, read-by, take-by, readIfExists-by, create-by, commit-by, abort-by}
-use Rattle.demands.specs.Frames.{F, a-tick, write-blank, renew-by}
+use Rattle.demands.specs.Frames.{F, a-tick, write-blank, renew-by, notify-by}
 use Rattle.demands.specs.RuledOut.{saysNothing, saysWaiting, refusesAll, sameRecord, storesNothing}
 use Rattle.demands.specs.RuledOut.{firstFrameOnly, oneMore, losesCommit, putsBackLate, ownReadBars, nothingFirst}
 use Rattle.demands.specs.RuledOut.{showsPrivate, ignoresWrites, writesTwice, ticksAtWrites, neverExpires}
 use Rattle.demands.specs.RuledOut.{lastExceptionFirst, lastServedFirst, servesEnded, newestFirst, waitsInVain}
 use Rattle.demands.specs.RuledOut.{givesUpFirst, byParty, nothingsByParty, newestInService, takesLongCommits}
+use Rattle.demands.specs.RuledOut.{ringsPutBacks, ringsForEach, ringsFirst, startsOver, ringsOn}
 use Rattle.demands.specs.RuledOut.{renewsFromTheWrite, renewsHeld, renewsAnothers, leavesLease0, forgetsWriter}
 use Rattle.demands.specs.RuledOut.{matchesBlanks, losesBlanks, leavesByte3, takesFilledBlanks, refusesBlanks}
 use Rattle.demands.specs.RuledOut.{gives14, keepsWithdrawn, withdrawnGetsNothing, abortsAny, RuledOut}
@@ -100,6 +102,9 @@ partyAt k rs = getD (map (λ (r : Record). r .party) rs) k 0
 
 abbrev entryAt : ℕ → List Record → ℕ
 entryAt k rs = getD (map (λ (r : Record). r .entry .0) rs) k 0
+
+abbrev sideAt : ℕ → List Record → ℕ
+sideAt k rs = getD (map (λ (r : Record). r .fields .side) rs) k 0
 
 abbrev blanksAt : ℕ → List Record → ℕ
 blanksAt k rs = getD (map (λ (r : Record). r .fields .blanks) rs) k 0
@@ -165,7 +170,8 @@ unfolding all-rules all-told lastOf logOf answeredBy orderedb saysNothing saysWa
     takesLongCommits gives14 keepsWithdrawn withdrawnGetsNothing abortsAny waitsInVain givesUpFirst nothingsByParty
     matchesBlanks losesBlanks leavesByte3 takesFilledBlanks refusesBlanks
     renewsFromTheWrite renewsHeld renewsAnothers leavesLease0 forgetsWriter writerOf byParty enters entersAll arrives
-    keepBook bookOf
+    keepBook bookOf ringsPutBacks ringsForEach ringsFirst startsOver ringsOn published registers registersAll notes
+    keepRegistry registryOf
 each-ruled-out =
     record {
       says-nothing = λ d.
@@ -309,5 +315,25 @@ each-ruled-out =
           let b =
           d .booked (logOf forgetsWriter empty fs) (lastOf forgetsWriter empty fs) (from-empty forgetsWriter fs) in
           let q : _≡_ {A = ℕ} 0 1 = b .writers _ (List·Memᴰ·head refl) in omega arith;
+      -- what transaction 1 had taken is available again: no entry is made public
+      rings-put-backs = λ d.
+          by-said ringsPutBacks d (write-by 1 0 9 E ∷ notify-by 2 9 7 ∷ create-by 1 9 ∷ take-by 1 1 0 7 ∷ [])
+          (abort-by 1 1)
+          refl refl length (λ (q : 1 ≡ 2). omega arith);
+      rings-for-each = λ d.
+          by-said ringsForEach d (notify-by 2 9 7 ∷ create-by 1 9 ∷ write-by 1 1 9 E ∷ write-by 1 1 9 E ∷ [])
+          (commit-by 1 1) refl refl length (λ (q : 2 ≡ 3). omega arith);
+      rings-first = λ d.
+          by-said ringsFirst d (notify-by 2 9 7 ∷ take-by 3 0 9 7 ∷ []) (write-by 1 0 9 E) refl refl (kindAt 1)
+          (λ (q : 2 ≡ 11). omega arith);
+      -- the second bell says 2 in all
+      starts-over = λ d.
+          by-said startsOver d (notify-by 2 9 7 ∷ write-by 1 0 9 E ∷ []) (write-by 1 0 9 E) refl refl (sideAt 1)
+          (λ (q : 2 ≡ 1). omega arith);
+      -- nobody is registered any more
+      rings-on = λ d.
+          let fs = notify-by 2 1 7 ∷ a-tick ∷ [] in
+          let b = d .registered (logOf ringsOn empty fs) (lastOf ringsOn empty fs) (from-empty ringsOn fs) in
+          let q : _≡_ {A = ℕ} 1 0 = ap length (b .live) in omega arith;
       answers-none = λ d. d .answers [] empty (empty, refl, begun empty) (handIn a-tick) .2;
     }

@@ -1,7 +1,7 @@
 -- The rules say what `Said` says, where the entries stand by number; and whatever says so is what the rules give.
 use Prim.Native.Nat.{ℕ}
-use mathlib.Core.Bool.{Bool, true, false, cond, _||_}
-use mathlib.Core.Path.{_≡_, refl, sym, ap, _∙_, subst⁻¹}
+use mathlib.Core.Bool.{Bool, true, false, cond, not, _||_}
+use mathlib.Core.Path.{_≡_, refl, sym, ap, ap₂, _∙_, subst⁻¹}
 use mathlib.Core.Option.{Option, none, some}
 use mathlib.Core.List.{List, [], _∷_, _++_, map}
 use borrow.Author.Tests.{eqb-true}
@@ -10,30 +10,33 @@ use Rattle.rules.specs.declared.Entry.{Entry}
 use Rattle.rules.specs.declared.Record.{Record}
 use Rattle.rules.specs.declared.Txn.{Txn}
 use Rattle.rules.specs.declared.LookUp.{LookUp}
+use Rattle.rules.specs.declared.Registration.{Registration}
+use Rattle.rules.specs.Lists.{filterb, joined}
 use Rattle.rules.specs.State.{Model, withEntries}
 use Rattle.rules.specs.Holds.{available, oldest, someAvailable}
 use Rattle.rules.specs.Frame.{Frame, decode, isOperation, isWrite, isLookUp, isCommit, isAbort, isTick, serves}
-use Rattle.rules.specs.Records.{found, exception}
+use Rattle.rules.specs.Records.{found, exception, rung}
 use Rattle.rules.specs.Done.{Carried, Done, quiet}
 use Rattle.rules.specs.Write.{stored, write}
 use Rattle.rules.specs.LookUp.{lookUpOf, givesNothing, answer, answerFound, answerNothing, answerWaiting, lookUp}
 use Rattle.rules.specs.Transactions.{create, commit, abort}
 use Rattle.rules.specs.Service.{Served, serve, service}
 use Rattle.rules.specs.Renew.{renew}
-use Rattle.rules.specs.Tick.{tick, endedTxns, abortAll, dropEnded, lapsed as lapsedPart}
+use Rattle.rules.specs.Notify.{notify, madePublic, matching, hearing, heardOf, ringing}
+use Rattle.rules.specs.Tick.{tick, unregistered, endedTxns, abortAll, dropEnded, lapsed as lapsedPart}
 use Rattle.rules.specs.Closing.{isOver, closeWaits}
 use Rattle.rules.specs.Refusals.{refusal}
-use Rattle.rules.specs.Step.{step, Outcome, ownPart, finish, carriedOut, accepted, commitFrame, abortFrame}
+use Rattle.rules.specs.Step.{step, Outcome, ownPart, finish, carriedOut, accepted, writeFrame, commitFrame, abortFrame}
 use Rattle.rules.proofs.ListLaws.{none-any, any-none}
 use Rattle.rules.proofs.BoolLaws.{cond-cases}
 use Rattle.rules.proofs.LayoutLaws.{lookUp-cases, write-serves, lookUp-serves, create-serves, commit-serves}
-use Rattle.rules.proofs.LayoutLaws.{abort-serves, renew-serves, tick-serves}
+use Rattle.rules.proofs.LayoutLaws.{abort-serves, renew-serves, notify-serves, tick-serves}
 use Rattle.rules.proofs.StepCases.{own-cases, serve-ind, serve-none, serve-some}
 use Rattle.rules.proofs.RefusalLaws.{clear, is-one}
 use Rattle.demands.specs.Said.{endNow, entriesLeft, inVain, Own, writes, finds, finds-none, waits, creates}
-use Rattle.demands.specs.Said.{commits, aborts, renews, ticks, Serves, gone-through, is-found, waits-on, isServed}
-use Rattle.demands.specs.Said.{Service, follows, follows-not, exceptions, lapsed, nothings, Ends, in-order, Said}
-use Rattle.demands.specs.Said.{own-first}
+use Rattle.demands.specs.Said.{commits, aborts, renews, notifies, ticks, Serves, gone-through, is-found, waits-on}
+use Rattle.demands.specs.Said.{isServed, bell, Service, follows, follows-not, exceptions, lapsed, nothings, Ends}
+use Rattle.demands.specs.Said.{in-order, Said, own-first}
 use Rattle.sound.proofs.OrderLaws.{Numbered, InOrder, numbered-filter, handed-numbered, freed-numbered, stored-order}
 use Rattle.sound.proofs.OrderLaws.{renewed-numbered}
 use Rattle.demands.proofs.OldestLaws.{oldest-said, oldest-given}
@@ -60,6 +63,7 @@ own-serves {f} (creates t) = create-serves f t ∙ sym (served-at f (eqb-true (f
 own-serves {f} (commits t) = commit-serves f t ∙ sym (served-at f (eqb-true (f .op) 7 t))
 own-serves {f} (aborts t) = abort-serves f t ∙ sym (served-at f (eqb-true (f .op) 8 t))
 own-serves {f} (renews t) = renew-serves f t ∙ sym (served-at f (eqb-true (f .op) 11 t))
+own-serves {f} (notifies t) = notify-serves f t ∙ sym (served-at f (eqb-true (f .op) 10 t))
 own-serves {f} (ticks t) = tick-serves f t ∙ sym (served-at f (eqb-true (f .op) 9 t))
 
 -- ---- the end of a step, in its parts
@@ -100,7 +104,7 @@ module _ (f : Frame) (m : Model) where
 -- ---- the entries stand by number still, when service begins
 
 own-order : {f : Frame} {m n : Model} {a : Record} → Own f m a n → InOrder m → InOrder n
-unfolding stored create commit abort renew
+unfolding stored heardOf create commit abort renew notify tick unregistered
 own-order {f} {m} (writes t) h = stored-order m f h
 own-order {f} {m} (finds e t o) h = handed-numbered (m .txns) (lookUpOf m f) e (m .entries) h
 own-order (finds-none t u g) h = h
@@ -109,6 +113,7 @@ own-order (creates t) h = h
 own-order {f} {m} (commits t) h = freed-numbered (m .txns) (f .txn) _ (m .entries) h
 own-order {f} {m} (aborts t) h = freed-numbered (m .txns) (f .txn) _ (m .entries) h
 own-order {f} {m} (renews t) h = renewed-numbered m f h
+own-order (notifies t) h = h
 own-order (ticks t) h = h
 
 abortAll-order : (ts : List Txn) (m : Model) → InOrder m → InOrder (abortAll ts m)
@@ -136,10 +141,10 @@ answer-own f m h t none q =
 
 own-said : (m : Model) (f : Frame) → InOrder m → isOperation (f .op) ≡ true
     → Own f m (ownPart m f .own) (ownPart m f .model)
-unfolding write lookUp create commitFrame abortFrame renew tick
+unfolding writeFrame write lookUp create commitFrame abortFrame renew notify tick
 own-said m f h is =
     own-cases (λ (c : Carried). Own f m (c .own) (c .model)) m f is writes (λ t. answer-own f m h t _ refl) creates
-    commits aborts renews ticks
+    commits aborts renews notifies ticks
 
 service-said : (f : Frame) (m : Model) → InOrder m
     → let d = servedBy f m in Service f m (d .records) (d .model .waits) (d .model .entries)
@@ -158,6 +163,26 @@ service-said f m h =
         (λ es h. gone-through es) (λ es w ws q below h. waits-on w (none-any (available ts w) es q) (below h))
         (λ es w ws x q below h. is-found w x (oldest-said h q) (below (handed-numbered ts w x es h)))
 
+-- those of kind 11: one for each registration that matches some
+bells-are : (es : List Entry) (gs : List Registration) → ringing es gs ≡ joined (map (bell es) gs)
+unfolding ringing matching hearing bell
+bells-are es [] = refl
+bells-are es (g ∷ gs) = go (eqb (matching es g) 0) (bells-are es gs)
+  where
+    rest : List Record
+    rest = joined (map (bell es) gs)
+
+    its : Record
+    its = rung (matching es g) (hearing es g)
+
+    go : (b : Bool) → ringing es gs ≡ rest
+        → map (λ g. rung (matching es g) (hearing es g))
+        (cond (not b) (g ∷ filterb (λ g. not (eqb (matching es g) 0)) gs)
+        (filterb (λ g. not (eqb (matching es g) 0)) gs))
+        ≡ cond b [] (its ∷ []) ++ rest
+    go true e = e
+    go false e = ap {B = List Record} (λ l. its ∷ l) e
+
 pub step-said : (m : Model) (bs : List ℕ) (area : ℕ) → InOrder m → refusal m bs area ≡ 0
     → Said (decode bs) m (step m bs area .records)
 unfolding accepted carriedOut
@@ -167,7 +192,9 @@ step-said m bs area h z =
     let o = own-said m f h (is-one bs (clear m bs area z .operation)) in
     let s = service-said f (lapsed f n) (lapsed-order f n (own-order o h)) in
     let e = subst⁻¹ (Ends f n) (finish-is f n (own-serves o)) (in-order s) in
-    subst⁻¹ (λ (d : Outcome). Said f m (d .records)) (step-accepted m bs area z) (own-first o e)
+    subst⁻¹ (λ (d : Outcome). Said f m (d .records)) (step-accepted m bs area z)
+    (subst⁻¹ (λ l. Said f m (ownPart m f .own ∷ finish f n .records ++ l))
+    (bells-are (madePublic m f) (m .registrations)) (own-first o e))
 
 -- ---- what is said is what the rules give
 
@@ -215,7 +242,8 @@ none-given f m b t u g =
 
 own-given : {f : Frame} {m n : Model} {a : Record} → Own f m a n → InOrder m
     → ownPart m f ≡ record { model = n; own = a }
-unfolding write create commitFrame abortFrame renew tick lookUp answer answerFound answerNothing answerWaiting
+unfolding writeFrame write create commitFrame abortFrame renew notify tick lookUp answer answerFound answerNothing
+    answerWaiting
 own-given {f} {m} (writes t) h = part-at m f (eqb-true (f .op) 1 t)
 own-given {f} {m} (finds e t o) h =
     part-lookUp m f t ∙ ap (answer m (lookUpOf m f) (f .leaseOrTimeout)) (oldest-given h o)
@@ -225,10 +253,13 @@ own-given {f} {m} (creates t) h = part-at m f (eqb-true (f .op) 6 t)
 own-given {f} {m} (commits t) h = part-at m f (eqb-true (f .op) 7 t)
 own-given {f} {m} (aborts t) h = part-at m f (eqb-true (f .op) 8 t)
 own-given {f} {m} (renews t) h = part-at m f (eqb-true (f .op) 11 t)
+own-given {f} {m} (notifies t) h = part-at m f (eqb-true (f .op) 10 t)
 own-given {f} {m} (ticks t) h = part-at m f (eqb-true (f .op) 9 t)
 
 pub said-given : {f : Frame} {m : Model} {rs : List Record} → Said f m rs → InOrder m → carriedOut m f .records ≡ rs
 unfolding carriedOut
 said-given {f} {m} (own-first {own} {n} {rest} o e) h =
-    ap (λ (c : Carried). c .own ∷ finish f (c .model) .records) (own-given o h)
-    ∙ ap {B = List Record} (λ l. own ∷ l) (ends-given e (own-serves o) (own-order o h))
+    ap (λ (c : Carried). c .own ∷ finish f (c .model) .records ++ ringing (madePublic m f) (m .registrations))
+    (own-given o h)
+    ∙ ap₂ {C = List Record} (λ l k. own ∷ l ++ k) (ends-given e (own-serves o) (own-order o h))
+    (bells-are (madePublic m f) (m .registrations))

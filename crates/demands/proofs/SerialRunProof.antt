@@ -18,18 +18,19 @@ use Rattle.rules.specs.Time.{until, reached}
 use Rattle.rules.specs.State.{Model, empty, withClock}
 use Rattle.rules.specs.Frame.{Frame, entryNamed, isTake}
 use Rattle.rules.specs.Records.{written, found, nothing, waiting, created, committed, aborted, exception, ticked}
-use Rattle.rules.specs.Records.{renewed, refused}
+use Rattle.rules.specs.Records.{renewed, notified, rung, refused}
 use Rattle.rules.specs.Write.{newEntry, stored}
 use Rattle.rules.specs.Holds.{available}
 use Rattle.rules.specs.LookUp.{lookUpOf, handOut}
 use Rattle.rules.specs.Transactions.{create, commit, abort, privateTo}
 use Rattle.rules.specs.Renew.{renewEntries, renew}
-use Rattle.rules.specs.Tick.{dropEnded}
+use Rattle.rules.specs.Notify.{notify, heardOf}
+use Rattle.rules.specs.Tick.{tick, unregistered, dropEnded}
 use Rattle.rules.specs.SerialRun.{Kept, Operation, adds, finds, Pending, Run, start, isKept, withPending, failed}
 use Rattle.rules.specs.SerialRun.{taking, carryOut, carryOutAll, perform, listOf, thrownAway, lastTakes, advanced}
 use Rattle.rules.specs.SerialRun.{follow, followAll, noteLookUp, followLog, serialRun, left, keptOf, committedIn}
 use Rattle.rules.specs.SerialRun.{numbersOf, Serial, writtenBy, renewing}
-use Rattle.rules.specs.Sound.{Ascending, ByNumber, Ok, Consistent}
+use Rattle.rules.specs.Sound.{Ascending, ByNumber, Ok, Consistent, Lasting}
 use Rattle.rules.proofs.BoolLaws.{cond-cases}
 use Rattle.rules.proofs.LayoutLaws.{lookUp-not-abort, commit-ends, abort-ends, write-names}
 use Rattle.rules.proofs.ListLaws.{filter-append, filter-filter, filter-same, mem-filter, filter-mem, any-mem}
@@ -41,7 +42,7 @@ use Rattle.sound.proofs.AllLaws.{all-none, all-snoc, all-filter, all-map, out-m
 use Rattle.sound.proofs.AscendingLaws.{ascend-filter, ascending-distinct}
 use Rattle.sound.proofs.HoldLaws.{equal-or, eqb-cases, not-so}
 use Rattle.sound.proofs.Events.{Heard, Event, refuses, asks, writes, is-found, is-nothing, is-waiting, creates, commits}
-use Rattle.sound.proofs.Events.{aborts, renews, ticks, excepts, expires, Renewable}
+use Rattle.sound.proofs.Events.{aborts, renews, notifies, ticks, excepts, expires, rings, Renewable}
 use Rattle.sound.proofs.Consistent.{live-above}
 use Rattle.demands.proofs.ByEvents.{Reader, hearsAll, reads-log, made-keep, consistent, lasting}
 use Rattle.demands.proofs.SerialRunOps.{after, afterAll, CanOne, Can, carryOut-can, carryOutAll-can, isNumber}
@@ -313,7 +314,7 @@ pub record Linked (m : Model) (r : Run) : Type 0 where
   pub tracks : TracksIn m r
   pub knows : Knows (m .waits) r
 
-serials : Reader Run
+unfoldable pub serials : Reader Run
 serials =
     record {
       asked = λ f r.
@@ -329,10 +330,10 @@ serials =
     }
 
 -- each event is followed
-linked-event : {f : Frame} {m n : Model} {hs : List Heard} (r : Run) → Event f m hs n → Consistent m → Linked m r
+pub linked-event : {f : Frame} {m n : Model} {hs : List Heard} (r : Run) → Event f m hs n → Consistent m → Linked m r
     → Linked n (hearsAll serials f hs r)
-unfolding serials stored create commit abort renew dropEnded lookUpOf follow nothing waiting created committed aborted
-    exception ticked refused advanced lastTakes thrownAway
+unfolding serials stored heardOf create commit abort renew notify tick unregistered dropEnded lookUpOf follow nothing
+    waiting created committed aborted exception notified rung ticked refused advanced lastTakes thrownAway
 linked-event {f} r (refuses m bs area q) s h = h
 linked-event {f} r (asks m t a) s h =
     record {
@@ -377,6 +378,7 @@ linked-event {f} r (renews m t a) s h =
       tracks = renewed-too f s (a .renewable t) (h .tracks);
       knows = still-knows f (renewed f) (m .waits) r (h .knows);
     }
+linked-event {f} r (notifies m t a) s h = record { tracks = h .tracks; knows = h .knows }
 linked-event {f} r (ticks m t a) s h =
     let k = h .tracks in
     let later = ap (λ c. c + 1) (k .same-clock) in
@@ -390,6 +392,7 @@ linked-event {f} r (excepts m t k i q) s h =
     }
 linked-event {f} r (expires m k) s h =
     record { tracks = with-agree (h .tracks) (agree-expire m (h .tracks .agree)); knows = h .knows }
+linked-event {f} r (rings m c g i l) s h = h
 
 pub linked : (is : List Input) → Linked (made is) (serialRun (runs empty is .log))
 unfolding serials serialRun followLog followAll noteLookUp
@@ -429,36 +432,33 @@ distinct-of (n ∷ ns) h = rw (not-so _ alone) (distinct-of ns (λ i. omega (ari
         count-cons (eqb n) n ns ∙ ap (λ b. cond b 1 0 + count (eqb n) ns) (eq-eqb n n refl) in
         omega (arith, h n)
 
+-- the numbers of entries as they are kept
+pub kept-numbers : (es : List Entry) → numbersOf (map keptOf es) ≡ map (λ (e : Entry). e .id .0) es
+kept-numbers [] = refl
+kept-numbers (e ∷ es) = rw (kept-numbers es)
+
+pub kept-distinct : (p : Entry → Bool) (m : Model) → ByNumber m
+    → distinct (numbersOf (map keptOf (filterb p (m .entries)))) ≡ true
+kept-distinct p m b =
+    ascending-distinct _ (subst⁻¹ Ascending (kept-numbers (filterb p (m .entries)))
+    (ascend-filter (λ (e : Entry). e .id .0) p (m .entries) (b .entries)))
+
 committed-distinct : (m : Model) → ByNumber m → distinct (numbersOf (committedIn m)) ≡ true
 unfolding committedIn
-committed-distinct m b =
-    ascending-distinct _ (subst⁻¹ Ascending (same (filterb (privateTo 0) (m .entries)))
-    (ascend-filter (λ (e : Entry). e .id .0) (privateTo 0) (m .entries) (b .entries)))
-  where
-    same : (es : List Entry) → numbersOf (map keptOf es) ≡ map (λ (e : Entry). e .id .0) es
-    same [] = refl
-    same (e ∷ es) = rw (same es)
+committed-distinct m b = kept-distinct (privateTo 0) m b
 
-pub serializes : (is : List Input) → Serial (serialRun (runs empty is .log)) (made is)
+-- where the run follows a space in which nothing is past its lease
+pub serial-of : (m : Model) (r : Run) → ByNumber m → Lasting m → TracksIn m r → Serial r m
 unfolding left committedIn
-serializes is =
+serial-of m r ordered lasting h =
     record {
       succeeds = h .ok;
       taken-once = distinct-of (r .taken) (λ n. omega (arith, h .once n));
       left-once = distinct-of (numbersOf (filterb lasts (r .kept))) (λ n. omega (arith, h .once n, kept-once n));
-      committed-once = committed-distinct m (consistent is .ordered);
+      committed-once = committed-distinct m ordered;
       same = λ k. (forth k, back k);
     }
   where
-    m : Model
-    m = made is
-
-    r : Run
-    r = serialRun (runs empty is .log)
-
-    h : TracksIn m r
-    h = linked is .tracks
-
     lasts : Kept → Bool
     lasts k = not (reached (r .clock) (k .end))
 
@@ -488,4 +488,8 @@ serializes is =
         all-map (λ k. List·Memᴰ k (filterb lasts (r .kept))) keptOf (filterb (privateTo 0) (m .entries))
         (all-filter (privateTo 0) (m .entries)
         (λ e i q. filter-mem lasts (h .agree .set .stored-kept e i (eqb-true (e .«private_to» .0) 0 q))
-        (ap not (ap (λ c. reached c (e .end)) (h .same-clock) ∙ lasting is e i))))
+        (ap not (ap (λ c. reached c (e .end)) (h .same-clock) ∙ lasting e i))))
+
+pub serializes : (is : List Input) → Serial (serialRun (runs empty is .log)) (made is)
+serializes is =
+    serial-of (made is) (serialRun (runs empty is .log)) (consistent is .ordered) (lasting is) (linked is .tracks)

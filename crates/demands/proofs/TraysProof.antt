@@ -31,7 +31,13 @@ use Rattle.demands.specs.Bounds.{InRange}
 use Rattle.sound.proofs.SoundProof.{sound-empty, sound-step}
 
 empty-bounded : Bounded empty
-empty-bounded = record { entries-fit = omega arith; txns-fit = omega arith; waits-fit = omega arith }
+empty-bounded =
+    record {
+      entries-fit = omega arith;
+      txns-fit = omega arith;
+      waits-fit = omega arith;
+      registrations-fit = omega arith;
+    }
 
 -- a run from any space
 record From (m : Model) (area : List ℕ) (fs : List (List ℕ)) (o : TrayOutcome) : Type 0 where

@@ -9,40 +9,42 @@ use mathlib.Core.List.{Memᴰ·of-map, Memᴰ·map}
 use native.Mathlib.Omega.{arith}
 use borrow.Author.Tests.{eqb-true, eq-eqb}
 use lib.Dec.{eqb}
-use lib.ListN.{length}
+use lib.ListN.{length, length-map}
 use Rattle.rules.specs.declared.Entry.{Entry}
 use Rattle.rules.specs.declared.Record.{Record}
 use Rattle.rules.specs.declared.Txn.{Txn}
 use Rattle.rules.specs.declared.TxnId.{TxnId}
 use Rattle.rules.specs.declared.Until.{Until}
 use Rattle.rules.specs.declared.LookUp.{LookUp}
-use Rattle.rules.specs.Lists.{filterb, anyb, All}
+use Rattle.rules.specs.declared.Registration.{Registration}
+use Rattle.rules.specs.Lists.{filterb, anyb, joined, distinct, All}
 use Rattle.rules.specs.Time.{until, reached}
-use Rattle.rules.specs.Template.{bit}
-use Rattle.rules.specs.State.{Model, withEntries, withTxns, withWaits, withClock, withNextEntry, withNextTxn}
+use Rattle.rules.specs.Template.{bit, markOf, matches}
+use Rattle.rules.specs.State.{Model, withEntries, withTxns, withWaits, withNextEntry, withNextTxn, withRegistrations}
 use Rattle.rules.specs.Holds.{liveTxn, addReaderOf, dropReaderOf, readByOther, visible, available, conflicts}
 use Rattle.rules.specs.Holds.{someAvailable, someConflicts}
-use Rattle.rules.specs.Frame.{Frame, entryNamed, isCreate, isTick}
+use Rattle.rules.specs.Frame.{Frame, entryNamed, isWrite, isCreate, isCommit, isTick}
 use Rattle.rules.specs.Numbers.{kindException, maxTxns}
-use Rattle.rules.specs.Records.{plain, written, found, nothing, waiting, created, exception}
+use Rattle.rules.specs.Records.{plain, written, found, nothing, waiting, created, exception, notified, rung}
 use Rattle.rules.specs.Write.{newEntry, stored}
 use Rattle.rules.specs.LookUp.{lookUpOf, removes, withHold, marked, isEntry, handOut, givesNothing}
 use Rattle.rules.specs.Transactions.{create, noTxn, released, withoutTxn, commit, abort, privateTo, takenBy}
 use Rattle.rules.specs.Renew.{hasNumber, endingAt, renewEntries, renew}
-use Rattle.rules.specs.Tick.{abortAll}
+use Rattle.rules.specs.Notify.{newRegistration, notify, madePublic, matching, withTotal, hearing, heardOf}
+use Rattle.rules.specs.Tick.{tick, unregistered, abortAll}
 use Rattle.rules.specs.SerialRun.{Kept, keptOf, keptTo}
 use Rattle.rules.specs.Sound.{At, TxnsOk}
 use Rattle.rules.proofs.ListLaws.{mem-filter, filter-mem, any-mem, mem-any, filter-same}
 use Rattle.rules.proofs.ReaderLaws.{bit-of-zero, no-bits}
+use Rattle.rules.proofs.DistinctLaws.{distinct-filter}
 use Rattle.demands.specs.Book.{LiveTold}
 use Rattle.demands.specs.Said.{endNow, entriesLeft, inVain, Own, writes, finds, finds-none, waits, creates}
-use Rattle.demands.specs.Said.{commits, aborts, renews, ticks, Serves, gone-through, is-found, waits-on, Service}
-use Rattle.demands.specs.Said.{follows}
-use Rattle.demands.specs.Said.{follows-not, exceptions, lapsed, givenNothing, nothings, Ends, in-order, Said}
-use Rattle.demands.specs.Said.{own-first, Oldest}
+use Rattle.demands.specs.Said.{commits, aborts, renews, notifies, ticks, bell, bells, Serves, gone-through}
+use Rattle.demands.specs.Said.{is-found, waits-on, Service, follows, follows-not, exceptions, lapsed}
+use Rattle.demands.specs.Said.{givenNothing, nothings, Ends, in-order, Said, own-first, Oldest}
 use Rattle.sound.proofs.AllLaws.{all-filter, all-map, all-snoc}
 use Rattle.sound.proofs.HoldLaws.{equal-or, not-so}
-use Rattle.sound.proofs.Consistent.{slot-free, txns-filter, txns-snoc}
+use Rattle.sound.proofs.Consistent.{cover, slot-free, txns-filter, txns-snoc}
 use Rattle.sound.proofs.Becomes.{newTxn}
 use Rattle.sound.proofs.HolderLaws.{add-live, drop-live, add-own, drop-own, add-other, drop-other, freed-at}
 
@@ -389,6 +391,103 @@ pub record Twins (m n : Model) : Type 0 where
   pub peers : Peers (m .nextTxn) (m .txns) (n .txns)
   pub entries : Matched (Like (m .txns) (n .txns)) (m .entries) (n .entries)
 
+-- ---- what is made public is the same, where each entry is stored once
+
+pub no-more : {R : Entry → Entry → Type 0} (es xs : List Entry) → ((e x : Entry) → R e x → e .id .0 ≡ x .id .0)
+    → distinct (map (λ (e : Entry). e .id .0) es) ≡ true
+    → ((e : Entry) → List·Memᴰ e es → (x : Entry) × List·Memᴰ x xs × R e x) → length es ≤ length xs
+no-more es xs same d h =
+    omega (
+      arith,
+      length-map es (λ (e : Entry). e .id .0),
+      cover (λ (e : Entry). e .id .0) (map (λ (e : Entry). e .id .0) es) xs d
+          (λ p i. let e = Memᴰ·of-map (λ (e : Entry). e .id .0) es i in
+          let x = h (e .0) (e .1) in
+          mem-any (λ (y : Entry). eqb (y .id .0) p) (x .1)
+          (eq-eqb (x .0 .id .0) p (sym (same (e .0) (x .0) (x .2)) ∙ e .2))),
+    )
+
+abbrev Once : Model → Type 0
+Once m = distinct (map (λ (e : Entry). e .id .0) (m .entries)) ≡ true
+
+public-same : (f : Frame) {m n : Model} → Twins m n → Once m → Once n → (g : Registration)
+    → matching (madePublic m f) g ≡ matching (madePublic n f) g
+unfolding madePublic matching newEntry
+public-same f {m} {n} t a b g = go (isWrite (f .op)) (eqb (f .txn) 0 && not (eqb (f .leaseOrTimeout) 0))
+    (isCommit (f .op))
+  where
+    asked : Entry → Bool
+    asked e = matches (g .mask) (g .fields) (e .fields)
+
+    own : Entry → Bool
+    own e = privateTo (f .txn) e && not (takenBy (f .txn) e)
+
+    number : Entry → ℕ
+    number e = e .id .0
+
+    both : Matched (Like (m .txns) (n .txns)) (filterb asked (filterb own (m .entries)))
+        (filterb asked (filterb own (n .entries)))
+    both =
+        matched-filter (matched-filter (t .entries) own own
+        (λ e x l. ap₂ (λ (o q : TxnId). eqb (o .0) (f .txn) && not (eqb (q .0) (f .txn))) (l .owner) (l .taker)))
+        asked asked (λ e x l. ap (λ (k : Kept). matches (g .mask) (g .fields) (k .fields)) (l .kept))
+
+    once : (k : Model) → Once k → distinct (map number (filterb asked (filterb own (k .entries)))) ≡ true
+    once k d = distinct-filter number asked (filterb own (k .entries)) (distinct-filter number own (k .entries) d)
+
+    committed : length (filterb asked (filterb own (m .entries))) ≡ length (filterb asked (filterb own (n .entries)))
+    committed =
+        let there =
+        no-more (filterb asked (filterb own (m .entries))) (filterb asked (filterb own (n .entries)))
+        (λ e x l. ap (λ (k : Kept). k .number) (l .kept)) (once m a) (both .forth) in
+        let back =
+        no-more (filterb asked (filterb own (n .entries))) (filterb asked (filterb own (m .entries)))
+        (λ x e l. sym (ap (λ (k : Kept). k .number) (l .kept))) (once n b) (both .back) in
+        omega arith
+
+    written : length (filterb asked (newEntry m f ∷ [])) ≡ length (filterb asked (newEntry n f ∷ []))
+    written = one (matches (g .mask) (g .fields) (markOf (f .mask) (f .fields)))
+      where
+        one : (b : Bool) → length (cond b (newEntry m f ∷ []) []) ≡ length (cond b (newEntry n f ∷ []) [])
+        one true = refl
+        one false = refl
+
+    go : (w p c : Bool)
+        → length (filterb asked (cond w (cond p (newEntry m f ∷ []) []) (cond c (filterb own (m .entries)) [])))
+        ≡ length (filterb asked (cond w (cond p (newEntry n f ∷ []) []) (cond c (filterb own (n .entries)) [])))
+    go true true c = written
+    go true false c = refl
+    go false p true = committed
+    go false p false = refl
+
+-- so registrations hear of the same, and give the same records
+heard-same : (es xs : List Entry) → ((g : Registration) → matching es g ≡ matching xs g) → (gs : List Registration)
+    → map (hearing es) gs ≡ map (hearing xs) gs
+unfolding hearing
+heard-same es xs h [] = refl
+heard-same es xs h (g ∷ gs) =
+    ap₂ {C = List Registration} (λ k l. withTotal (g .total + k) g ∷ l) (h g) (heard-same es xs h gs)
+
+heard-twins : (es xs : List Entry) → ((g : Registration) → matching es g ≡ matching xs g) → {m n : Model} → Twins m n
+    → Twins (heardOf es m) (heardOf xs n)
+unfolding heardOf
+heard-twins es xs h {m} {n} t =
+    record {
+      same =
+          ap (λ (k : Model). withRegistrations (map (hearing es) (k .registrations)) k) (t .same)
+          ∙ ap (λ gs. withRegistrations gs (rest n)) (heard-same es xs h (n .registrations));
+      peers = t .peers;
+      entries = t .entries;
+    }
+
+bells-same : (es xs : List Entry) → ((g : Registration) → matching es g ≡ matching xs g) → (gs : List Registration)
+    → joined (map (bell es) gs) ≡ joined (map (bell xs) gs)
+unfolding bell matching
+bells-same es xs h [] = refl
+bells-same es xs h (g ∷ gs) =
+    ap₂ (λ (k : ℕ) (l : List Record). cond (eqb k 0) [] (rung k (withTotal (g .total + k) g) ∷ []) ++ l) (h g)
+    (bells-same es xs h gs)
+
 stored-twins : (f : Frame) {m n : Model} → Twins m n → Twins (stored m f) (stored n f)
 unfolding stored newEntry
 stored-twins f {m} {n} t =
@@ -436,8 +535,13 @@ abort-twins k t =
           released-twins k (λ e. not (privateTo k e)) (λ e x l. ap (λ (o : TxnId). not (eqb (o .0) k)) (l .owner)) t;
     }
 
-clock-twins : {m n : Model} → Twins m n → Twins (withClock (m .clock + 1) m) (withClock (n .clock + 1) n)
-clock-twins t = record { same = ap (λ k. withClock (k .clock + 1) k) (t .same); peers = t .peers; entries = t .entries }
+tick-twins : {m n : Model} → Twins m n → Twins (tick m .model) (tick n .model)
+unfolding tick unregistered
+tick-twins t = record { same = ap (λ k. tick k .model) (t .same); peers = t .peers; entries = t .entries }
+
+notify-twins : (f : Frame) {m n : Model} → Twins m n → Twins (notify m f .model) (notify n f .model)
+unfolding notify newRegistration
+notify-twins f t = record { same = ap (λ k. notify k f .model) (t .same); peers = t .peers; entries = t .entries }
 
 drop-twins : {m n : Model} → Twins m n → Twins (withEntries (entriesLeft m) m) (withEntries (entriesLeft n) n)
 drop-twins {m} {n} t =
@@ -630,11 +734,15 @@ renew-twins f {m} {n} t =
 abbrev pub Roomy : Frame → Model → Type 0
 Roomy f m = isCreate (f .op) ≡ true → length (m .txns) < maxTxns
 
-own-twins : {f : Frame} {m n m′ : Model} {a : Record} → Twins m n → Roomy f m → Roomy f n → Own f m a m′
+own-twins : {f : Frame} {m n m′ : Model} {a : Record} → Twins m n → Once m → Once n → Roomy f m → Roomy f n
+    → Own f m a m′
     → (n′ : Model) × Own f n a n′ × Twins m′ n′
-own-twins {f} t r r′ (writes o) =
-    (_, renamed (ap (λ (k : Model). written f (k .nextEntry)) (t .same)) (writes o), stored-twins f t)
-own-twins {f} {m} {n} t r r′ (finds e l o) =
+own-twins {f} {m} {n} t c d r r′ (writes o) = (
+  _,
+  renamed (ap (λ (k : Model). written f (k .nextEntry)) (t .same)) (writes o),
+  heard-twins (madePublic m f) (madePublic n f) (public-same f t c d) (stored-twins f t),
+)
+own-twins {f} {m} {n} t c d r r′ (finds e l o) =
     let x = t .entries .forth e (o .stored) in
     let first = oldest-forth (t .peers) (t .entries) (lookUpOf m f) (x .2) (x .1) o in (
       _,
@@ -650,12 +758,12 @@ own-twins {f} {m} {n} t r r′ (finds e l o) =
             (asks-same f t) (handOut-like (t .peers) (lookUpOf m f) (x .2) (t .entries));
       },
     )
-own-twins {f} {m} {n} t r r′ (finds-none o u g) = (
+own-twins {f} {m} {n} t c d r r′ (finds-none o u g) = (
   n,
   renamed (ap nothing (asks-same f t)) (finds-none o (sym (some-same f t) ∙ u) (sym (vain-same f t) ∙ g)),
   t,
 )
-own-twins {f} t r r′ (waits o u g) = (
+own-twins {f} t c d r r′ (waits o u g) = (
   _,
   renamed (ap waiting (asks-same f t)) (waits o (sym (some-same f t) ∙ u) (sym (vain-same f t) ∙ g)),
   record {
@@ -664,16 +772,24 @@ own-twins {f} t r r′ (waits o u g) = (
     entries = t .entries;
   },
 )
-own-twins {f} t r r′ (creates o) = (
+own-twins {f} t c d r r′ (creates o) = (
   _,
   renamed (ap (λ (k : Model). created f (k .nextTxn)) (t .same)) (creates o),
   create-twins f t (r o) (r′ o),
 )
-own-twins {f} t r r′ (commits o) = (_, commits o, commit-twins (f .txn) t)
-own-twins {f} t r r′ (aborts o) = (_, aborts o, abort-twins (f .txn) t)
-own-twins {f} t r r′ (renews o) = (_, renews o, renew-twins f t)
-own-twins t r r′ (ticks o) = (_, ticks o, clock-twins t)
+own-twins {f} {m} {n} t c d r r′ (commits o) =
+    (_, commits o, heard-twins (madePublic m f) (madePublic n f) (public-same f t c d) (commit-twins (f .txn) t))
+own-twins {f} t c d r r′ (aborts o) = (_, aborts o, abort-twins (f .txn) t)
+own-twins {f} t c d r r′ (renews o) = (_, renews o, renew-twins f t)
+own-twins {f} t c d r r′ (notifies o) =
+    (_, renamed (ap (λ (k : Model). notified f (k .nextRegistration)) (t .same)) (notifies o), notify-twins f t)
+own-twins t c d r r′ (ticks o) = (_, ticks o, tick-twins t)
 
-pub said-twins : {f : Frame} {m n : Model} {rs : List Record} → Twins m n → Roomy f m → Roomy f n → Said f m rs
-    → Said f n rs
-said-twins t r r′ (own-first o e) = let n = own-twins t r r′ o in own-first (n .1) (ends-twins (n .2) e)
+pub said-twins : {f : Frame} {m n : Model} {rs : List Record} → Twins m n → Once m → Once n → Roomy f m → Roomy f n
+    → Said f m rs → Said f n rs
+said-twins {f} {m} {n} t c d r r′ (own-first {own} {rest = rest} o e) =
+    let k = own-twins t c d r r′ o in
+    let same : bells f m ≡ bells f n =
+    bells-same (madePublic m f) (madePublic n f) (public-same f t c d) (m .registrations)
+    ∙ ap (λ (j : Model). joined (map (bell (madePublic n f)) (j .registrations))) (t .same) in
+    subst⁻¹ (λ l. Said f n (own ∷ rest ++ l)) same (own-first (k .1) (ends-twins (k .2) e))

@@ -16,12 +16,13 @@ use Rattle.rules.specs.Numbers.{kindException}
 use Rattle.rules.specs.State.{Model, empty}
 use Rattle.rules.specs.Frame.{Frame, decode}
 use Rattle.rules.specs.Records.{written, found, nothing, waiting, created, committed, aborted, exception, ticked}
-use Rattle.rules.specs.Records.{renewed, refused}
+use Rattle.rules.specs.Records.{renewed, notified, rung, refused}
 use Rattle.rules.specs.Write.{stored}
 use Rattle.rules.specs.LookUp.{lookUpOf}
 use Rattle.rules.specs.Transactions.{create, commit, abort}
 use Rattle.rules.specs.Renew.{renew}
-use Rattle.rules.specs.Tick.{dropEnded}
+use Rattle.rules.specs.Notify.{notify, heardOf}
+use Rattle.rules.specs.Tick.{tick, unregistered, dropEnded}
 use Rattle.rules.specs.Refusals.{refusal}
 use Rattle.rules.specs.SerialRun.{Logged}
 use Rattle.rules.specs.Sound.{Consistent}
@@ -39,7 +40,7 @@ use Rattle.demands.proofs.Runs.{runs, made}
 use Rattle.sound.proofs.AllLaws.{filter-map}
 use Rattle.demands.proofs.BookProof.{named, itself}
 use Rattle.sound.proofs.Events.{Heard, asking, saying, Event, refuses, asks, writes, is-found, is-nothing, is-waiting}
-use Rattle.sound.proofs.Events.{creates, commits, aborts, renews, ticks, excepts, expires}
+use Rattle.sound.proofs.Events.{creates, commits, aborts, renews, notifies, ticks, excepts, expires, rings}
 use Rattle.sound.proofs.Consistent.{owner-inside}
 use Rattle.demands.proofs.ByEvents.{Reader, hearsAll, readsLog, made-keep}
 use Rattle.demands.proofs.ByRule.{rules-follow}
@@ -324,7 +325,7 @@ module _ {m : Model} {s : Sums} (h : Stands m s) where
 sum-event : {f : Frame} {m n : Model} {hs : List Heard} (s : Sums) → Event f m hs n → Consistent m → Stands m s
     → Stands n (hearsAll sums f hs s)
 unfolding sums written stored found nothing waiting created create committed commit aborted abort exception ticked
-    refused renewed renew dropEnded lookUpOf
+    refused renewed renew notified notify rung heardOf tick unregistered dropEnded lookUpOf
 sum-event s (refuses m bs area q) k h = unmoved (refused bs (refusal m bs area)) refl refl refl refl h
 sum-event {f} s (asks m t a) k h =
     record {
@@ -362,12 +363,14 @@ sum-event {f} s (aborts m t a) k h =
     (λ v i. shuts-inside (f .party) (f .txn) v (owner-inside k (a .ends (abort-ends (f .op) t)) v i))
     refl refl refl refl
 sum-event {f} s (renews m t a) k h = unmoved (renewed f) refl refl refl refl h
+sum-event {f} s (notifies m t a) k h = unmoved (notified f (m .nextRegistration)) refl refl refl refl h
 sum-event {f} s (ticks m t a) k h = unmoved ticked refl refl refl refl h
 sum-event {f} s (excepts m t j i r) k h =
     ended h (exception t)
     (λ v l. shuts-inside (t .party) (t .id .0) v (owner-inside k (t, i, refl, refl) v l)) refl refl refl refl
 sum-event s (expires m k) j h =
     record { waiting = h .waiting; sum = h .sum; founds = h .founds; nothings = h .nothings }
+sum-event s (rings m c g i l) k h = unmoved (rung c g) refl refl refl refl h
 
 -- ---- of every list of frames
 

@@ -14,7 +14,7 @@ use Rattle.rules.specs.State.{Model}
 use Rattle.rules.specs.Frame.{Frame, layoutOf, decode, isAbort}
 use Rattle.rules.specs.Holds.{liveTxn}
 use Rattle.rules.specs.Refusals.{withdraws, partyWaits, notLive, notOwn, noLease, tooLate, entriesFull, txnsFull}
-use Rattle.rules.specs.Refusals.{noNumber, noEntry, notWriter, notFree, refusal}
+use Rattle.rules.specs.Refusals.{registrationsFull, noNumber, noEntry, notWriter, notFree, refusal}
 use Rattle.rules.specs.Step.{carriedOut, accepted, refusedWith, step}
 use Rattle.rules.specs.Sound.{LiveOf, TxnsOk, Consistent}
 use Rattle.rules.proofs.ListLaws.{mem-any, all-false, none-mem, any-find, find-some}
@@ -30,13 +30,15 @@ use Rattle.demands.specs.Withdrawn.{waitedBefore, aheadOf6, behind6, ref
 -- an abort of a live transaction of the party is let pass by the rows behind 6
 none-for : (m : Model) (f : Frame) → f .op ≡ opAbort → eqb (f .txn) 0 ≡ false → {n : ℕ} → TxnsOk n (m .txns)
     → LiveOf (f .txn) (f .party) (m .txns) → firstRow (behind6 m f) ≡ 0
-unfolding noEntry notWriter notFree notLive notOwn noLease tooLate entriesFull txnsFull noNumber layoutOf liveTxn
+unfolding noEntry notWriter notFree notLive notOwn noLease tooLate entriesFull txnsFull registrationsFull noNumber
+    layoutOf liveTxn
 none-for m f o z ok live =
     let mine : Txn → Bool = λ x. eqb (x .id .0) (f .txn) in
     let any = mem-any mine (live .1) (eq-eqb (live .0 .id .0) (f .txn) (live .2)) in
     let x = any-find mine (m .txns) any in
     let found = find-some mine (m .txns) (x .1) in
-    let one = ok .unique (x .0) (live .0) (found .0) (live .1) (eqb-true (x .0 .id .0) (f .txn) (found .1) ∙ sym (live .2)) in
+    let one = ok .unique (x .0) (live .0) (found .0) (live .1)
+    (eqb-true (x .0 .id .0) (f .txn) (found .1) ∙ sym (live .2)) in
     let own = eq-eqb (x .0 .party) (f .party) (ap (λ (t : Txn). t .party) one ∙ live .3) in
     rw (o, z, any, x .1, own)
 

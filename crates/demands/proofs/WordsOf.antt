@@ -11,15 +11,17 @@ use lib.Seq.{take-at, drop-at, drop-drop}
 use Rattle.rules.specs.declared.Entry.{Entry}
 use Rattle.rules.specs.declared.Txn.{Txn}
 use Rattle.rules.specs.declared.LookUp.{LookUp}
+use Rattle.rules.specs.declared.Registration.{Registration}
 use Rattle.rules.specs.declared.Until.{Until}
 use Rattle.rules.specs.declared.Until.the-variants.{Tick, Forever}
-use Rattle.rules.specs.Numbers.{forever, maxEntries, maxTxns, maxWaits}
+use Rattle.rules.specs.Numbers.{forever, maxEntries, maxTxns, maxWaits, maxRegistrations}
 use Rattle.rules.specs.Lists.{joined, All}
 use Rattle.rules.specs.State.{Model, Bounded}
 use Rattle.rules.specs.Frame.{lookUpOp, isTake, isIfExists}
-use Rattle.rules.specs.Words.{upTo, row, table, untilOf, untilWord, entryOf, txnOf, waitOf, entries, txns, waits, view}
-use Rattle.rules.specs.Words.{entryWords, txnWords, waitWords, entriesAt, entryWidth, txnsAt, txnWidth, waitsAt}
-use Rattle.rules.specs.Words.{waitWidth}
+use Rattle.rules.specs.Words.{upTo, row, table, untilOf, untilWord, entryOf, txnOf, waitOf, registrationOf, entries}
+use Rattle.rules.specs.Words.{txns, waits, registrations, view, entryWords, txnWords, waitWords, entriesAt, entryWidth}
+use Rattle.rules.specs.Words.{txnsAt, txnWidth, waitsAt, waitWidth, registrationWords, registrationsAt}
+use Rattle.rules.specs.Words.{registrationWidth}
 use Rattle.rules.specs.Time.{EndFits}
 use Rattle.rules.proofs.NumberLaws.{three-bytes}
 
@@ -90,7 +92,7 @@ module _ {A : Type 0} (read : List ℕ → A) (write : A → List ℕ) (w : ℕ)
         sym (drop-drop (w * most) b ws) ∙ ap (drop (w * most)) e ∙ drop-at (rows ++ zeros) rest (w * most) size,
       )
 
--- ---- rows of entries, transactions and look-ups
+-- ---- rows of entries, transactions, look-ups and registrations
 
 until-back : (u : Until) → EndFits u → untilOf (untilWord u) ≡ u
 unfolding untilOf
@@ -113,6 +115,9 @@ TxnFits t = (t .party < 256) × (t .slot < 8) × EndFits (t .end)
 abbrev WaitFits : LookUp → Type 0
 WaitFits w = (w .party < 256) × (w .mask < 256) × EndFits (w .deadline)
 
+abbrev RegistrationFits : Registration → Type 0
+RegistrationFits g = (g .party < 256) × (g .mask < 256) × EndFits (g .end)
+
 entry-back : (e : Entry) → EntryFits e → entryOf (entryWords e) ≡ e
 unfolding entryOf
 entry-back e (r, (b, w), f) =
@@ -129,13 +134,20 @@ wait-back w (p, k, f) =
     let op = op-back (w .takes) (w .«if_exists») in
     rw (until-back (w .deadline) f, mod-eq-of-lt p, mod-eq-of-lt k, op .0, op .1)
 
+registration-back : (g : Registration) → RegistrationFits g → registrationOf (registrationWords g) ≡ g
+unfolding registrationOf
+registration-back g (p, k, f) = rw (until-back (g .end) f, mod-eq-of-lt p, mod-eq-of-lt k)
+
 -- ---- the words of a model
 
 wordsOf : Model → List ℕ
 wordsOf m =
-    (m .clock ∷ m .nextEntry ∷ m .nextTxn ∷ length (m .entries) ∷ length (m .txns) ∷ length (m .waits) ∷ [])
+    (m .clock ∷ m .nextEntry ∷ m .nextTxn ∷ length (m .entries) ∷ length (m .txns) ∷ length (m .waits)
+    ∷ m .nextRegistration ∷ length (m .registrations) ∷ [])
     ++ (packed (entryWidth * maxEntries) entryWords (m .entries)
-    ++ (packed (txnWidth * maxTxns) txnWords (m .txns) ++ packed (waitWidth * maxWaits) waitWords (m .waits)))
+    ++ (packed (txnWidth * maxTxns) txnWords (m .txns)
+    ++ (packed (waitWidth * maxWaits) waitWords (m .waits)
+    ++ packed (registrationWidth * maxRegistrations) registrationWords (m .registrations))))
 
 -- a model that words can hold
 pub record Fits (m : Model) : Type 0 where
@@ -143,9 +155,10 @@ pub record Fits (m : Model) : Type 0 where
   pub entries : All EntryFits (m .entries)
   pub txns : All TxnFits (m .txns)
   pub waits : All WaitFits (m .waits)
+  pub registrations : All RegistrationFits (m .registrations)
 
 pub words-of : (m : Model) → Fits m → (ws : List ℕ) × (view ws ≡ m)
-unfolding view wordsOf entries txns waits
+unfolding view wordsOf entries txns waits registrations
 words-of m h =
     let ws = wordsOf m in
     let e =
@@ -156,5 +169,9 @@ words-of m h =
     (λ t i. txn-back t (h .txns t i)) (e .1) in
     let w =
     packed-back waitOf waitWords waitWidth (λ w. refl) waitsAt maxWaits ws (m .waits) (h .bounded .waits-fit)
-    (λ w i. wait-back w (h .waits w i)) (t .1 ∙ sym (append-nil _)) in
-    (ws, rw (e .0, t .0, w .0))
+    (λ w i. wait-back w (h .waits w i)) (t .1) in
+    let g =
+    packed-back registrationOf registrationWords registrationWidth (λ g. refl) registrationsAt maxRegistrations ws
+    (m .registrations) (h .bounded .registrations-fit) (λ g i. registration-back g (h .registrations g i))
+    (w .1 ∙ sym (append-nil _)) in
+    (ws, rw (e .0, t .0, w .0, g .0))

@@ -8,6 +8,7 @@ use mathlib.Core.List.{List, List·Memᴰ}
 use Rattle.rules.specs.declared.Entry.{Entry}
 use Rattle.rules.specs.declared.LookUp.{LookUp}
 use Rattle.rules.specs.declared.Record.{Record}
+use Rattle.rules.specs.declared.Registration.{Registration}
 use Rattle.rules.specs.declared.Txn.{Txn}
 use Rattle.rules.specs.Numbers.{lastClock}
 use Rattle.rules.specs.Time.{EndFits}
@@ -37,6 +38,7 @@ pub record Timely (m : Model) : Type 0 where
   pub entries : (e : Entry) → List·Memᴰ e (m .entries) → EndFits (e .end)
   pub txns : (t : Txn) → List·Memᴰ t (m .txns) → EndFits (t .end)
   pub waits : (w : LookUp) → List·Memᴰ w (m .waits) → EndFits (w .deadline)
+  pub registrations : (g : Registration) → List·Memᴰ g (m .registrations) → EndFits (g .end)
 
 -- a record's numbers fit their bytes, and what is blank is 0 ("a bit of 1 is blank, and the field must be 0": T-08)
 pub record InRange (r : Record) : Type 0 where

@@ -13,6 +13,7 @@ use Rattle.demands.specs.Judged.{CarriedOut, Judged}
 use Rattle.demands.specs.Said.{Said}
 use Rattle.demands.specs.Book.{bookOf, Booked}
 use Rattle.demands.specs.Told.{Explained}
+use Rattle.demands.specs.Registry.{registryOf, RegisteredIn}
 
 -- Demand 1. "A request frame, whole, short or garbled, is carried out or refused with a number; a refused frame changes
 -- nothing but the refusal record."
@@ -28,7 +29,7 @@ pub record Demand1 (S : Machine) : Type 0 where
 -- space: `found-exactly`, `nothing-only` and `in-time` in `Consequences`.
 pub record Demand2 (S : Machine) : Type 0 where
   -- a frame that is carried out says what document 01 says, record by record: its own record first, then exceptions,
-  -- founds in the order served, nothings
+  -- founds in the order served, nothings, those of kind 11
   pub said : EveryStep S (λ t h u a. CarriedOut S t h → Said (frameIn h) (S .view t) (a .records))
   -- the count that is returned is that of the records written
   pub counted : EveryStep S (λ t h u a. a .count ≡ length (a .records))
@@ -39,6 +40,9 @@ pub record Demand2 (S : Machine) : Type 0 where
   -- its stored entries, to whom they are private, by whom taken and read, are what the serial run's set and the live
   -- transactions' lists tell
   pub told : EveryState S (λ log t. Explained (serialRun log) (S .view t))
+  -- its registrations, each with the total of the matching entries made public since, are what frames and records tell
+  -- (document 02, T-03)
+  pub registered : EveryState S (λ log t. RegisteredIn (registryOf log) (S .view t))
 
 -- Demand 3. "For every list of frames from the empty space, the committed entries are exactly those of the serial run:
 -- one theorem over whole histories."

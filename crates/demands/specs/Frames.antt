@@ -5,9 +5,9 @@ use Rattle.rules.specs.declared.Fields.{Fields}
 use Rattle.rules.specs.declared.Mark.{Mark}
 use Rattle.rules.specs.declared.Record.{Record}
 use Rattle.rules.specs.Numbers.{opWrite, opRead, opTake, opReadIfExists, opTakeIfExists, opCreate, opCommit, opAbort}
-use Rattle.rules.specs.Numbers.{opTick, opRenew, kindWritten, kindFound, kindNothing, kindWaiting, kindCreated}
-use Rattle.rules.specs.Numbers.{kindCommitted}
-use Rattle.rules.specs.Numbers.{kindAborted, kindException, kindTicked, kindRenewed, kindRefused}
+use Rattle.rules.specs.Numbers.{opTick, opNotify, opRenew, kindWritten, kindFound, kindNothing, kindWaiting}
+use Rattle.rules.specs.Numbers.{kindCreated, kindCommitted, kindAborted, kindException, kindTicked, kindNotified}
+use Rattle.rules.specs.Numbers.{kindRung, kindRenewed, kindRefused}
 use Rattle.rules.specs.Records.{noMark, plain}
 use Rattle.rules.specs.Template.{markOf}
 use Rattle.rules.specs.Frame.{fourBytes}
@@ -44,6 +44,10 @@ readIfExists-by party t timeout k = long opReadIfExists party t timeout 1 (F k 0
 
 abbrev pub takeIfExists-by : ℕ → ℕ → ℕ → ℕ → List ℕ
 takeIfExists-by party t timeout k = long opTakeIfExists party t timeout 1 (F k 0 0 0)
+
+-- by party: the lease, and a kind, the one field that is asked for
+abbrev pub notify-by : ℕ → ℕ → ℕ → List ℕ
+notify-by party lease k = long opNotify party 0 lease 1 (F k 0 0 0)
 
 -- by party: the entry, and the lease
 abbrev pub renew-by : ℕ → ℕ → ℕ → List ℕ
@@ -86,6 +90,13 @@ Found-blank party t n blanks x = answer kindFound party 0 t n (markOf blanks x)
 
 abbrev pub Renewed : ℕ → ℕ → Record
 Renewed party n = answer kindRenewed party 0 0 n noMark
+
+-- by party: the registration's number; with it the count in a step and the total
+abbrev pub Notified : ℕ → ℕ → Record
+Notified party n = answer kindNotified party 0 0 n noMark
+
+abbrev pub Rung : ℕ → ℕ → ℕ → ℕ → Record
+Rung party n count total = answer kindRung party 0 0 n (markOf 0 (F count total 0 0))
 
 abbrev pub Nothing : ℕ → ℕ → Record
 Nothing party t = plain kindNothing party t

@@ -5,6 +5,7 @@ pub mod Judged
 pub mod Said
 pub mod Book
 pub mod Told
+pub mod Registry
 pub mod Demands
 -- what they leave open (nothing), and what follows from them
 pub mod Determined

@@ -1,7 +1,7 @@
 -- What the demands rule out: a small wrong space for each of document 01's Contracts c, for each mistake that students
 -- make, for silence, order and time, for the newest mark first, for frames of another length, for number 14, for
--- aborts out of a wait, for waits in vain, for blanks and for renewals; and the statement that the demand named for
--- it fails.
+-- aborts out of a wait, for waits in vain, for blanks, for renewals and for bells; and the statement that the demand
+-- named for it fails.
 -- (`Determined` says that no wrong space is left.)
 use Prim.Native.Nat.{ℕ, suc, _+_}
 use mathlib.Core.Bool.{Bool, true, not, cond, _&&_, _||_}
@@ -12,21 +12,22 @@ use lib.ListN.{length, take}
 use Rattle.rules.specs.declared.Entry.{Entry}
 use Rattle.rules.specs.declared.LookUp.{LookUp}
 use Rattle.rules.specs.declared.Record.{Record}
+use Rattle.rules.specs.declared.Registration.{Registration}
 use Rattle.rules.specs.declared.Until.{Until}
 use Rattle.rules.specs.declared.Until.the-variants.{Tick, Forever}
-use Rattle.rules.specs.Numbers.{notWriterRefused, heldRefused}
-use Rattle.rules.specs.Numbers.{maxWaits, opCreate, opCommit, operationRefused, formRefused, waitingRefused}
-use Rattle.rules.specs.Lists.{filterb, findb}
+use Rattle.rules.specs.Numbers.{notWriterRefused, heldRefused, maxWaits, opCreate, opCommit, operationRefused}
+use Rattle.rules.specs.Numbers.{formRefused, waitingRefused}
+use Rattle.rules.specs.Lists.{filterb, findb, joined}
 use Rattle.rules.specs.Time.{until, reached}
-use Rattle.rules.specs.State.{Model, withEntries, withWaits, withClock, withNextEntry}
+use Rattle.rules.specs.State.{Model, withEntries, withWaits, withClock, withNextEntry, withRegistrations}
 use Rattle.rules.specs.Template.{matches, markOf, bare}
 use Rattle.rules.specs.Holds.{visible, available, oldest}
-use Rattle.rules.specs.Frame.{Frame, byteAt, decode, frameLength, isWrite, isLookUp, isCommit, isAbort, isTick}
-use Rattle.rules.specs.Frame.{isRenew, entryNamed, serves}
-use Rattle.rules.specs.Records.{written, found, nothing, committed, aborted, exception, ticked}
-use Rattle.rules.specs.Records.{renewed}
+use Rattle.rules.specs.Frame.{Frame, byteAt, decode, frameLength, isWrite, isLookUp, isCommit, isAbort, isTick, isRenew}
+use Rattle.rules.specs.Frame.{entryNamed, serves}
+use Rattle.rules.specs.Records.{written, found, nothing, committed, aborted, exception, ticked, renewed}
 use Rattle.rules.specs.Renew.{hasNumber, endingAt, renewedTo}
-use Rattle.rules.specs.Done.{Carried, Done, after, quiet}
+use Rattle.rules.specs.Notify.{madePublic, withTotal, ringing}
+use Rattle.rules.specs.Done.{Carried, Done, after, endingWith, quiet}
 use Rattle.rules.specs.LookUp.{lookUpOf, handOut, answer, answerNothing, answerWaiting}
 use Rattle.rules.specs.Transactions.{abort, takenBy}
 use Rattle.rules.specs.Service.{serve, service}
@@ -34,7 +35,7 @@ use Rattle.rules.specs.Tick.{endedTxns, abortAll, dropEnded}
 use Rattle.rules.specs.Closing.{isOver, closeWaits}
 use Rattle.rules.specs.Refusals.{badBlanks, refusal}
 use Rattle.rules.specs.Write.{newEntry, stored}
-use Rattle.rules.specs.Step.{ownPart, carriedOut, accepted, refusedWith, step}
+use Rattle.rules.specs.Step.{ownPart, finish, carriedOut, accepted, refusedWith, step}
 use Rattle.rules.specs.Allowed.{Answered}
 use Rattle.demands.specs.Machine.{Machine, Stepper, StepsBy, spaceOf, theRules}
 use Rattle.demands.specs.Demands.{Demand1, Demand2, Demand3}
@@ -415,6 +416,41 @@ forgetsWriter =
     } in
     carriedOut (withEntries (map by (m .entries)) m) f)
 
+-- "Bell for new images" (document 02, T-03)
+
+-- rings for a put-back: for what an aborted transaction had taken
+unfoldable pub ringsPutBacks : Stepper
+ringsPutBacks =
+    carrying (λ f. isAbort (f .op))
+    (λ m f. endingWith (ringing (filterb (takenBy (f .txn)) (m .entries)) (m .registrations)) (carriedOut m f))
+
+-- a write or commit that rings in another way
+abbrev pub ringingWith : (List Entry → List Registration → Done → List Record) → Stepper
+ringingWith rings =
+    carrying (λ f. isWrite (f .op) || isCommit (f .op))
+    (λ m f. let c = ownPart m f in
+    let d = finish f (c .model) in
+    record { model = d .model; records = c .own ∷ rings (madePublic m f) (m .registrations) d })
+
+-- one record for each entry instead of one for each registration
+unfoldable pub ringsForEach : Stepper
+ringsForEach = ringingWith (λ es gs d. d .records ++ joined (map (λ e. ringing (e ∷ []) gs) es))
+
+-- ahead of the founds
+unfoldable pub ringsFirst : Stepper
+ringsFirst = ringingWith (λ es gs d. ringing es gs ++ d .records)
+
+-- the total starts at 0 again in each step
+unfoldable pub startsOver : Stepper
+startsOver = ringingWith (λ es gs d. d .records ++ ringing es (map (withTotal 0) gs))
+
+-- a registration outlives its lease
+unfoldable pub ringsOn : Stepper
+ringsOn =
+    carrying (λ f. isTick (f .op))
+    (λ m f. let d = carriedOut m f in
+    record { model = withRegistrations (m .registrations) (d .model); records = d .records })
+
 -- answers no frame at all
 abbrev pub mute : Machine
 mute = record { State = Model; view = λ m. m; Empty = theRules .Empty; Steps = λ m h n a. ⊥ }
@@ -460,4 +496,9 @@ pub record RuledOut : Type 0 where
   pub renews-anothers : Demand1 (spaceOf renewsAnothers) → ⊥
   pub leaves-lease-0 : Demand2 (spaceOf leavesLease0) → ⊥
   pub forgets-writer : Demand2 (spaceOf forgetsWriter) → ⊥
+  pub rings-put-backs : Demand2 (spaceOf ringsPutBacks) → ⊥
+  pub rings-for-each : Demand2 (spaceOf ringsForEach) → ⊥
+  pub rings-first : Demand2 (spaceOf ringsFirst) → ⊥
+  pub starts-over : Demand2 (spaceOf startsOver) → ⊥
+  pub rings-on : Demand2 (spaceOf ringsOn) → ⊥
   pub answers-none : Demand1 mute → ⊥

@@ -5,22 +5,27 @@ use mathlib.Core.Bool.{Bool, true, false, cond, not, _&&_, _||_}
 use mathlib.Core.Path.{_≡_}
 use mathlib.Core.List.{List, [], _∷_, _++_, map, List·Memᴰ}
 use lib.Dec.{eqb}
+use lib.ListN.{length}
 use Rattle.rules.specs.declared.Entry.{Entry}
 use Rattle.rules.specs.declared.LookUp.{LookUp}
 use Rattle.rules.specs.declared.Record.{Record}
+use Rattle.rules.specs.declared.Registration.{Registration}
 use Rattle.rules.specs.declared.Txn.{Txn}
-use Rattle.rules.specs.Lists.{filterb}
+use Rattle.rules.specs.Lists.{filterb, joined}
 use Rattle.rules.specs.Time.{reached}
-use Rattle.rules.specs.State.{Model, withClock, withEntries, withWaits}
+use Rattle.rules.specs.Template.{matches}
+use Rattle.rules.specs.State.{Model, withEntries, withWaits}
 use Rattle.rules.specs.Holds.{available, someAvailable, someConflicts}
-use Rattle.rules.specs.Frame.{Frame, isWrite, isLookUp, isIfExists, isCreate, isCommit, isAbort, isRenew, isTick}
+use Rattle.rules.specs.Frame.{Frame, isWrite, isLookUp, isIfExists, isCreate, isCommit, isAbort, isRenew, isNotify}
+use Rattle.rules.specs.Frame.{isTick}
 use Rattle.rules.specs.Records.{written, found, nothing, waiting, created, committed, aborted, exception, ticked}
-use Rattle.rules.specs.Records.{renewed}
+use Rattle.rules.specs.Records.{renewed, notified, rung}
 use Rattle.rules.specs.Write.{stored}
 use Rattle.rules.specs.LookUp.{lookUpOf, handOut}
 use Rattle.rules.specs.Transactions.{create, commit, abort}
 use Rattle.rules.specs.Renew.{renew}
-use Rattle.rules.specs.Tick.{abortAll}
+use Rattle.rules.specs.Notify.{notify, madePublic, heardOf, withTotal}
+use Rattle.rules.specs.Tick.{tick, abortAll}
 
 -- with no entry available: "timeout 0 gives nothing", and "the IfExists kinds .. give nothing if none" conflicts
 abbrev pub inVain : Frame → Model → Bool
@@ -37,7 +42,8 @@ pub record Oldest (ts : List Txn) (w : LookUp) (es : List Entry) (e : Entry) : T
 
 -- "What each frame does" of its own: the frame's own record, and the tables then
 pub data Own (f : Frame) (m : Model) : Record → Model → Type 0 where
-  writes : isWrite (f .op) ≡ true → Own f m (written f (m .nextEntry)) (stored m f)
+  -- registrations hear of what a write or a commit makes public (document 02, T-03)
+  writes : isWrite (f .op) ≡ true → Own f m (written f (m .nextEntry)) (heardOf (madePublic m f) (stored m f))
   -- "Found, if an entry is available."
   finds : (e : Entry) → isLookUp (f .op) ≡ true
       → Oldest (m .txns) (lookUpOf m f) (m .entries) e
@@ -52,12 +58,14 @@ pub data Own (f : Frame) (m : Model) : Record → Model → Type 0 where
       → inVain f m ≡ false
       → Own f m (waiting (lookUpOf m f)) (withWaits (m .waits ++ (lookUpOf m f ∷ [])) m)
   creates : isCreate (f .op) ≡ true → Own f m (created f (m .nextTxn)) (create m f .model)
-  commits : isCommit (f .op) ≡ true → Own f m (committed f) (commit (f .txn) m)
+  commits : isCommit (f .op) ≡ true → Own f m (committed f) (heardOf (madePublic m f) (commit (f .txn) m))
   aborts : isAbort (f .op) ≡ true → Own f m (aborted f) (abort (f .txn) m)
   -- "the entry then ends at clock + lease .. Lease 0 removes it in this step" (document 02, T-05)
   renews : isRenew (f .op) ≡ true → Own f m (renewed f) (renew m f .model)
-  -- "the clock advances"
-  ticks : isTick (f .op) ≡ true → Own f m ticked (withClock (m .clock + 1) m)
+  -- "answered by kind 10 with a registration number, counted from 1, in the entry place" (document 02, T-03)
+  notifies : isNotify (f .op) ≡ true → Own f m (notified f (m .nextRegistration)) (notify m f .model)
+  -- "the clock advances"; registrations that end now go
+  ticks : isTick (f .op) ≡ true → Own f m ticked (tick m .model)
 
 -- "The waiting look-ups are gone through once in order of arrival, and each with an available entry is answered found":
 -- from the entries and the waiting look-ups to the founds in the order served, the look-ups that wait on, and the
@@ -114,6 +122,17 @@ pub data Ends (f : Frame) (m : Model) : List Record → Type 0 where
   in-order : {founds : List Record} {left : List LookUp} {xs : List Entry} → Service f (lapsed f m) founds left xs
       → Ends f m (exceptions f m ++ founds ++ nothings (lapsed f m) xs left)
 
+-- "each registration that matches some gives one record of kind 11 to its party, after all others, by number:
+-- registration number in the entry place, count in this step in kind, total so far in side" (document 02, T-03)
+unfoldable pub bell : List Entry → Registration → List Record
+bell es g =
+    let count = length (filterb (λ (e : Entry). matches (g .mask) (g .fields) (e .fields)) es) in
+    cond (eqb count 0) [] (rung count (withTotal (g .total + count) g) ∷ [])
+
+abbrev pub bells : Frame → Model → List Record
+bells f m = joined (map (bell (madePublic m f)) (m .registrations))
+
 -- "The frame's own record comes first"
 pub data Said (f : Frame) (m : Model) : List Record → Type 0 where
-  own-first : {own : Record} {n : Model} {rest : List Record} → Own f m own n → Ends f n rest → Said f m (own ∷ rest)
+  own-first : {own : Record} {n : Model} {rest : List Record} → Own f m own n → Ends f n rest
+      → Said f m (own ∷ rest ++ bells f m)

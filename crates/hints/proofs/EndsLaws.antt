@@ -13,8 +13,9 @@ use Rattle.rules.specs.Lists.{All, filterb}
 use Rattle.rules.specs.Time.{until}
 use Rattle.rules.specs.State.{Model}
 use Rattle.rules.specs.Holds.{oldest}
-use Rattle.rules.specs.Frame.{Frame, decode, isWrite, isLookUp, isCreate, isRenew, isTick}
+use Rattle.rules.specs.Frame.{Frame, decode, isWrite, isLookUp, isCreate, isRenew, isNotify, isTick}
 use Rattle.rules.specs.Done.{Carried, Done}
+use Rattle.rules.specs.Notify.{newRegistration, hearing}
 use Rattle.rules.specs.Write.{newEntry}
 use Rattle.rules.specs.LookUp.{lookUpOf, givesNothing, answer, answerFound, answerNothing, answerWaiting, lookUp}
 use Rattle.rules.specs.Closing.{closeWaits}
@@ -22,12 +23,12 @@ use Rattle.rules.specs.Step.{Outcome, step, carriedOut, accepted, refusedWith}
 use Rattle.rules.specs.Refusals.{refusal}
 use Rattle.rules.specs.Sound.{Consistent, Sound}
 use Rattle.rules.proofs.BoolLaws.{bool-cases, cond-cases}
-use Rattle.rules.proofs.LayoutLaws.{write-not-tick, create-not-tick, renew-not-tick}
+use Rattle.rules.proofs.LayoutLaws.{write-not-tick, create-not-tick, renew-not-tick, notify-not-tick}
 use Rattle.rules.proofs.ListLaws.{mem-filter, filter-append}
 use Rattle.sound.proofs.HoldLaws.{equal-or}
 use Rattle.sound.proofs.OwnPartLaws.{carried-lookUp, step-accepted}
 use Rattle.sound.proofs.Events.{Heard, Event, Events, over, then, heard}
-use Rattle.sound.proofs.Becomes.{endsEntry, kept-all, waits-all, txns-all, clock-moves}
+use Rattle.sound.proofs.Becomes.{endsEntry, kept-all, waits-all, txns-all, registrations-all, clock-moves}
 use Rattle.sound.proofs.ConsistentProof.{consistent-event}
 use Rattle.sound.proofs.EventsProof.{step-events}
 
@@ -65,6 +66,17 @@ module _ (f : Frame) (c : ℕ) where
         txns-events t (stands e k) new
         (txns-all (λ x. P (x .end)) e
         (λ w a. subst⁻¹ (λ b. P (until b (f .leaseOrTimeout))) (at m (create-not-tick (f .op) w) k) (new w)) h)
+
+    registrations-events : {m n : Model} {hs : List Heard} → Events f m hs n → Stands m
+        → (isNotify (f .op) ≡ true → P (until c (f .leaseOrTimeout)))
+        → All (λ g. P (g .end)) (m .registrations) → All (λ g. P (g .end)) (n .registrations)
+    unfolding newRegistration hearing
+    registrations-events over k new h = h
+    registrations-events {m} (then e t) k new h =
+        registrations-events t (stands e k) new
+        (registrations-all (λ g. P (g .end)) e
+        (λ w a. subst⁻¹ (λ b. P (until b (f .leaseOrTimeout))) (at m (notify-not-tick (f .op) w) k) (new w))
+        (λ es g p. p) h)
 
 -- who waits after a frame that is no look-up waited before
 waits-events : {f : Frame} {m n : Model} {hs : List Heard} → isLookUp (f .op) ≡ false → Events f m hs n
@@ -106,7 +118,7 @@ module _ (m : Model) (bs : List ℕ) (area : ℕ) (s : Sound m) where
   n = step m bs area .model
 
   events : Events f m (heard f (step m bs area .records)) n
-  events = step-events m bs area (s .consistent .ordered .txns)
+  events = step-events m bs area s
 
   module _ (P : Until → Type 0) where
     pub entries-end : (endsEntry (f .op) ≡ true → (f .leaseOrTimeout ≡ 0 → ⊥)
@@ -117,6 +129,10 @@ module _ (m : Model) (bs : List ℕ) (area : ℕ) (s : Sound m) where
     pub txns-end : (isCreate (f .op) ≡ true → P (until (m .clock) (f .leaseOrTimeout)))
         → All (λ t. P (t .end)) (m .txns) → All (λ t. P (t .end)) (n .txns)
     txns-end new h = txns-events f (m .clock) P events (inr refl) new h
+
+    pub registrations-end : (isNotify (f .op) ≡ true → P (until (m .clock) (f .leaseOrTimeout)))
+        → All (λ g. P (g .end)) (m .registrations) → All (λ g. P (g .end)) (n .registrations)
+    registrations-end new h = registrations-events f (m .clock) P events (inr refl) new h
 
   module _ (W : LookUp → Type 0) (h : All W (m .waits)) where
     abbrev Last : Model → Type 0

@@ -24,9 +24,8 @@ use Rattle.rules.proofs.ReaderLaws.{added-other, bit-of-zero}
 use Rattle.sound.proofs.HoldLaws.{not-so, cleared-cases}
 use Rattle.sound.proofs.HolderLaws.{live-is, drop-live}
 use Rattle.sound.proofs.Events.{Admitted, Heard, Event, Events, over, then}
-use Rattle.sound.proofs.Becomes.{newTxn, Becomes, is-new, as-was, as-ever, is-held, is-freed, is-renewed}
-use Rattle.sound.proofs.Becomes.{becomes, waits-all}
-use Rattle.sound.proofs.Becomes.{txns-all}
+use Rattle.sound.proofs.Becomes.{newTxn, Becomes, is-new, as-was, as-ever, is-held, is-freed, is-renewed, becomes}
+use Rattle.sound.proofs.Becomes.{waits-all, txns-all}
 use Rattle.sound.proofs.Consistent.{ok-below, slot-free}
 use Rattle.sound.proofs.ConsistentProof.{consistent-event}
 use Rattle.sound.proofs.EventsProof.{step-events}
@@ -147,4 +146,4 @@ module _ {k : ℕ} {f : Frame} (acts : ActsUpTo k f) where
 pub idle-step : {k : ℕ} (m : Model) (bs : List ℕ) (area : ℕ) → ActsUpTo k (decode bs) → Sound m → IdleAbove k m
     → IdleAbove k (step m bs area .model)
 idle-step m bs area acts s h =
-    idle-events acts (step-events m bs area (s .consistent .ordered .txns)) (s .consistent) h
+    idle-events acts (step-events m bs area s) (s .consistent) h

@@ -7,12 +7,12 @@ use mathlib.Core.List.{List}
 use native.Mathlib.Omega.{arith}
 use Rattle.rules.specs.Time.{until}
 use Rattle.rules.specs.State.{Model}
-use Rattle.rules.specs.Frame.{Frame, decode, isLookUp, isCreate}
+use Rattle.rules.specs.Frame.{Frame, decode, isLookUp, isCreate, isNotify}
 use Rattle.rules.specs.Step.{step}
 use Rattle.rules.specs.Sound.{Sound}
 use Rattle.sound.proofs.Becomes.{endsEntry}
 use Rattle.hints.specs.Hints.{least, acted, NotBefore, Flagged, Weaker, Knows, IdleAbove, Reliable, Renewed}
-use Rattle.hints.proofs.EndsLaws.{entries-end, txns-end, waits-last}
+use Rattle.hints.proofs.EndsLaws.{entries-end, txns-end, registrations-end, waits-last}
 use Rattle.hints.proofs.IdleLaws.{ActsUpTo, idle-step}
 
 -- hints once a frame is over, from those before: they say less, and know of what is new
@@ -22,6 +22,7 @@ pub record Follows (f : Frame) (m n : Model) (hs hs′ : List ℕ) : Type 0 wher
   pub entry : endsEntry (f .op) ≡ true → (f .leaseOrTimeout ≡ 0 → ⊥)
       → NotBefore (least hs′) (until (m .clock) (f .leaseOrTimeout))
   pub txn : isCreate (f .op) ≡ true → NotBefore (least hs′) (until (m .clock) (f .leaseOrTimeout))
+  pub registration : isNotify (f .op) ≡ true → NotBefore (least hs′) (until (m .clock) (f .leaseOrTimeout))
   pub wait : isLookUp (f .op) ≡ true → Knows hs′ (n .waits)
 
 pub reliable-step : {hs hs′ : List ℕ} (m : Model) (bs : List ℕ) (area : ℕ) → Sound m → Reliable hs m
@@ -37,6 +38,8 @@ reliable-step {hs} {hs′} m bs area s r k =
             (λ e i c l. r .ends .entries e i c (omega arith));
         txns = txns-end m bs area s (NotBefore (least hs′)) (k .txn) (λ t i c l. r .ends .txns t i c (omega arith));
         waits = λ w i. waits w i .0;
+        registrations = registrations-end m bs area s (NotBefore (least hs′)) (k .registration)
+            (λ g i c l. r .ends .registrations g i c (omega arith));
       };
       flagged = λ w i. waits w i .1;
       idle = λ l. let g = k .weaker .grows in
@@ -52,6 +55,7 @@ weaker-reliable w r =
         entries = λ e i c l. r .ends .entries e i c (omega arith);
         txns = λ t i c l. r .ends .txns t i c (omega arith);
         waits = λ x i c l. r .ends .waits x i c (omega arith);
+        registrations = λ g i c l. r .ends .registrations g i c (omega arith);
       };
       flagged = λ x i. w .stays (x .party) (r .flagged x i);
       idle = λ l. let g = w .grows in λ t i above. r .idle (omega arith) t i (omega arith);

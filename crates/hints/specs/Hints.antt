@@ -51,6 +51,7 @@ pub record EndsFrom (n : ℕ) (m : Model) : Type 0 where
   pub entries : All (λ e. NotBefore n (e .end)) (m .entries)
   pub txns : All (λ t. NotBefore n (t .end)) (m .txns)
   pub waits : All (λ w. NotBefore n (w .deadline)) (m .waits)
+  pub registrations : All (λ g. NotBefore n (g .end)) (m .registrations)
 
 -- the party of a look-up has a flag
 abbrev pub Flagged : List ℕ → LookUp → Type 0

@@ -14,6 +14,8 @@ use words::rows::Words;
 use words::rows::clock;
 use words::rows::entry_count;
 use words::rows::entry_end;
+use words::rows::registration_count;
+use words::rows::registration_end;
 use words::rows::txn_count;
 use words::rows::txn_end;
 use words::rows::wait_at;
@@ -43,6 +45,20 @@ pub(crate) fn txns_end(space: &Words, tick: u32) -> u32
     let mut i: usize = 0;
     while i < n {
         least = sooner(least, txn_end(space, i));
+        i += 1;
+    }
+    least
+}
+
+// Nor any registration's.
+pub(crate) fn registrations_end(space: &Words, tick: u32) -> u32
+    ensures { λ r. ⌜ (r ≤ tick) × All (λ g. NotBefore r (g .end)) (view (now (space .entry)) .registrations) ⌝ }
+{
+    let n = registration_count(space);
+    let mut least = tick;
+    let mut i: usize = 0;
+    while i < n {
+        least = sooner(least, registration_end(space, i));
         i += 1;
     }
     least
@@ -83,8 +99,9 @@ pub(crate) fn renew(space: &Words, hints: &mut Hints)
 {
     let a = entries_end(space);
     let b = txns_end(space, a);
-    let c = waits_end(space, b);
-    set_least(hints, c);
+    let c = registrations_end(space, b);
+    let d = waits_end(space, c);
+    set_least(hints, d);
     flag_waiting(space, hints);
 }
 

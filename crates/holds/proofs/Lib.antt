@@ -7,3 +7,4 @@ pub mod RenewLaws
 pub mod ConflictLaws
 pub mod SweepLaws
 pub mod SlotLaws
+pub mod RegistryLaws

@@ -1,7 +1,7 @@
 -- The tables' bounds, and that a step writes at most 25 records.
 use Prim.Native.Nat.{ℕ, _+_, _≤_, _<_}
 use mathlib.Core.Bool.{Bool, true, false, cond, not, _&&_}
-use mathlib.Core.Path.{_≡_, ap₂}
+use mathlib.Core.Path.{_≡_, refl, ap₂}
 use mathlib.Core.Option.{Option, none, some}
 use mathlib.Core.List.{List, [], _∷_, _++_, map}
 use native.Mathlib.Nat.{le-trans}
@@ -13,26 +13,29 @@ use Rattle.rules.specs.declared.Entry.{Entry}
 use Rattle.rules.specs.declared.Record.{Record}
 use Rattle.rules.specs.declared.Txn.{Txn}
 use Rattle.rules.specs.Lists.{filterb}
-use Rattle.rules.specs.Numbers.{maxEntries, maxTxns, maxWaits, stepRecords, areaRefused}
+use Rattle.rules.specs.Numbers.{maxEntries, maxTxns, maxWaits, maxRegistrations, stepRecords, areaRefused}
 use Rattle.rules.specs.Time.{until, reached}
 use Rattle.rules.specs.State.{Model, Bounded}
 use Rattle.rules.specs.Holds.{oldest}
-use Rattle.rules.specs.Frame.{Frame, entryNamed, decode, isWrite, isCreate, isTick, serves}
+use Rattle.rules.specs.Frame.{Frame, entryNamed, decode, isWrite, isCreate, isNotify, isTick, serves}
 use Rattle.rules.specs.Records.{exception, nothing}
 use Rattle.rules.specs.Done.{Carried, Done, quiet}
 use Rattle.rules.specs.Write.{newEntry, stored, write}
 use Rattle.rules.specs.LookUp.{lookUpOf, givesNothing, answer, answerFound, answerNothing, answerWaiting, lookUp}
 use Rattle.rules.specs.Transactions.{create, released, withoutTxn, commit, abort}
 use Rattle.rules.specs.Renew.{hasNumber, renewedTo, renewEntries, renew}
+use Rattle.rules.specs.Notify.{notify, madePublic, hearing, heardOf, ringing}
 use Rattle.rules.specs.Service.{service}
-use Rattle.rules.specs.Tick.{tick, endedTxns, abortAll, dropEnded, lapsed}
+use Rattle.rules.specs.Tick.{tick, unregistered, endedTxns, abortAll, dropEnded, lapsed}
 use Rattle.rules.specs.Closing.{isOver, closeWaits}
-use Rattle.rules.specs.Refusals.{entriesFull, txnsFull}
+use Rattle.rules.specs.Refusals.{entriesFull, txnsFull, registrationsFull}
 use Rattle.rules.specs.Sound.{Sound}
-use Rattle.rules.specs.Step.{Outcome, commitFrame, abortFrame, ownPart, finish, carriedOut, step, accepted, refusedWith}
+use Rattle.rules.specs.Step.{Outcome, writeFrame, commitFrame, abortFrame, ownPart, finish, carriedOut, step}
+use Rattle.rules.specs.Step.{accepted, refusedWith}
 use Rattle.rules.proofs.ListLaws.{length-filter}
 use Rattle.rules.proofs.BoolLaws.{and-false-right, cond-cases}
 use Rattle.rules.proofs.StepCases.{step-cases, own-cases}
+use Rattle.rules.proofs.NotifyLaws.{tick-public, rings-none, rings-length}
 use Rattle.rules.proofs.ServeLength.{handOut-length, serve-length}
 use Rattle.rules.proofs.RefusalLaws.{Clear, clear, is-one}
 use Rattle.rules.proofs.SoundLaws.{room-left}
@@ -40,7 +43,13 @@ use Rattle.rules.proofs.SoundLaws.{room-left}
 stored-fits : (m : Model) (f : Frame) → isWrite (f .op) ≡ true → entriesFull m f ≡ false → Bounded m
     → Bounded (stored m f)
 unfolding stored entriesFull
-stored-fits m f t e b = record { entries-fit = room; txns-fit = b .txns-fit; waits-fit = b .waits-fit }
+stored-fits m f t e b =
+    record {
+      entries-fit = room;
+      txns-fit = b .txns-fit;
+      waits-fit = b .waits-fit;
+      registrations-fit = b .registrations-fit;
+    }
   where
     room : length (cond (eqb (f .leaseOrTimeout) 0) (m .entries) (m .entries ++ (newEntry m f ∷ []))) ≤ maxEntries
     room =
@@ -57,6 +66,7 @@ answer-fits m f free b (some e) =
       entries-fit = omega (arith, handOut-length (m .txns) (lookUpOf m f) e (m .entries), b .entries-fit);
       txns-fit = b .txns-fit;
       waits-fit = b .waits-fit;
+      registrations-fit = b .registrations-fit;
     }
 answer-fits m f free b none =
     cond-cases (λ (c : Carried). Bounded (c .model)) (givesNothing m (lookUpOf m f) (f .leaseOrTimeout)) (λ n. b)
@@ -64,6 +74,7 @@ answer-fits m f free b none =
       entries-fit = b .entries-fit;
       txns-fit = b .txns-fit;
       waits-fit = omega (arith, length-append (m .waits) (lookUpOf m f ∷ []));
+      registrations-fit = b .registrations-fit;
     })
 
 create-fits : (m : Model) (f : Frame) → isCreate (f .op) ≡ true → txnsFull m f ≡ false → Bounded m
@@ -72,8 +83,13 @@ unfolding create txnsFull
 create-fits m f t full b =
     record {
       entries-fit = b .entries-fit;
-      txns-fit = rw length-append (omega (arith, leb-false maxTxns (length (m .txns)) (and-false-right (isCreate (f .op)) _ t full)));
+      txns-fit = rw length-append (omega (
+        arith,
+        leb-false maxTxns (length (m .txns))
+            (and-false-right (isCreate (f .op)) _ t full),
+      ));
       waits-fit = b .waits-fit;
+      registrations-fit = b .registrations-fit;
     }
 
 released-length : (ts : List Txn) (t : ℕ) (p : Entry → Bool) (es : List Entry)
@@ -87,6 +103,7 @@ commit-fits t m b =
       entries-fit = le-trans (released-length (m .txns) t _ (m .entries)) (b .entries-fit);
       txns-fit = le-trans (length-filter _ (m .txns)) (b .txns-fit);
       waits-fit = b .waits-fit;
+      registrations-fit = b .registrations-fit;
     }
 
 abort-fits : (t : ℕ) (m : Model) → Bounded m → Bounded (abort t m)
@@ -96,6 +113,7 @@ abort-fits t m b =
       entries-fit = le-trans (released-length (m .txns) t _ (m .entries)) (b .entries-fit);
       txns-fit = le-trans (length-filter _ (m .txns)) (b .txns-fit);
       waits-fit = le-trans (length-filter _ (m .waits)) (b .waits-fit);
+      registrations-fit = b .registrations-fit;
     }
 
 abortAll-fits : (ts : List Txn) (m : Model) → Bounded m → Bounded (abortAll ts m)
@@ -116,21 +134,55 @@ renew-fits m f b =
           (λ _. omega (arith, as-many, b .entries-fit));
       txns-fit = b .txns-fit;
       waits-fit = b .waits-fit;
+      registrations-fit = b .registrations-fit;
+    }
+
+notify-fits : (m : Model) (f : Frame) → isNotify (f .op) ≡ true → registrationsFull m f ≡ false → Bounded m
+    → Bounded (notify m f .model)
+unfolding notify registrationsFull
+notify-fits m f t full b =
+    let free = leb-false maxRegistrations (length (m .registrations)) (and-false-right (isNotify (f .op)) _ t full) in
+    record {
+      entries-fit = b .entries-fit;
+      txns-fit = b .txns-fit;
+      waits-fit = b .waits-fit;
+      registrations-fit = rw length-append (omega (arith, free));
+    }
+
+heard-fits : (es : List Entry) (m : Model) → Bounded m → Bounded (heardOf es m)
+unfolding heardOf
+heard-fits es m b =
+    record {
+      entries-fit = b .entries-fit;
+      txns-fit = b .txns-fit;
+      waits-fit = b .waits-fit;
+      registrations-fit = omega (arith, length-map (m .registrations) (hearing es), b .registrations-fit);
+    }
+
+tick-fits : (m : Model) → Bounded m → Bounded (tick m .model)
+unfolding tick unregistered
+tick-fits m b =
+    record {
+      entries-fit = b .entries-fit;
+      txns-fit = b .txns-fit;
+      waits-fit = b .waits-fit;
+      registrations-fit = le-trans (length-filter _ (m .registrations)) (b .registrations-fit);
     }
 
 own-fits : (m : Model) (bs : List ℕ) (area : ℕ) → Clear m bs area → Sound m → Bounded m
     → Bounded (ownPart m (decode bs) .model)
-unfolding write lookUp commitFrame abortFrame tick
+unfolding write lookUp writeFrame commitFrame abortFrame
 own-fits m bs area c s b =
     let f = decode bs in
     own-cases (λ (d : Carried). Bounded (d .model)) m f (is-one bs (c .operation))
-    (λ t. stored-fits m f t (c .entry-room) b)
+    (λ t. heard-fits (madePublic m f) (stored m f) (stored-fits m f t (c .entry-room) b))
     (λ t. answer-fits m f (room-left m f t (c .party) (c .free) s) b (oldest (m .txns) (lookUpOf m f) (m .entries)))
     (λ t. create-fits m f t (c .txn-room) b)
-    (λ t. commit-fits (f .txn) m b)
+    (λ t. heard-fits (madePublic m f) (commit (f .txn) m) (commit-fits (f .txn) m b))
     (λ t. abort-fits (f .txn) m b)
     (λ t. renew-fits m f b)
-    (λ t. record { entries-fit = b .entries-fit; txns-fit = b .txns-fit; waits-fit = b .waits-fit })
+    (λ t. notify-fits m f t (c .registration-room) b)
+    (λ t. tick-fits m b)
 
 -- what a part leaves, with its records: at most n, and none for a look-up that waits on
 pub record Fits (n : ℕ) (d : Done) : Type 0 where
@@ -148,6 +200,7 @@ lapsed-fits m b =
         entries-fit = le-trans (length-filter _ (abortAll (filterb over (m .txns)) m .entries)) (r .entries-fit);
         txns-fit = r .txns-fit;
         waits-fit = r .waits-fit;
+        registrations-fit = r .registrations-fit;
       };
       records-fit =
           omega (arith, length-map (filterb over (m .txns)) exception, length-filter over (m .txns), b .txns-fit);
@@ -163,6 +216,7 @@ service-fits m b =
         entries-fit = omega (arith, r .entries, b .entries-fit);
         txns-fit = b .txns-fit;
         waits-fit = omega (arith, r .waits, b .waits-fit);
+        registrations-fit = b .registrations-fit;
       },
       omega (arith, r .waits, b .waits-fit),
     )
@@ -176,23 +230,29 @@ close-fits m b =
         entries-fit = b .entries-fit;
         txns-fit = b .txns-fit;
         waits-fit = le-trans (length-filter _ (m .waits)) (b .waits-fit);
+        registrations-fit = b .registrations-fit;
       };
       records-fit =
           omega (arith, length-map (filterb (isOver m) (m .waits)) nothing, length-filter (isOver m) (m .waits));
     }
 
--- so at most 24 records behind the frame's own
-finish-fits : (f : Frame) (m : Model) → Bounded m → Fits (maxTxns + maxWaits) (finish f m)
+-- the exceptions of a frame: none but in a tick; so there are at most 24 records behind a tick's own, else 16
+abbrev endings : Frame → ℕ
+endings f = cond (isTick (f .op)) maxTxns 0
+
+finish-fits : (f : Frame) (m : Model) → Bounded m → Fits (endings f + maxWaits) (finish f m)
 unfolding finish
 finish-fits f m b = record { model-fits = closed-fits .model-fits; records-fit = few }
   where
     ended : Done
     ended = cond (isTick (f .op)) (lapsed m) (quiet m)
 
-    ended-fits : Fits maxTxns ended
-    ended-fits =
-        cond-cases (Fits maxTxns) (isTick (f .op)) (λ t. lapsed-fits m b)
-        (λ t. record { model-fits = b; records-fit = omega arith })
+    ended-fits : Fits (endings f) ended
+    ended-fits = go (isTick (f .op))
+      where
+        go : (b : Bool) → Fits (cond b maxTxns 0) (cond b (lapsed m) (quiet m))
+        go true = lapsed-fits m b
+        go false = record { model-fits = b; records-fit = omega arith }
 
     served : Done
     served = cond (serves f) (service (ended .model)) (quiet (ended .model))
@@ -210,8 +270,20 @@ finish-fits f m b = record { model-fits = closed-fits .model-fits; records-fit =
     closed-fits : Fits (length (served .model .waits)) closed
     closed-fits = close-fits (served .model) (served-fits .0)
 
-    few : length (ended .records ++ served .records ++ closed .records) ≤ maxTxns + maxWaits
+    few : length (ended .records ++ served .records ++ closed .records) ≤ endings f + maxWaits
     few = simp length-append (omega (arith, ended-fits .records-fit, served-fits .1, closed-fits .records-fit))
+
+-- and at most 8 of kind 11, but none in a tick
+rings-fit : (m : Model) (f : Frame) → Bounded m
+    → endings f + length (ringing (madePublic m f) (m .registrations)) ≤ maxRegistrations
+rings-fit m f b = go (isTick (f .op)) refl
+  where
+    n : ℕ
+    n = length (ringing (madePublic m f) (m .registrations))
+
+    go : (t : Bool) → isTick (f .op) ≡ t → cond t maxTxns 0 + n ≤ maxRegistrations
+    go true t = rw (tick-public m f t, rings-none) (omega arith)
+    go false t = omega (arith, rings-length (madePublic m f) (m .registrations), b .registrations-fit)
 
 -- capacities are kept, and a step writes at most 25 records
 pub step-fits : (m : Model) (bs : List ℕ) (area : ℕ) → Sound m → Bounded m
@@ -224,5 +296,9 @@ step-fits m bs area s b =
       cond-cases (λ (l : List Record). length l ≤ stepRecords) (eqb n areaRefused) (λ q. omega arith)
           (λ q. omega arith),
     ))
-    (λ e. let r = finish-fits (decode bs) (ownPart m (decode bs) .model) (own-fits m bs area (clear m bs area e) s b) in
-    (r .model-fits, omega (arith, r .records-fit)))
+    (λ e. let f = decode bs in
+    let r = finish-fits f (ownPart m f .model) (own-fits m bs area (clear m bs area e) s b) in
+    let last = ringing (madePublic m f) (m .registrations) in (
+      r .model-fits,
+      omega (arith, r .records-fit, rings-fit m f b, length-append (finish f (ownPart m f .model) .records) last),
+    ))

@@ -6,11 +6,11 @@ use native.Mathlib.Omega.{arith}
 use borrow.Author.Tests.{eqb-true, leb-true}
 use lib.Dec.{eqb, leb, ltb}
 use Rattle.rules.specs.Numbers.{opWrite, opRead, opTake, opReadIfExists, opTakeIfExists, opCreate, opCommit}
-use Rattle.rules.specs.Numbers.{opAbort, opTick, opRenew}
+use Rattle.rules.specs.Numbers.{opAbort, opTick, opNotify, opRenew}
 use Rattle.rules.specs.State.{Model}
 use Rattle.rules.specs.Frame.{Frame, layoutOf, isOperation, isWrite, isLookUp, isCreate, isCommit, isAbort}
-use Rattle.rules.specs.Frame.{isTick, isRenew, namesEntry, lookUpOp, isTake, isIfExists, serves}
-use Rattle.rules.specs.Frame.{hasLeaseOrTimeout, endsTxn}
+use Rattle.rules.specs.Frame.{isTick, isNotify, isRenew, namesEntry, lookUpOp, isTake, isIfExists, serves}
+use Rattle.rules.specs.Frame.{hasLeaseOrTimeout, namesNoTxn, endsTxn}
 use Rattle.rules.specs.Refusals.{badBlanks, malformed}
 use Rattle.rules.specs.Closing.{closeWaits}
 use Rattle.rules.specs.Step.{finish}
@@ -49,15 +49,15 @@ write-form f e = rw e (simp or-false)
 
 -- an operation that is none of the others is tick
 pub left-is-tick : (op : ℕ) → isOperation op ≡ true → isWrite op ≡ false → isLookUp op ≡ false → isCreate op ≡ false
-    → isCommit op ≡ false → isAbort op ≡ false → isRenew op ≡ false → isTick op ≡ true
+    → isCommit op ≡ false → isAbort op ≡ false → isRenew op ≡ false → isNotify op ≡ false → isTick op ≡ true
 left-is-tick op is =
     op-cases (λ n. isWrite n ≡ false → isLookUp n ≡ false → isCreate n ≡ false → isCommit n ≡ false
-    → isAbort n ≡ false → isRenew n ≡ false → isTick n ≡ true) op is
-    (λ w l c k a r. absurd (true≢false w)) (λ w l c k a r. absurd (true≢false l))
-    (λ w l c k a r. absurd (true≢false l)) (λ w l c k a r. absurd (true≢false l))
-    (λ w l c k a r. absurd (true≢false l)) (λ w l c k a r. absurd (true≢false c))
-    (λ w l c k a r. absurd (true≢false k)) (λ w l c k a r. absurd (true≢false a)) (λ w l c k a r. refl)
-    (λ w l c k a r. absurd (true≢false r))
+    → isAbort n ≡ false → isRenew n ≡ false → isNotify n ≡ false → isTick n ≡ true) op is
+    (λ w l c k a r n. absurd (true≢false w)) (λ w l c k a r n. absurd (true≢false l))
+    (λ w l c k a r n. absurd (true≢false l)) (λ w l c k a r n. absurd (true≢false l))
+    (λ w l c k a r n. absurd (true≢false l)) (λ w l c k a r n. absurd (true≢false c))
+    (λ w l c k a r n. absurd (true≢false k)) (λ w l c k a r n. absurd (true≢false a)) (λ w l c k a r n. refl)
+    (λ w l c k a r n. absurd (true≢false n)) (λ w l c k a r n. absurd (true≢false r))
 
 -- a frame after which service does not follow, and that is no tick, is over but for who waits in vain
 module _ (f : Frame) (m : Model) where
@@ -94,6 +94,10 @@ module _ (f : Frame) where
   unfolding serves layoutOf
   renew-serves e = rw (eqb-true (f .op) opRenew e)
 
+  pub notify-serves : isNotify (f .op) ≡ true → serves f ≡ false
+  unfolding serves layoutOf
+  notify-serves e = rw (eqb-true (f .op) opNotify e)
+
   pub tick-serves : isTick (f .op) ≡ true → serves f ≡ true
   unfolding serves layoutOf
   tick-serves e = rw (eqb-true (f .op) opTick e)
@@ -126,6 +130,12 @@ abort-not-tick op e = rw (eqb-true op opAbort e)
 pub renew-not-tick : (op : ℕ) → isRenew op ≡ true → isTick op ≡ false
 renew-not-tick op e = rw (eqb-true op opRenew e)
 
+pub notify-not-tick : (op : ℕ) → isNotify op ≡ true → isTick op ≡ false
+notify-not-tick op e = rw (eqb-true op opNotify e)
+
+pub notify-not-abort : (op : ℕ) → isNotify op ≡ true → isAbort op ≡ false
+notify-not-abort op e = rw (eqb-true op opNotify e)
+
 pub renew-not-abort : (op : ℕ) → isRenew op ≡ true → isAbort op ≡ false
 renew-not-abort op e = rw (eqb-true op opRenew e)
 
@@ -141,7 +151,7 @@ lookUp-names op e = rw (lookUp-layout op e)
 pub entry-is : (op : ℕ) → isOperation op ≡ true → namesEntry op ≡ isRenew op
 unfolding layoutOf
 entry-is op is =
-    op-cases (λ n. namesEntry n ≡ isRenew n) op is refl refl refl refl refl refl refl refl refl refl
+    op-cases (λ n. namesEntry n ≡ isRenew n) op is refl refl refl refl refl refl refl refl refl refl refl
 
 -- commit and abort end a transaction
 pub commit-ends : (op : ℕ) → isCommit op ≡ true → endsTxn op ≡ true
@@ -152,7 +162,7 @@ pub abort-ends : (op : ℕ) → isAbort op ≡ true → endsTxn op ≡ true
 unfolding layoutOf
 abort-ends op e = rw (eqb-true op 8 e)
 
--- a write, a look-up, a create and a renewal have a lease or a timeout
+-- a write, a look-up, a create, a renewal and a notify have a lease or a timeout
 pub write-leases : (op : ℕ) → isWrite op ≡ true → hasLeaseOrTimeout op ≡ true
 unfolding layoutOf
 write-leases op e = rw (eqb-true op 1 e)
@@ -168,6 +178,14 @@ create-leases op e = rw (eqb-true op 6 e)
 pub renew-leases : (op : ℕ) → isRenew op ≡ true → hasLeaseOrTimeout op ≡ true
 unfolding layoutOf
 renew-leases op e = rw (eqb-true op opRenew e)
+
+pub notify-leases : (op : ℕ) → isNotify op ≡ true → hasLeaseOrTimeout op ≡ true
+unfolding layoutOf
+notify-leases op e = rw (eqb-true op opNotify e)
+
+pub notify-outside : (op : ℕ) → isNotify op ≡ true → namesNoTxn op ≡ true
+unfolding layoutOf
+notify-outside op e = rw (eqb-true op opNotify e)
 
 pub renew-names : (op : ℕ) → isRenew op ≡ true → namesEntry op ≡ true
 unfolding layoutOf

@@ -10,7 +10,7 @@ use lib.Seq.{getD-append-add}
 use Rattle.rules.specs.declared.Fields.{Fields}
 use Rattle.rules.specs.declared.Record.{Record}
 use Rattle.rules.specs.declared.Request.{Request}
-use Rattle.rules.specs.declared.Request.the-variants.{Write, Find, Create, Commit, Abort, Renew, Tick}
+use Rattle.rules.specs.declared.Request.the-variants.{Write, Find, Create, Commit, Abort, Renew, Notify, Tick}
 use Rattle.rules.specs.Frame.{Frame, numberAt, fieldsAt, fourBytes, layoutOf, frameLength, decode, frameBytes}
 use Rattle.rules.specs.Frame.{isOperation}
 use Rattle.rules.specs.Numbers.{recordSize}
@@ -139,6 +139,7 @@ request-in (Renew party entry lease) =
       leaseOrTimeout = λ l. absurd (omega arith);
       fields = λ l. refl;
     }
+request-in (Notify n) = whole (frameOf (Notify n)) refl refl
 request-in Tick = record { operation = refl; txn = λ l. refl; leaseOrTimeout = λ l. refl; fields = λ l. refl }
 
 pub request-back : (q : Request) → FrameFits (frameOf q) → decode (frameBytes (frameOf q)) ≡ frameOf q

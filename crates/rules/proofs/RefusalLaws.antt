@@ -11,9 +11,9 @@ use Rattle.rules.specs.Numbers.{stepArea, areaRefused}
 use Rattle.rules.specs.State.{Model}
 use Rattle.rules.specs.declared.LookUp.{LookUp}
 use Rattle.rules.specs.Frame.{Frame, decode, isOperation, isAbort}
-use Rattle.rules.specs.Refusals.{noOperation, wrongLength, malformed, wrongParty, withdraws, partyWaits, notLive, notOwn}
-use Rattle.rules.specs.Refusals.{noEntry, notWriter, notFree}
-use Rattle.rules.specs.Refusals.{noLease, tooLate, entriesFull, txnsFull, noNumber, rows, refusal, formRows, admissionRows, roomRows}
+use Rattle.rules.specs.Refusals.{noOperation, wrongLength, malformed, wrongParty, withdraws, partyWaits, notLive}
+use Rattle.rules.specs.Refusals.{notOwn, noEntry, notWriter, notFree, noLease, tooLate, entriesFull, txnsFull}
+use Rattle.rules.specs.Refusals.{registrationsFull, noNumber, rows, refusal, formRows, admissionRows, roomRows}
 use Rattle.rules.specs.Requests.{formRefusal, spaceRefusal}
 use Rattle.rules.proofs.ListLaws.{none-mem}
 use Rattle.rules.proofs.BoolLaws.{cond-cases, and-left, and-right, or-right}
@@ -33,9 +33,11 @@ testAt (r ∷ rs) (suc k) = testAt rs k
 pub none-applies : (rs : List (Bool × ℕ)) → without 0 rs ≡ true → firstRow rs ≡ 0 → (k : ℕ) → testAt rs k ≡ false
 none-applies [] w e k = refl
 none-applies (r ∷ rs) w e k =
-    go (r .0) k (not-true (eqb (r .1) 0) (and-left (not (eqb (r .1) 0)) (without 0 rs) w)) e (none-applies rs (and-right (not (eqb (r .1) 0)) (without 0 rs) w))
+    go (r .0) k (not-true (eqb (r .1) 0) (and-left (not (eqb (r .1) 0)) (without 0 rs) w)) e
+    (none-applies rs (and-right (not (eqb (r .1) 0)) (without 0 rs) w))
   where
-    go : (b : Bool) (k : ℕ) → eqb (r .1) 0 ≡ false → cond b (r .1) (firstRow rs) ≡ 0 → (firstRow rs ≡ 0 → (k : ℕ) → testAt rs k ≡ false)
+    go : (b : Bool) (k : ℕ) → eqb (r .1) 0 ≡ false → cond b (r .1) (firstRow rs) ≡ 0
+        → (firstRow rs ≡ 0 → (k : ℕ) → testAt rs k ≡ false)
         → testAt ((b, r .1) ∷ rs) k ≡ false
     go true k z e below = absurd (eqb-false (r .1) 0 z e)
     go false zero z e below = refl
@@ -57,6 +59,7 @@ pub record Clear (m : Model) (bs : List ℕ) (area : ℕ) : Type 0 where
   pub time : tooLate m (decode bs) ≡ false
   pub entry-room : entriesFull m (decode bs) ≡ false
   pub txn-room : txnsFull m (decode bs) ≡ false
+  pub registration-room : registrationsFull m (decode bs) ≡ false
   pub numbers : noNumber m (decode bs) ≡ false
 
 pub clear : (m : Model) (bs : List ℕ) (area : ℕ) → refusal m bs area ≡ 0 → Clear m bs area
@@ -79,7 +82,8 @@ clear m bs area e =
       time = r 12;
       entry-room = r 13;
       txn-room = r 14;
-      numbers = r 15;
+      registration-room = r 15;
+      numbers = r 16;
     }
 
 -- who waits not, of the party of a frame that is no abort
@@ -95,17 +99,22 @@ none-waits m f t e {w} i q =
 pub first-without : (k : ℕ) (rs : List (Bool × ℕ)) → eqb 0 k ≡ false → without k rs ≡ true → eqb (firstRow rs) k ≡ false
 first-without k [] z e = z
 first-without k (r ∷ rs) z e =
-    cond-cases (λ n. eqb n k ≡ false) (r .0) (λ t. not-true (eqb (r .1) k) (and-left (not (eqb (r .1) k)) (without k rs) e))
+    cond-cases (λ n. eqb n k ≡ false) (r .0) (λ t. not-true (eqb (r .1) k)
+    (and-left (not (eqb (r .1) k)) (without k rs) e))
     (λ t. first-without k rs z (and-right (not (eqb (r .1) k)) (without k rs) e))
 
 -- the first of some rows that applies, or else of the rows behind them
-pub first-append : (xs ys : List (Bool × ℕ)) → without 0 xs ≡ true → firstRow (xs ++ ys) ≡ cond (eqb (firstRow xs) 0) (firstRow ys) (firstRow xs)
+pub first-append : (xs ys : List (Bool × ℕ)) → without 0 xs ≡ true
+    → firstRow (xs ++ ys) ≡ cond (eqb (firstRow xs) 0) (firstRow ys) (firstRow xs)
 first-append [] ys e = refl
 first-append (x ∷ xs) ys e =
-    go (x .0) (not-true (eqb (x .1) 0) (and-left (not (eqb (x .1) 0)) (without 0 xs) e)) (first-append xs ys (and-right (not (eqb (x .1) 0)) (without 0 xs) e))
+    go (x .0) (not-true (eqb (x .1) 0) (and-left (not (eqb (x .1) 0)) (without 0 xs) e))
+    (first-append xs ys (and-right (not (eqb (x .1) 0)) (without 0 xs) e))
   where
-    go : (b : Bool) → eqb (x .1) 0 ≡ false → firstRow (xs ++ ys) ≡ cond (eqb (firstRow xs) 0) (firstRow ys) (firstRow xs)
-        → cond b (x .1) (firstRow (xs ++ ys)) ≡ cond (eqb (cond b (x .1) (firstRow xs)) 0) (firstRow ys) (cond b (x .1) (firstRow xs))
+    go : (b : Bool) → eqb (x .1) 0 ≡ false → firstRow (xs ++ ys) ≡ cond (eqb (firstRow xs) 0) (firstRow ys)
+        (firstRow xs)
+        → cond b (x .1) (firstRow (xs ++ ys)) ≡ cond (eqb (cond b (x .1) (firstRow xs)) 0) (firstRow ys)
+        (cond b (x .1) (firstRow xs))
     go true q below = rw q
     go false q below = below
 
@@ -116,7 +125,8 @@ pub refusal-parts : (m : Model) (bs : List ℕ) (area : ℕ)
 unfolding refusal formRefusal spaceRefusal
 refusal-parts m bs area =
     let f = decode bs in
-    ap (λ n. cond (ltb area stepArea) areaRefused n) (first-append (formRows bs f) (admissionRows m f ++ roomRows m f) refl)
+    ap (λ n. cond (ltb area stepArea) areaRefused n) (first-append (formRows bs f) (admissionRows m f ++ roomRows m f)
+    refl)
 
 -- no frame's bytes, and no frame against the space, are refused with 1
 pub form-not-area : (bs : List ℕ) → eqb (formRefusal bs) areaRefused ≡ false

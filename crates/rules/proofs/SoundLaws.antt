@@ -30,7 +30,8 @@ use Rattle.rules.specs.Renew.{renew}
 use Rattle.rules.specs.Service.{serve, service}
 use Rattle.rules.specs.Closing.{isOver, closeWaits}
 use Rattle.rules.specs.Refusals.{wrongParty, partyWaits}
-use Rattle.rules.specs.Step.{commitFrame, abortFrame, ownPart}
+use Rattle.rules.specs.Notify.{notify, heardOf}
+use Rattle.rules.specs.Step.{writeFrame, commitFrame, abortFrame, ownPart}
 use Rattle.rules.proofs.ListLaws.{mem-filter, none-mem, any-filter, all-false, filter-pass, count, count-append}
 use Rattle.rules.proofs.ListLaws.{count-cons}
 use Rattle.rules.proofs.BoolLaws.{bool-cases, cond-cases, or-left, or-right}
@@ -153,7 +154,7 @@ answer-ahead m f a none =
 
 pub own-ahead : (m : Model) (f : Frame) → isOperation (f .op) ≡ true → isTick (f .op) ≡ false → Ahead m
     → Ahead (ownPart m f .model)
-unfolding write stored lookUp create commitFrame commit abortFrame abort renew
+unfolding writeFrame write stored heardOf lookUp create commitFrame commit abortFrame abort renew notify
 own-ahead m f o t a =
     own-cases (λ (d : Carried). Ahead (d .model)) m f o
     (λ _. a)
@@ -161,6 +162,7 @@ own-ahead m f o t a =
     (λ _. a)
     (λ _. a)
     (λ _ w i. a w (mem-filter (λ w. not (eqb (w .txn .0) (f .txn))) (m .waits) i .0))
+    (λ _. a)
     (λ _. a)
     (λ y. absurd (true≢false (sym y ∙ t)))
 

@@ -13,16 +13,17 @@ use Rattle.rules.specs.declared.LookUp.{LookUp}
 use Rattle.rules.specs.State.{Model}
 use Rattle.rules.specs.Holds.{oldest}
 use Rattle.rules.specs.Frame.{Frame, decode, isOperation, isWrite, isLookUp, isCreate, isCommit, isAbort, isTick}
-use Rattle.rules.specs.Frame.{isRenew}
+use Rattle.rules.specs.Frame.{isRenew, isNotify}
 use Rattle.rules.specs.Done.{Carried}
-use Rattle.rules.specs.Write.{write}
 use Rattle.rules.specs.LookUp.{lookUp, handOut}
 use Rattle.rules.specs.Transactions.{create}
 use Rattle.rules.specs.Renew.{renew}
+use Rattle.rules.specs.Notify.{notify}
 use Rattle.rules.specs.Service.{Served, serve, foundFirst, waitsFirst}
 use Rattle.rules.specs.Tick.{tick}
 use Rattle.rules.specs.Refusals.{refusal}
-use Rattle.rules.specs.Step.{Outcome, step, accepted, refusedWith, ownPart, carriedOut, commitFrame, abortFrame}
+use Rattle.rules.specs.Step.{Outcome, step, accepted, refusedWith, ownPart, carriedOut, writeFrame, commitFrame}
+use Rattle.rules.specs.Step.{abortFrame}
 use Rattle.rules.proofs.BoolLaws.{cond-cases, option-cases}
 use Rattle.rules.proofs.LayoutLaws.{left-is-tick}
 
@@ -36,25 +37,27 @@ step-cases Q m bs area refused done =
     cond-cases Q (eqb (refusal m bs area) 0) (λ e. done (eqb-true (refusal m bs area) 0 e))
     (λ e. refused (refusal m bs area))
 
--- one of the seven things is the frame's own part
+-- one of the eight things is the frame's own part
 pub own-cases : (Q : Carried → Type 0) (m : Model) (f : Frame) → isOperation (f .op) ≡ true
-    → (isWrite (f .op) ≡ true → Q (write m f))
+    → (isWrite (f .op) ≡ true → Q (writeFrame m f))
     → (isLookUp (f .op) ≡ true → Q (lookUp m f))
     → (isCreate (f .op) ≡ true → Q (create m f))
     → (isCommit (f .op) ≡ true → Q (commitFrame m f))
     → (isAbort (f .op) ≡ true → Q (abortFrame m f))
     → (isRenew (f .op) ≡ true → Q (renew m f))
+    → (isNotify (f .op) ≡ true → Q (notify m f))
     → (isTick (f .op) ≡ true → Q (tick m))
     → Q (ownPart m f)
 unfolding ownPart
-own-cases Q m f is onWrite onLookUp onCreate onCommit onAbort onRenew onTick =
+own-cases Q m f is onWrite onLookUp onCreate onCommit onAbort onRenew onNotify onTick =
     cond-cases Q (isWrite (f .op)) onWrite
     (λ e₁. cond-cases Q (isLookUp (f .op)) onLookUp
     (λ e₂. cond-cases Q (isCreate (f .op)) onCreate
     (λ e₃. cond-cases Q (isCommit (f .op)) onCommit
     (λ e₄. cond-cases Q (isAbort (f .op)) onAbort
     (λ e₅. cond-cases Q (isRenew (f .op)) onRenew
-    (λ e₆. onTick (left-is-tick (f .op) is e₁ e₂ e₃ e₄ e₅ e₆)))))))
+    (λ e₆. cond-cases Q (isNotify (f .op)) onNotify
+    (λ e₇. onTick (left-is-tick (f .op) is e₁ e₂ e₃ e₄ e₅ e₆ e₇))))))))
 
 -- service: a look-up's turn
 module _ (ts : List Txn) (es : List Entry) (w : LookUp) (ws : List LookUp) where

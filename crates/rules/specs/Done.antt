@@ -1,5 +1,5 @@
 -- What a frame does, in parts: its own part with its own record, and parts with any number of records.
-use mathlib.Core.List.{List, [], _∷_}
+use mathlib.Core.List.{List, [], _∷_, _++_}
 use Rattle.rules.specs.declared.Record.{Record}
 use Rattle.rules.specs.State.{Model}
 
@@ -20,3 +20,7 @@ quiet m = record { model = m; records = [] }
 -- "The frame's own record comes first"
 abbrev pub after : Record → Done → Done
 after r d = record { model = d .model; records = r ∷ d .records }
+
+-- "after all others" (document 02, T-03)
+abbrev pub endingWith : List Record → Done → Done
+endingWith rs d = record { model = d .model; records = d .records ++ rs }

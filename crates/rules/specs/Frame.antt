@@ -8,7 +8,7 @@ use lib.ListN.{getD, take}
 use Rattle.rules.specs.declared.Fields.{Fields}
 use Rattle.rules.specs.Template.{fourFields}
 use Rattle.rules.specs.Numbers.{opWrite, opRead, opTake, opReadIfExists, opTakeIfExists, opCreate, opCommit}
-use Rattle.rules.specs.Numbers.{opAbort, opTick, opRenew}
+use Rattle.rules.specs.Numbers.{opAbort, opTick, opNotify, opRenew}
 
 -- the byte at a place, and the little-endian number of four bytes there; 0 past the end
 abbrev pub byteAt : List ℕ → ℕ → ℕ
@@ -78,6 +78,9 @@ isAbort op = eqb op opAbort
 abbrev pub isTick : ℕ → Bool
 isTick op = eqb op opTick
 
+abbrev pub isNotify : ℕ → Bool
+isNotify op = eqb op opNotify
+
 abbrev pub isRenew : ℕ → Bool
 isRenew op = eqb op opRenew
 
@@ -107,7 +110,7 @@ layout n t b l o i e s =
 abbrev noLayout : Layout
 noLayout = layout 0 false false false false false false false
 
--- The table of operations, by number; none has the number 0 or 10
+-- The table of operations, by number; none has the number 0
 abbrev pub layouts : List Layout
 layouts =
     --      size template blanks lease outside entry ends serves
@@ -121,7 +124,7 @@ layouts =
     ∷ layout 8 false false false false false true true  -- commit
     ∷ layout 8 false false false false false true true  -- abort
     ∷ layout 4 false false false false false false true  -- tick
-    ∷ noLayout
+    ∷ layout 28 true false true true false false false  -- notify
     ∷ layout 12 false false true false true false false  -- renew
     ∷ []
 

@@ -19,6 +19,7 @@ pub mod Write
 pub mod LookUp
 pub mod Transactions
 pub mod Renew
+pub mod Notify
 pub mod Service
 pub mod Tick
 pub mod Closing

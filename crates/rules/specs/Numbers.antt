@@ -9,7 +9,8 @@ forever = 4294967295
 abbrev pub lastClock : ℕ
 lastClock = 4294967294
 
--- "At most 64 entries are stored", "At most 8 transactions live and 16 look-ups wait"
+-- "At most 64 entries are stored", "At most 8 transactions live and 16 look-ups wait"; "Eight may live": registrations
+-- (document 02, T-03)
 abbrev pub maxEntries : ℕ
 maxEntries = 64
 
@@ -18,6 +19,9 @@ maxTxns = 8
 
 abbrev pub maxWaits : ℕ
 maxWaits = 16
+
+abbrev pub maxRegistrations : ℕ
+maxRegistrations = 8
 
 -- "28 bytes", "A step writes at most 25 records (700 bytes)"
 abbrev pub recordSize : ℕ
@@ -69,7 +73,9 @@ opAbort = 8
 abbrev pub opTick : ℕ
 opTick = 9
 
--- "Operation 11": 10 is none yet
+abbrev pub opNotify : ℕ
+opNotify = 10
+
 abbrev pub opRenew : ℕ
 opRenew = 11
 
@@ -102,6 +108,12 @@ kindException = 8
 abbrev pub kindTicked : ℕ
 kindTicked = 9
 
+abbrev pub kindNotified : ℕ
+kindNotified = 10
+
+abbrev pub kindRung : ℕ
+kindRung = 11
+
 abbrev pub kindRenewed : ℕ
 kindRenewed = 12
 
@@ -114,7 +126,7 @@ kindRefused = 15
 abbrev pub areaRefused : ℕ
 areaRefused = 1
 
--- empty frame, or operation not 1-9 or 11
+-- empty frame, or operation not 1-11
 abbrev pub operationRefused : ℕ
 operationRefused = 2
 
@@ -122,7 +134,7 @@ operationRefused = 2
 abbrev pub lengthRefused : ℕ
 lengthRefused = 3
 
--- byte 3, mask, template, or create naming a transaction
+-- byte 3, mask, template, or create or notify naming a transaction
 abbrev pub formRefused : ℕ
 formRefused = 4
 
@@ -142,7 +154,7 @@ notLiveRefused = 7
 abbrev pub notOwnRefused : ℕ
 notOwnRefused = 8
 
--- create with lease 0
+-- create or notify with lease 0
 abbrev pub leaseRefused : ℕ
 leaseRefused = 9
 
@@ -161,6 +173,10 @@ txnsRefused = 12
 -- no next number
 abbrev pub numberRefused : ℕ
 numberRefused = 13
+
+-- 8 registrations live (document 02, T-03)
+abbrev pub registrationsRefused : ℕ
+registrationsRefused = 17
 
 -- of a renewal (document 02, T-05): no stored entry has that number
 abbrev pub noEntryRefused : ℕ

@@ -11,9 +11,11 @@ use Rattle.rules.specs.declared.Mark.{Mark}
 use Rattle.rules.specs.declared.Record.{Record}
 use Rattle.rules.specs.declared.Txn.{Txn}
 use Rattle.rules.specs.declared.LookUp.{LookUp}
+use Rattle.rules.specs.declared.Registration.{Registration}
 use Rattle.rules.specs.Lists.{joined}
 use Rattle.rules.specs.Numbers.{recordSize, kindWritten, kindFound, kindNothing, kindWaiting, kindCreated}
-use Rattle.rules.specs.Numbers.{kindCommitted, kindAborted, kindException, kindTicked, kindRenewed, kindRefused}
+use Rattle.rules.specs.Numbers.{kindCommitted, kindAborted, kindException, kindTicked, kindNotified, kindRung}
+use Rattle.rules.specs.Numbers.{kindRenewed, kindRefused}
 use Rattle.rules.specs.Template.{fourFields, markOf}
 use Rattle.rules.specs.Frame.{Frame, entryNamed, byteAt, numberAt, fourBytes, fieldsAt}
 
@@ -70,6 +72,30 @@ exception t = plain kindException (t .party) (t .id .0)
 
 unfoldable pub ticked : Record
 ticked = plain kindTicked 0 0
+
+-- "kind 10 with a registration number .. in the entry place" (document 02, T-03)
+unfoldable pub notified : Frame → ℕ → Record
+notified f n =
+    record {
+      kind = kindNotified;
+      party = f .party;
+      refusal = 0;
+      txn = record { 0 = 0 };
+      entry = record { 0 = n };
+      fields = noMark;
+    }
+
+-- "registration number in the entry place, count in this step in kind, total so far in side, transaction 0"
+unfoldable pub rung : ℕ → Registration → Record
+rung count g =
+    record {
+      kind = kindRung;
+      party = g .party;
+      refusal = 0;
+      txn = record { 0 = 0 };
+      entry = record { 0 = g .id .0 };
+      fields = markOf 0 (fourFields count (g .total) 0 0);
+    }
 
 -- "kind 12 with the entry number and transaction 0" (document 02, T-05)
 unfoldable pub renewed : Frame → Record

@@ -11,20 +11,20 @@ use Rattle.rules.specs.declared.Entry.{Entry}
 use Rattle.rules.specs.declared.Txn.{Txn}
 use Rattle.rules.specs.declared.LookUp.{LookUp}
 use Rattle.rules.specs.Lists.{anyb, firstRow}
-use Rattle.rules.specs.Numbers.{forever, lastClock, maxParty, maxEntries, maxTxns, stepArea}
+use Rattle.rules.specs.Numbers.{forever, lastClock, maxParty, maxEntries, maxTxns, maxRegistrations, stepArea}
 use Rattle.rules.specs.Numbers.{areaRefused, operationRefused, lengthRefused, formRefused, partyRefused}
 use Rattle.rules.specs.Numbers.{waitingRefused, notLiveRefused, notOwnRefused, leaseRefused, clockRefused}
 use Rattle.rules.specs.Numbers.{entriesRefused, txnsRefused, numberRefused, noEntryRefused, notWriterRefused}
-use Rattle.rules.specs.Numbers.{heldRefused}
+use Rattle.rules.specs.Numbers.{heldRefused, registrationsRefused}
 use Rattle.rules.specs.State.{Model}
 use Rattle.rules.specs.Template.{bit}
 use Rattle.rules.specs.Holds.{liveTxn}
 use Rattle.rules.specs.Frame.{Frame, decode, frameLength, isOperation, isWrite, isCreate, isAbort, isTick}
-use Rattle.rules.specs.Frame.{hasTemplate, hasBlanks, hasLeaseOrTimeout, namesNoTxn, namesEntry, endsTxn}
-use Rattle.rules.specs.Frame.{entryNamed}
+use Rattle.rules.specs.Frame.{isNotify, hasTemplate, hasBlanks, hasLeaseOrTimeout, namesNoTxn, namesEntry}
+use Rattle.rules.specs.Frame.{endsTxn, entryNamed}
 use Rattle.rules.specs.Renew.{storedEntry}
 
--- 2: empty frame, or operation not 1-9 or 11
+-- 2: empty frame, or operation not 1-11
 unfoldable pub noOperation : List ℕ → Frame → Bool
 noOperation bs f = eqb (length bs) 0 || not (isOperation (f .op))
 
@@ -52,8 +52,8 @@ badTemplate mask fields =
 abbrev pub badBlanks : ℕ → Fields → Bool
 badBlanks mask fields = someFilled (bit 0 mask) (bit 1 mask) (bit 2 mask) (bit 3 mask) fields
 
--- 4: byte 3 not 0; mask above 15; mask not 0 outside look-ups and writes; a bad template; a blank that is not 0; create
--- naming a transaction
+-- 4: byte 3 not 0; mask above 15; mask not 0 outside look-ups, notifies and writes; a bad template; a blank that is not
+-- 0; create or notify naming a transaction
 unfoldable pub malformed : Frame → Bool
 malformed f =
     not (eqb (f .byte3) 0)
@@ -118,9 +118,9 @@ isOf party (some t) = eqb (t .party) party
 unfoldable pub notOwn : Model → Frame → Bool
 notOwn m f = inTxn f && not (isOf (f .party) (liveTxn (f .txn) (m .txns)))
 
--- 9: create with lease 0
+-- 9: create or notify with lease 0
 unfoldable pub noLease : Frame → Bool
-noLease f = isCreate (f .op) && eqb (f .leaseOrTimeout) 0
+noLease f = (isCreate (f .op) || isNotify (f .op)) && eqb (f .leaseOrTimeout) 0
 
 -- 10: clock + lease or timeout, FOREVER excepted, above the last clock; tick at the last clock
 unfoldable pub tooLate : Model → Frame → Bool
@@ -136,9 +136,16 @@ entriesFull m f = isWrite (f .op) && not (eqb (f .leaseOrTimeout) 0) && leb maxE
 unfoldable pub txnsFull : Model → Frame → Bool
 txnsFull m f = isCreate (f .op) && leb maxTxns (length (m .txns))
 
--- 13: write (lease 0 too) or create, its next number would be 4294967295
+-- 17: notify, 8 registrations live (document 02, T-03)
+unfoldable pub registrationsFull : Model → Frame → Bool
+registrationsFull m f = isNotify (f .op) && leb maxRegistrations (length (m .registrations))
+
+-- 13: write (lease 0 too), create or notify, its next number would be 4294967295
 unfoldable pub noNumber : Model → Frame → Bool
-noNumber m f = isWrite (f .op) && leb forever (m .nextEntry) || isCreate (f .op) && leb forever (m .nextTxn)
+noNumber m f =
+    isWrite (f .op) && leb forever (m .nextEntry)
+    || isCreate (f .op) && leb forever (m .nextTxn)
+    || isNotify (f .op) && leb forever (m .nextRegistration)
 
 -- The table. Each row: whether it applies, and its number.
 
@@ -169,6 +176,7 @@ roomRows m f =
     ∷ (tooLate m f, clockRefused)
     ∷ (entriesFull m f, entriesRefused)
     ∷ (txnsFull m f, txnsRefused)
+    ∷ (registrationsFull m f, registrationsRefused)
     ∷ (noNumber m f, numberRefused)
     ∷ []
 

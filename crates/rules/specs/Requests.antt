@@ -7,10 +7,10 @@ use mathlib.Core.Option.{Option, none, some}
 use lib.Dec.{eqb}
 use Rattle.rules.specs.declared.Fields.{Fields}
 use Rattle.rules.specs.declared.Request.{Request}
-use Rattle.rules.specs.declared.Request.the-variants.{Write, Find, Create, Commit, Abort, Renew, Tick}
+use Rattle.rules.specs.declared.Request.the-variants.{Write, Find, Create, Commit, Abort, Renew, Notify, Tick}
 use Rattle.rules.specs.declared.Decoded.{Decoded}
 use Rattle.rules.specs.declared.Decoded.the-variants.{Asks, Refused}
-use Rattle.rules.specs.Numbers.{opWrite, opCreate, opCommit, opAbort, opTick, opRenew}
+use Rattle.rules.specs.Numbers.{opWrite, opCreate, opCommit, opAbort, opTick, opNotify, opRenew}
 use Rattle.rules.specs.Lists.{firstRow}
 use Rattle.rules.specs.State.{Model}
 use Rattle.rules.specs.Frame.{Frame, decode, lookUpOp}
@@ -43,6 +43,7 @@ frameOf (Create party lease) = plainFrame opCreate party 0 lease
 frameOf (Commit party txn) = plainFrame opCommit party (txn .0) 0
 frameOf (Abort party txn) = plainFrame opAbort party (txn .0) 0
 frameOf (Renew party entry lease) = plainFrame opRenew party (entry .0) lease
+frameOf (Notify n) = frame opNotify (n .party) (n .mask) 0 (n .lease) (n .fields)
 frameOf Tick = plainFrame opTick 0 0 0
 
 -- the decoder's answer as a frame, where it asks for one, and as a refusal's number, or 0

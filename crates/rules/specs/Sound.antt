@@ -1,7 +1,7 @@
 -- What every space is that frames can make of the empty one: the condition on which the code's contract speaks of a
 -- frame that is carried out. The empty space has it, and each step keeps it (crate `sound`).
-use Prim.Native.Nat.{ℕ, _≤_, _<_}
-use mathlib.Core.Bool.{Bool, true, false}
+use Prim.Native.Nat.{ℕ, _+_, _≤_, _<_}
+use mathlib.Core.Bool.{Bool, true, false, not}
 use mathlib.Core.Path.{_≡_}
 use mathlib.Core.Logic.{_⊎_}
 use mathlib.Core.List.{List, [], _∷_, map, List·Memᴰ}
@@ -10,12 +10,14 @@ use lib.ListN.{length}
 use Rattle.rules.specs.declared.Entry.{Entry}
 use Rattle.rules.specs.declared.Txn.{Txn}
 use Rattle.rules.specs.declared.LookUp.{LookUp}
+use Rattle.rules.specs.declared.Registration.{Registration}
 use Rattle.rules.specs.Lists.{All, filterb}
 use Rattle.rules.specs.Numbers.{maxParty}
 use Rattle.rules.specs.Time.{reached}
 use Rattle.rules.specs.Template.{bit}
 use Rattle.rules.specs.State.{Model}
 use Rattle.rules.specs.Holds.{someAvailable, someConflicts}
+use Rattle.rules.specs.Transactions.{privateTo}
 
 -- ---- who waits
 -- parties are 1 to 16
@@ -40,10 +42,11 @@ Ascending (n ∷ ns) = ((k : ℕ) → List·Memᴰ k ns → n < k) × Ascending 
 abbrev pub Ordered : List Txn → Type 0
 Ordered ts = Ascending (map (λ (t : Txn). t .id .0) ts)
 
--- the entries and the live transactions stand by number, none twice
+-- the entries, the live transactions and registrations stand by number, none twice
 pub record ByNumber (m : Model) : Type 0 where
   pub entries : Ascending (map (λ (e : Entry). e .id .0) (m .entries))
   pub txns : Ordered (m .txns)
+  pub registrations : Ascending (map (λ (g : Registration). g .id .0) (m .registrations))
 
 -- numbers and slots of the live transactions
 pub record TxnsOk (n : ℕ) (ts : List Txn) : Type 0 where
@@ -77,6 +80,15 @@ pub record EntryOk (ts : List Txn) (e : Entry) : Type 0 where
   -- what is taken nobody reads
   pub unread : (e .«taken_by» .0 ≡ 0) ⊎ (e .readers ≡ 0)
 
+-- ---- who hears of what
+-- the private entries have numbers too: what is made public of them is still to be counted
+abbrev pub privates : Model → List Entry
+privates m = filterb (λ e. not (privateTo 0 e)) (m .entries)
+
+-- so a registration's total, and what may be added to it, is at most the next entry's number
+abbrev pub Tallied : Model → Registration → Type 0
+Tallied m g = g .total + length (privates m) ≤ m .nextEntry
+
 -- ---- in the midst of a step, too
 pub record Consistent (m : Model) : Type 0 where
   pub ordered : ByNumber m
@@ -84,6 +96,8 @@ pub record Consistent (m : Model) : Type 0 where
   pub held : All (EntryOk (m .txns)) (m .entries)
   pub txns-ok : TxnsOk (m .nextTxn) (m .txns)
   pub positive : 0 < m .nextTxn
+  pub registered : All (λ g. g .id .0 < m .nextRegistration) (m .registrations)
+  pub tallied : All (Tallied m) (m .registrations)
   -- a look-up waits in no transaction, or in a live one of its party; a party waits once
   pub owned : All (λ w. (w .txn .0 ≡ 0) ⊎ LiveOf (w .txn .0) (w .party) (m .txns)) (m .waits)
   pub parties : All (λ w. IsParty (w .party)) (m .waits)

@@ -5,14 +5,19 @@ use mathlib.Core.List.{List, [], _∷_, map}
 use Rattle.rules.specs.declared.Txn.{Txn}
 use Rattle.rules.specs.Lists.{filterb}
 use Rattle.rules.specs.Time.{reached}
-use Rattle.rules.specs.State.{Model, withEntries, withClock}
+use Rattle.rules.specs.State.{Model, withEntries, withClock, withRegistrations}
 use Rattle.rules.specs.Records.{exception, ticked}
 use Rattle.rules.specs.Done.{Carried, Done}
 use Rattle.rules.specs.Transactions.{abort}
 
+-- registrations that end now go: "they end on ticks when transactions do, before service and without a record"
+-- (document 02, T-03)
+unfoldable pub unregistered : Model → Model
+unregistered m = withRegistrations (filterb (λ g. not (reached (m .clock) (g .end))) (m .registrations)) m
+
 -- the tick's own part: "the clock advances"
 unfoldable pub tick : Model → Carried
-tick m = record { model = withClock (m .clock + 1) m; own = ticked }
+tick m = record { model = unregistered (withClock (m .clock + 1) m); own = ticked }
 
 -- the live transactions that end now, by number
 unfoldable pub endedTxns : Model → List Txn

@@ -7,11 +7,12 @@ use lib.ListN.{getD, take, drop}
 use Rattle.rules.specs.declared.Entry.{Entry}
 use Rattle.rules.specs.declared.Txn.{Txn}
 use Rattle.rules.specs.declared.LookUp.{LookUp}
+use Rattle.rules.specs.declared.Registration.{Registration}
 use Rattle.rules.specs.declared.Until.{Until}
 use Rattle.rules.specs.declared.Until.the-variants.{Tick, Forever}
 use Rattle.rules.specs.Template.{fourFields, markOf}
 use Rattle.rules.specs.Frame.{isTake, isIfExists, lookUpOp}
-use Rattle.rules.specs.Numbers.{forever, maxEntries, maxTxns, maxWaits}
+use Rattle.rules.specs.Numbers.{forever, maxEntries, maxTxns, maxWaits, maxRegistrations}
 use Rattle.rules.specs.State.{Model}
 
 -- where the clock, the next numbers and the counts of rows stand
@@ -33,9 +34,15 @@ txnCountAt = 4
 abbrev pub waitCountAt : ℕ
 waitCountAt = 5
 
--- where the three tables begin behind them, the words of a row, and the words of a space
+abbrev pub nextRegistrationAt : ℕ
+nextRegistrationAt = 6
+
+abbrev pub registrationCountAt : ℕ
+registrationCountAt = 7
+
+-- where the four tables begin behind them, the words of a row, and the words of a space
 abbrev pub entriesAt : ℕ
-entriesAt = 6
+entriesAt = 8
 
 abbrev pub entryWidth : ℕ
 entryWidth = 9
@@ -52,8 +59,14 @@ waitsAt = txnsAt + txnWidth * maxTxns
 abbrev pub waitWidth : ℕ
 waitWidth = 9
 
+abbrev pub registrationsAt : ℕ
+registrationsAt = waitsAt + waitWidth * maxWaits
+
+abbrev pub registrationWidth : ℕ
+registrationWidth = 9
+
 abbrev pub spaceWords : ℕ
-spaceWords = waitsAt + waitWidth * maxWaits
+spaceWords = registrationsAt + registrationWidth * maxRegistrations
 
 -- the first n values of a function
 abbrev pub upTo : {A : Type 0} → (ℕ → A) → ℕ → List A
@@ -112,6 +125,17 @@ waitFrom ws o =
       deadline = untilOf (getD ws (o + 8) 0);
     }
 
+abbrev pub registrationFrom : List ℕ → ℕ → Registration
+registrationFrom ws o =
+    record {
+      id = record { 0 = getD ws o 0 };
+      party = getD ws (o + 1) 0 % 256;
+      mask = getD ws (o + 2) 0 % 256;
+      fields = fourFields (getD ws (o + 3) 0) (getD ws (o + 4) 0) (getD ws (o + 5) 0) (getD ws (o + 6) 0);
+      end = untilOf (getD ws (o + 7) 0);
+      total = getD ws (o + 8) 0;
+    }
+
 -- and the words that are read so
 abbrev pub entryWords : Entry → List ℕ
 entryWords e =
@@ -127,6 +151,12 @@ waitWords w =
     ∷ w .fields .kind ∷ w .fields .side ∷ w .fields .image ∷ w .fields .place
     ∷ w .txn .0 ∷ untilWord (w .deadline) ∷ []
 
+abbrev pub registrationWords : Registration → List ℕ
+registrationWords g =
+    g .id .0 ∷ g .party ∷ g .mask
+    ∷ g .fields .kind ∷ g .fields .side ∷ g .fields .image ∷ g .fields .place
+    ∷ untilWord (g .end) ∷ g .total ∷ []
+
 unfoldable pub entryOf : List ℕ → Entry
 entryOf r = entryFrom r 0
 
@@ -135,6 +165,9 @@ txnOf r = txnFrom r 0
 
 unfoldable pub waitOf : List ℕ → LookUp
 waitOf r = waitFrom r 0
+
+unfoldable pub registrationOf : List ℕ → Registration
+registrationOf r = registrationFrom r 0
 
 abbrev pub entryCount : List ℕ → ℕ
 entryCount ws = min (getD ws entryCountAt 0) maxEntries
@@ -145,6 +178,9 @@ txnCount ws = min (getD ws txnCountAt 0) maxTxns
 abbrev pub waitCount : List ℕ → ℕ
 waitCount ws = min (getD ws waitCountAt 0) maxWaits
 
+abbrev pub registrationCount : List ℕ → ℕ
+registrationCount ws = min (getD ws registrationCountAt 0) maxRegistrations
+
 unfoldable pub entries : ℕ → List ℕ → List Entry
 entries n ws = table entryOf entriesAt entryWidth n ws
 
@@ -154,13 +190,18 @@ txns n ws = table txnOf txnsAt txnWidth n ws
 unfoldable pub waits : ℕ → List ℕ → List LookUp
 waits n ws = table waitOf waitsAt waitWidth n ws
 
+unfoldable pub registrations : ℕ → List ℕ → List Registration
+registrations n ws = table registrationOf registrationsAt registrationWidth n ws
+
 unfoldable pub view : List ℕ → Model
 view ws =
     record {
       clock = getD ws clockAt 0;
       nextEntry = getD ws nextEntryAt 0;
       nextTxn = getD ws nextTxnAt 0;
+      nextRegistration = getD ws nextRegistrationAt 0;
       entries = entries (entryCount ws) ws;
       txns = txns (txnCount ws) ws;
       waits = waits (waitCount ws) ws;
+      registrations = registrations (registrationCount ws) ws;
     }

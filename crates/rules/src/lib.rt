@@ -7,6 +7,9 @@ pub struct EntryId(pub u32);
 // The number of a transaction. Counted from 1; 0 means none.
 pub struct TxnId(pub u32);
 
+// The number of a registration. Counted from 1.
+pub struct RegistrationId(pub u32);
+
 // Four fields, as a frame has them.
 pub struct Fields {
     pub kind: u32,
@@ -65,6 +68,17 @@ pub struct LookUp {
     pub deadline: Until,
 }
 
+// A live registration: its party hears of entries made public that match its template.
+pub struct Registration {
+    pub id: RegistrationId,
+    pub party: u8,
+    pub mask: u8,
+    pub fields: Fields,
+    pub end: Until,
+    // The matching entries made public so far.
+    pub total: u32,
+}
+
 // The nine numbers of an answer, and the blanks of its fields.
 pub struct Record {
     pub kind: u8,
@@ -95,6 +109,14 @@ pub struct FindRequest {
     pub fields: Fields,
 }
 
+// A notify: party, template, lease.
+pub struct NotifyRequest {
+    pub party: u8,
+    pub mask: u8,
+    pub lease: u32,
+    pub fields: Fields,
+}
+
 // What a frame asks for, once its form is in order.
 pub enum Request {
     Write(WriteRequest),
@@ -106,6 +128,7 @@ pub enum Request {
     Abort(u8, TxnId),
     // The party, the entry, and the lease.
     Renew(u8, EntryId, u32),
+    Notify(NotifyRequest),
     Tick,
 }
 

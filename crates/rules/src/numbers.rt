@@ -5,12 +5,14 @@ pub const FOREVER: u32 = 4294967295;
 
 pub const LAST_CLOCK: u32 = 4294967294;
 
-// At most so many entries are stored, transactions live and look-ups wait; parties are 1 to 16.
+// At most so many entries are stored, transactions live, look-ups wait and registrations live; parties are 1 to 16.
 pub const MAX_ENTRIES: usize = 64;
 
 pub const MAX_TXNS: usize = 8;
 
 pub const MAX_WAITS: usize = 16;
+
+pub const MAX_REGISTRATIONS: usize = 8;
 
 pub const MAX_PARTY: u8 = 16;
 
@@ -43,6 +45,8 @@ pub const OP_ABORT: u8 = 8;
 
 pub const OP_TICK: u8 = 9;
 
+pub const OP_NOTIFY: u8 = 10;
+
 pub const OP_RENEW: u8 = 11;
 
 // Kinds: byte 0 of an answer record.
@@ -64,11 +68,15 @@ pub const KIND_EXCEPTION: u8 = 8;
 
 pub const KIND_TICKED: u8 = 9;
 
+pub const KIND_NOTIFIED: u8 = 10;
+
+pub const KIND_RUNG: u8 = 11;
+
 pub const KIND_RENEWED: u8 = 12;
 
 pub const KIND_REFUSED: u8 = 15;
 
-// Refusals: 1 to 13 and 18 to 20 judge a frame, 15 and 16 a tray.
+// Refusals: 1 to 13 and 17 to 20 judge a frame, 15 and 16 a tray.
 pub const AREA_REFUSED: u8 = 1;
 
 pub const OPERATION_REFUSED: u8 = 2;
@@ -99,6 +107,8 @@ pub const NUMBER_REFUSED: u8 = 13;
 pub const TRAY_REFUSED: u8 = 15;
 
 pub const PAIRS_REFUSED: u8 = 16;
+
+pub const REGISTRATIONS_REFUSED: u8 = 17;
 
 pub const NO_ENTRY_REFUSED: u8 = 18;
 

@@ -10,19 +10,21 @@ use Rattle.rules.specs.declared.Entry.{Entry}
 use Rattle.rules.specs.declared.Mark.{Mark}
 use Rattle.rules.specs.declared.Txn.{Txn}
 use Rattle.rules.specs.declared.LookUp.{LookUp}
+use Rattle.rules.specs.declared.Registration.{Registration}
 use Rattle.rules.specs.Lists.{filterb, All}
 use Rattle.rules.specs.Time.{until, reached}
 use Rattle.rules.specs.Template.{markOf}
 use Rattle.rules.specs.State.{Model}
 use Rattle.rules.specs.Holds.{available}
-use Rattle.rules.specs.Frame.{Frame, entryNamed, isWrite, isLookUp, isCreate, isCommit, isRenew, isTick}
+use Rattle.rules.specs.Frame.{Frame, entryNamed, isWrite, isLookUp, isCreate, isCommit, isRenew, isNotify, isTick}
 use Rattle.rules.specs.Records.{written, found, nothing, waiting, created, committed, aborted, exception, ticked}
-use Rattle.rules.specs.Records.{renewed, refused, isTicked}
+use Rattle.rules.specs.Records.{renewed, notified, rung, refused, isTicked}
 use Rattle.rules.specs.Write.{newEntry, stored}
 use Rattle.rules.specs.LookUp.{lookUpOf}
 use Rattle.rules.specs.Transactions.{freeSlot, create, privateTo, takenBy, released, withoutTxn, commit, abort}
 use Rattle.rules.specs.Renew.{hasNumber, endingAt, renewEntries, renew}
-use Rattle.rules.specs.Tick.{dropEnded}
+use Rattle.rules.specs.Notify.{newRegistration, notify, madePublic, hearing, heardOf}
+use Rattle.rules.specs.Tick.{tick, unregistered, dropEnded}
 use Rattle.rules.specs.SerialRun.{Kept, keptOf}
 use Rattle.rules.specs.Sound.{ByNumber}
 use Rattle.rules.proofs.ListLaws.{count}
@@ -31,7 +33,8 @@ use Rattle.sound.proofs.AllLaws.{all-snoc, all-filter, all-map, out-all
 use Rattle.sound.proofs.AscendingLaws.{ascend-unique}
 use Rattle.sound.proofs.HoldLaws.{eqb-cases, heldBy, handed-all}
 use Rattle.sound.proofs.Events.{Admitted, Heard, says, Event, refuses, asks, writes, is-found, is-nothing}
-use Rattle.sound.proofs.Events.{is-waiting, creates, commits, aborts, renews, ticks, excepts, expires}
+use Rattle.sound.proofs.Events.{is-waiting, creates, commits, aborts, renews, notifies, ticks, excepts, expires}
+use Rattle.sound.proofs.Events.{rings}
 
 -- the transaction that a create makes
 abbrev pub newTxn : Model → Frame → Txn
@@ -89,7 +92,7 @@ renewed-all Q f m h renewal =
 
 pub becomes : {f : Frame} {m n : Model} {hs : List Heard} → Event f m hs n → ByNumber m
     → All (λ e. Becomes f m e (n .txns)) (n .entries)
-unfolding stored create commit abort renew dropEnded
+unfolding stored heardOf create commit abort renew notify tick unregistered dropEnded
 becomes (refuses m bs area q) s = as-was
 becomes (asks m t a) s = as-was
 becomes {f} (writes m t a) s =
@@ -106,9 +109,11 @@ becomes {f} (commits m t a) s = freed-all f m (f .txn) (λ e. not (takenBy (f .t
 becomes {f} (aborts m t a) s = freed-all f m (f .txn) (λ e. not (privateTo (f .txn) e))
 becomes {f} (renews m t a) s =
     renewed-all (λ e. Becomes f m e (m .txns)) f m (λ e i _. as-was e i) (λ d e i q. is-renewed t a d e i q)
+becomes (notifies m t a) s = as-was
 becomes (ticks m t a) s = as-was
 becomes {f} (excepts m t k i r) s = freed-all f m (t .id .0) (λ e. not (privateTo (t .id .0) e))
 becomes (expires m k) s = all-filter (λ e. not (reached (m .clock) (e .end))) (m .entries) (λ e i _. as-was e i)
+becomes (rings m c g i l) s = as-was
 
 -- a look-up, with the transactions that are live then: the frame's, or one that waited on, not inside one that ends
 -- (nobody waits inside the one that a frame ends: Consistent)
@@ -129,7 +134,7 @@ outside-all f m t =
 
 pub waits-on : {f : Frame} {m n : Model} {hs : List Heard} → Event f m hs n
     → All (λ w. WaitsOn f m w (n .txns)) (n .waits)
-unfolding stored create commit abort renew dropEnded
+unfolding stored heardOf create commit abort renew notify tick unregistered dropEnded
 waits-on (refuses m bs area q) = waited
 waits-on (asks m t a) = all-snoc (m .waits) waited (is-asked t a)
 waits-on (writes m t a) = waited
@@ -140,9 +145,11 @@ waits-on (creates m t a) = waited-ever
 waits-on (commits m t a) = waited-commit t a
 waits-on {f} (aborts m t a) = outside-all f m (f .txn)
 waits-on (renews m t a) = waited
+waits-on (notifies m t a) = waited
 waits-on (ticks m t a) = waited
 waits-on {f} (excepts m t k i r) = outside-all f m (t .id .0)
 waits-on (expires m k) = waited
+waits-on (rings m c g i l) = waited
 
 -- what holds of numbers, fields and ends holds on, if it holds of a new entry and of a renewed one
 pub kept-all : (K : Kept → Type 0) {f : Frame} {m n : Model} {hs : List Heard} → Event f m hs n → ByNumber m
@@ -192,7 +199,7 @@ waits-all W {f} {m} e new h w i = go (waits-on e w i)
 -- and so of the live transactions
 pub txns-all : (T : Txn → Type 0) {f : Frame} {m n : Model} {hs : List Heard} → Event f m hs n
     → (isCreate (f .op) ≡ true → Admitted f m → T (newTxn m f)) → All T (m .txns) → All T (n .txns)
-unfolding stored create commit abort withoutTxn renew dropEnded
+unfolding stored heardOf create commit abort withoutTxn renew notify tick unregistered dropEnded
 txns-all T (refuses m bs area q) new h = h
 txns-all T (asks m t a) new h = h
 txns-all T (writes m t a) new h = h
@@ -203,16 +210,43 @@ txns-all T (creates m t a) new h = all-snoc (m .txns) h (new t a)
 txns-all T {f} (commits m t a) new h = all-filter (λ x. not (eqb (x .id .0) (f .txn))) (m .txns) (λ x i _. h x i)
 txns-all T {f} (aborts m t a) new h = all-filter (λ x. not (eqb (x .id .0) (f .txn))) (m .txns) (λ x i _. h x i)
 txns-all T (renews m t a) new h = h
+txns-all T (notifies m t a) new h = h
 txns-all T (ticks m t a) new h = h
 txns-all T (excepts m t k i r) new h = all-filter (λ x. not (eqb (x .id .0) (t .id .0))) (m .txns) (λ x i _. h x i)
 txns-all T (expires m k) new h = h
+txns-all T (rings m c g i l) new h = h
+
+-- and of the registrations, if it holds on as they hear of entries
+pub registrations-all : (G : Registration → Type 0) {f : Frame} {m n : Model} {hs : List Heard} → Event f m hs n
+    → (isNotify (f .op) ≡ true → Admitted f m → G (newRegistration m f))
+    → ((es : List Entry) (g : Registration) → G g → G (hearing es g))
+    → All G (m .registrations) → All G (n .registrations)
+unfolding stored heardOf create commit abort renew notify tick unregistered dropEnded
+registrations-all G (refuses m bs area q) new hear h = h
+registrations-all G (asks m t a) new hear h = h
+registrations-all G {f} (writes m t a) new hear h =
+    let es = madePublic m f in all-map G (hearing es) (m .registrations) (λ g i. hear es g (h g i))
+registrations-all G (is-found m w e ws o i av) new hear h = h
+registrations-all G (is-nothing m w ws o c) new hear h = h
+registrations-all G (is-waiting m w i q n d c) new hear h = h
+registrations-all G (creates m t a) new hear h = h
+registrations-all G {f} (commits m t a) new hear h =
+    let es = madePublic m f in all-map G (hearing es) (m .registrations) (λ g i. hear es g (h g i))
+registrations-all G (aborts m t a) new hear h = h
+registrations-all G (renews m t a) new hear h = h
+registrations-all G (notifies m t a) new hear h = all-snoc (m .registrations) h (new t a)
+registrations-all G (ticks m t a) new hear h =
+    all-filter (λ g. not (reached (m .clock + 1) (g .end))) (m .registrations) (λ g i _. h g i)
+registrations-all G (excepts m t k i r) new hear h = h
+registrations-all G (expires m k) new hear h = h
+registrations-all G (rings m c g i l) new hear h = h
 
 -- the clock stands, or a tick moves it and says so
 pub clock-moves : {f : Frame} {m n : Model} {hs : List Heard} → Event f m hs n
     → ((n .clock ≡ m .clock) × (count (says isTicked) hs ≡ 0))
     ⊎ ((n .clock ≡ m .clock + 1) × (count (says isTicked) hs ≡ 1) × (isTick (f .op) ≡ true) × Admitted f m)
-unfolding stored create commit abort renew dropEnded written found nothing waiting created committed aborted exception
-    renewed ticked refused
+unfolding stored heardOf create commit abort renew notify tick unregistered dropEnded written found nothing waiting
+    created committed aborted exception renewed notified rung ticked refused
 clock-moves (refuses m bs area q) = inl (refl, refl)
 clock-moves (asks m t a) = inl (refl, refl)
 clock-moves (writes m t a) = inl (refl, refl)
@@ -223,6 +257,8 @@ clock-moves (creates m t a) = inl (refl, refl)
 clock-moves (commits m t a) = inl (refl, refl)
 clock-moves (aborts m t a) = inl (refl, refl)
 clock-moves (renews m t a) = inl (refl, refl)
+clock-moves (notifies m t a) = inl (refl, refl)
 clock-moves (ticks m t a) = inr (refl, refl, t, a)
 clock-moves (excepts m t k i r) = inl (refl, refl)
 clock-moves (expires m k) = inl (refl, refl)
+clock-moves (rings m c g i l) = inl (refl, refl)

@@ -26,15 +26,16 @@ use Rattle.rules.specs.Done.{Carried, quiet}
 use Rattle.rules.specs.Write.{newEntry, stored, write}
 use Rattle.rules.specs.Transactions.{create}
 use Rattle.rules.specs.Renew.{hasNumber, endingAt, renewedTo, renewEntries, renew}
+use Rattle.rules.specs.Notify.{notify, heardOf}
 use Rattle.rules.specs.Service.{serve, service}
 use Rattle.rules.specs.Closing.{closeWaits, endsConflicts}
-use Rattle.rules.specs.Step.{ownPart}
+use Rattle.rules.specs.Step.{writeFrame, ownPart}
 use Rattle.rules.proofs.BoolLaws.{option-cases, bool-cases, cond-cases, and-left, and-right, and-false-right, or-cases}
 use Rattle.rules.proofs.BoolLaws.{or-left, or-right}
 use Rattle.rules.proofs.ListLaws.{any-mem, mem-any, any-append, any-same, find-some, none-mem, filter-mem}
 use Rattle.rules.proofs.StepCases.{own-cases, serve-ind}
-use Rattle.rules.proofs.LayoutLaws.{lookUp-serves, create-serves, write-serves, renew-serves, commit-ends}
-use Rattle.rules.proofs.LayoutLaws.{abort-ends}
+use Rattle.rules.proofs.LayoutLaws.{lookUp-serves, create-serves, write-serves, renew-serves, notify-serves}
+use Rattle.rules.proofs.LayoutLaws.{commit-ends, abort-ends}
 use Rattle.rules.proofs.SoundLaws.{served-among, own-ahead, service-ahead, all-hopeful}
 use Rattle.sound.proofs.HoldLaws.{equal-or, not-so, available-free, heldBy, removes-why, mark-cases, eqb-cases}
 use Rattle.sound.proofs.HoldLaws.{others-stay, mark-stays, handed-all}
@@ -204,8 +205,8 @@ conflicts-same ts us w p e =
     matches (w .mask) (w .fields) (e .fields) && not (availableIf read w e) && othersIf read w e) p
 
 module _ (m : Model) (f : Frame) (s : Sound m) where
-  write-hopeful : Hopeful (stored m f)
-  unfolding stored
+  write-hopeful : Hopeful (writeFrame m f .model)
+  unfolding writeFrame write heardOf stored
   write-hopeful w i t =
       eqb-cases (λ (l : List Entry). someConflicts (m .txns) w l ≡ true) (f .leaseOrTimeout) 0 (λ _. s .hopeful w i t)
       (λ _. any-append (conflicts (m .txns) w) (m .entries) (newEntry m f ∷ [])
@@ -238,8 +239,8 @@ module _ (m : Model) (f : Frame) (s : Sound m) where
           (λ t. not-false _ (and-false-right (v .«if_exists») _ t (or-right (eqb (f .leaseOrTimeout) 0) _ g))))
 
   -- a write outside transactions and its service
-  service-hopeful : f .txn ≡ 0 → Hopeful (service (stored m f) .model)
-  unfolding service stored newEntry
+  service-hopeful : f .txn ≡ 0 → Hopeful (service (writeFrame m f .model) .model)
+  unfolding service writeFrame write heardOf stored newEntry
   service-hopeful z w i t =
       let n = stored m f in
       serve-conflicts (n .nextEntry) (m .txns) (s .consistent .txns-ok) w (n .entries) (m .waits)
@@ -284,7 +285,7 @@ module _ (m : Model) (f : Frame) (s : Sound m) where
     no-tick = or-right (isTake (f .op) && not (eqb (f .txn) 0) || endsTxn (f .op)) _ spares
 
     hope-lasts : Hopeful left
-    unfolding write
+    unfolding notify
     hope-lasts =
         own-cases (λ (c : Carried). Hopeful (leftOf f (c .model))) m f is
         (λ t. rw (write-serves f t) (eqb-cases Hopeful (f .txn) 0 (λ z. service-hopeful z) (λ _. write-hopeful)))
@@ -292,6 +293,7 @@ module _ (m : Model) (f : Frame) (s : Sound m) where
         (λ t. absurd (true≢false (sym (commit-ends (f .op) t) ∙ ends-none)))
         (λ t. absurd (true≢false (sym (abort-ends (f .op) t) ∙ ends-none)))
         (λ t. rw (renew-serves f t) (renew-hopeful (a .renewable t)))
+        (λ t. rw (notify-serves f t) (s .hopeful))
         (λ t. absurd (true≢false (sym t ∙ no-tick)))
       where
         inside : Bool

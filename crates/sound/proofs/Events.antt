@@ -1,7 +1,8 @@
 -- The events of a step: each is small, and at most one thing is heard of it, that the frame's look-up arrives, or a
 -- record. A new operation is a constructor here, its part in EventsProof, and a clause in each lemma that goes by
--- events (in Becomes, ConsistentProof and SoundProof; in demands AnswersProof, BookProof, BoundsRange and SerialRunProof).
-use Prim.Native.Nat.{ℕ, _+_, _<_}
+-- events (in Becomes, ConsistentProof and SoundProof; in demands AnswersProof, BookProof, BoundsRange and
+-- SerialRunProof).
+use Prim.Native.Nat.{ℕ, _≤_, _<_}
 use mathlib.Core.Bool.{Bool, true, false, cond, not, _&&_}
 use mathlib.Core.Logic.{_⊎_}
 use mathlib.Core.Path.{_≡_}
@@ -11,22 +12,24 @@ use Rattle.rules.specs.declared.Entry.{Entry}
 use Rattle.rules.specs.declared.Record.{Record}
 use Rattle.rules.specs.declared.Txn.{Txn}
 use Rattle.rules.specs.declared.LookUp.{LookUp}
-use Rattle.rules.specs.Numbers.{forever, lastClock, maxTxns}
+use Rattle.rules.specs.declared.Registration.{Registration}
+use Rattle.rules.specs.Numbers.{forever, lastClock, maxTxns, maxRegistrations}
 use Rattle.rules.specs.Time.{until, reached, EndFits}
-use Rattle.rules.specs.State.{Model, withEntries, withWaits, withClock}
+use Rattle.rules.specs.State.{Model, withEntries, withWaits}
 use Rattle.rules.specs.Holds.{available, someAvailable, someConflicts}
 use Rattle.rules.specs.Frame.{Frame, decode, isWrite, isLookUp, isCreate, isCommit, isAbort, isTick, hasLeaseOrTimeout}
-use Rattle.rules.specs.Frame.{endsTxn, isRenew, namesEntry, entryNamed}
+use Rattle.rules.specs.Frame.{endsTxn, isRenew, isNotify, namesEntry, entryNamed}
 use Rattle.rules.specs.Records.{written, found, nothing, waiting, created, committed, aborted, exception, ticked}
-use Rattle.rules.specs.Records.{renewed, refused}
+use Rattle.rules.specs.Records.{renewed, notified, rung, refused}
 use Rattle.rules.specs.Write.{stored}
 use Rattle.rules.specs.LookUp.{lookUpOf, handOut}
 use Rattle.rules.specs.Transactions.{create, commit, abort}
 use Rattle.rules.specs.Renew.{renew}
-use Rattle.rules.specs.Tick.{dropEnded}
+use Rattle.rules.specs.Notify.{notify, madePublic, heardOf}
+use Rattle.rules.specs.Tick.{tick, dropEnded}
 use Rattle.rules.specs.Refusals.{malformed, refusal}
 use Rattle.rules.specs.SerialRun.{wasRefused}
-use Rattle.rules.specs.Sound.{LiveOf, IsParty}
+use Rattle.rules.specs.Sound.{LiveOf, IsParty, Lasting}
 use Rattle.sound.proofs.AllLaws.{Out}
 
 -- what a renewal names: it is stored, the party wrote it, it is committed, and nobody holds it
@@ -39,9 +42,11 @@ pub record Renewable (f : Frame) (m : Model) : Type 0 where
   pub untaken : entry .«taken_by» .0 ≡ 0
   pub unread : entry .readers ≡ 0
 
--- what the refusal table lets pass
+-- what the refusal table lets pass, when the step before is over
 pub record Admitted (f : Frame) (m : Model) : Type 0 where
   pub formed : malformed f ≡ false
+  -- nothing stored is past its lease
+  pub lasting : Lasting m
   pub renewable : isRenew (f .op) ≡ true → Renewable f m
   -- but for a renewal, outside transactions, or in a live one of the party; a commit or abort in one
   pub inside : namesEntry (f .op) ≡ false → (f .txn ≡ 0) ⊎ LiveOf (f .txn) (f .party) (m .txns)
@@ -57,6 +62,8 @@ pub record Admitted (f : Frame) (m : Model) : Type 0 where
   pub slot-left : isCreate (f .op) ≡ true → length (m .txns) < maxTxns
   pub entry-number : isWrite (f .op) ≡ true → m .nextEntry < forever
   pub txn-number : isCreate (f .op) ≡ true → m .nextTxn < forever
+  pub registration-left : isNotify (f .op) ≡ true → length (m .registrations) < maxRegistrations
+  pub registration-number : isNotify (f .op) ≡ true → m .nextRegistration < forever
 
 -- what is heard of a step: that the frame's look-up arrives, and records
 pub data Heard : Type 0 where
@@ -76,7 +83,7 @@ pub data Event (f : Frame) : Model → List Heard → Model → Type 0 where
   asks : (m : Model) → isLookUp (f .op) ≡ true → Admitted f m
       → Event f m (asking ∷ []) (withWaits (m .waits ++ (lookUpOf m f ∷ [])) m)
   writes : (m : Model) → isWrite (f .op) ≡ true → Admitted f m
-      → Event f m (saying (written f (m .nextEntry)) ∷ []) (stored m f)
+      → Event f m (saying (written f (m .nextEntry)) ∷ []) (heardOf (madePublic m f) (stored m f))
   -- the entry is stored and available just then; the look-up waits no longer
   is-found : (m : Model) (w : LookUp) (e : Entry) (ws : List LookUp) → Out w (m .waits) ws → List·Memᴰ e (m .entries)
       → available (m .txns) w e ≡ true
@@ -90,16 +97,21 @@ pub data Event (f : Frame) : Model → List Heard → Model → Type 0 where
   creates : (m : Model) → isCreate (f .op) ≡ true → Admitted f m
       → Event f m (saying (created f (m .nextTxn)) ∷ []) (create m f .model)
   commits : (m : Model) → isCommit (f .op) ≡ true → Admitted f m
-      → Event f m (saying (committed f) ∷ []) (commit (f .txn) m)
+      → Event f m (saying (committed f) ∷ []) (heardOf (madePublic m f) (commit (f .txn) m))
   aborts : (m : Model) → isAbort (f .op) ≡ true → Admitted f m → Event f m (saying (aborted f) ∷ []) (abort (f .txn) m)
   renews : (m : Model) → isRenew (f .op) ≡ true → Admitted f m → Event f m (saying (renewed f) ∷ []) (renew m f .model)
+  notifies : (m : Model) → isNotify (f .op) ≡ true → Admitted f m
+      → Event f m (saying (notified f (m .nextRegistration)) ∷ []) (notify m f .model)
   ticks : (m : Model) → isTick (f .op) ≡ true → Admitted f m
-      → Event f m (saying ticked ∷ []) (withClock (m .clock + 1) m)
+      → Event f m (saying ticked ∷ []) (tick m .model)
   -- the transaction is live and ends just then
   excepts : (m : Model) (t : Txn) → isTick (f .op) ≡ true → List·Memᴰ t (m .txns) → reached (m .clock) (t .end) ≡ true
       → Event f m (saying (exception t) ∷ []) (abort (t .id .0) m)
   -- entries that end now are removed
   expires : (m : Model) → isTick (f .op) ≡ true → Event f m [] (dropEnded m)
+  -- a live registration has heard of entries, counted in its total
+  rings : (m : Model) (count : ℕ) (g : Registration) → List·Memᴰ g (m .registrations) → count ≤ g .total
+      → Event f m (saying (rung count g) ∷ []) m
 
 -- one after the other
 pub data Events (f : Frame) : Model → List Heard → Model → Type 0 where

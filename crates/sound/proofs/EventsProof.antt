@@ -1,6 +1,6 @@
 -- Every step of the rules is a sequence of events; and what holds when it is over.
 use Prim.Native.Nat.{ℕ, _+_, _<_}
-use mathlib.Core.Bool.{Bool, true, false, cond, not, _&&_, or-true, and-false, true≢false}
+use mathlib.Core.Bool.{Bool, true, false, cond, not, _&&_, _||_, or-true, and-false, true≢false}
 use mathlib.Core.Logic.{_⊎_, inl, inr, ⊎-elim}
 use mathlib.Core.Path.{_≡_, refl, sym, ap, _∙_, subst, subst⁻¹}
 use mathlib.Core.Option.{Option, none, some}
@@ -14,36 +14,40 @@ use Rattle.rules.specs.declared.Entry.{Entry}
 use Rattle.rules.specs.declared.Record.{Record}
 use Rattle.rules.specs.declared.Txn.{Txn}
 use Rattle.rules.specs.declared.LookUp.{LookUp}
-use Rattle.rules.specs.Numbers.{forever, lastClock, maxTxns, areaRefused, kindRefused, kindFound, kindNothing}
+use Rattle.rules.specs.declared.Registration.{Registration}
+use Rattle.rules.specs.Numbers.{forever, lastClock, maxTxns, maxRegistrations, areaRefused, kindRefused, kindFound}
+use Rattle.rules.specs.Numbers.{kindNothing}
 use Rattle.rules.specs.Lists.{filterb, All}
 use Rattle.rules.specs.Time.{until, reached, EndFits}
 use Rattle.rules.specs.State.{Model, withEntries, withWaits}
 use Rattle.rules.specs.Holds.{liveTxn, available, oldest, someAvailable, someConflicts}
-use Rattle.rules.specs.Frame.{Frame, decode, isWrite, isLookUp, isCreate, isTick, hasLeaseOrTimeout, isOperation}
-use Rattle.rules.specs.Frame.{isRenew, namesEntry, entryNamed}
-use Rattle.rules.specs.Frame.{serves}
+use Rattle.rules.specs.Frame.{Frame, decode, isWrite, isLookUp, isCreate, isCommit, isTick, hasLeaseOrTimeout}
+use Rattle.rules.specs.Frame.{isOperation, isRenew, isNotify, namesEntry, entryNamed, serves}
 use Rattle.rules.specs.Records.{written, found, nothing, waiting, created, committed, aborted, exception, ticked}
-use Rattle.rules.specs.Records.{renewed, refused}
+use Rattle.rules.specs.Records.{renewed, notified, rung, refused}
 use Rattle.rules.specs.Done.{Carried, Done, quiet}
-use Rattle.rules.specs.Write.{write}
+use Rattle.rules.specs.Write.{stored, write}
 use Rattle.rules.specs.LookUp.{removes, isEntry, marked, lookUpOf, handOut, givesNothing, answer, answerFound}
 use Rattle.rules.specs.LookUp.{answerNothing, answerWaiting, lookUp, asked}
-use Rattle.rules.specs.Transactions.{create, withoutTxn, abort}
+use Rattle.rules.specs.Transactions.{create, withoutTxn, commit, abort}
 use Rattle.rules.specs.Service.{serve, service}
-use Rattle.rules.specs.Tick.{tick, endedTxns, abortAll, dropEnded, lapsed}
+use Rattle.rules.specs.Tick.{tick, unregistered, endedTxns, abortAll, dropEnded, lapsed}
 use Rattle.rules.specs.Closing.{isOver, closeWaits}
 use Rattle.rules.specs.Renew.{hasNumber, storedEntry, renew}
-use Rattle.rules.specs.Refusals.{isBy, notWriter, isFree, notFree}
-use Rattle.rules.specs.Refusals.{isOf, inTxn, notOwn, tooLate, txnsFull, noNumber, refusal}
-use Rattle.rules.specs.Step.{Outcome, commitFrame, abortFrame, finish, carriedOut, step, accepted, refusedWith}
+use Rattle.rules.specs.Refusals.{isBy, notWriter, isFree, notFree, isOf, inTxn, notOwn, tooLate, txnsFull}
+use Rattle.rules.specs.Refusals.{registrationsFull, noNumber, refusal}
+use Rattle.rules.specs.Notify.{notify, madePublic, matching, hearing, heardOf, ringing}
+use Rattle.rules.specs.Step.{Outcome, writeFrame, commitFrame, abortFrame, finish, carriedOut, step, accepted}
+use Rattle.rules.specs.Step.{refusedWith}
 use Rattle.rules.specs.SerialRun.{wasRefused}
-use Rattle.rules.specs.Sound.{Ascending, Lasting, NoneFor, LiveOf, Ordered}
+use Rattle.rules.specs.Sound.{Ascending, Lasting, NoneFor, LiveOf, Ordered, Sound}
 use Rattle.rules.proofs.BoolLaws.{cond-cases, bool-cases, and-left, and-right, or-left, or-right, or-cases}
 use Rattle.rules.proofs.BoolLaws.{and-false-right}
 use Rattle.rules.proofs.ListLaws.{filter-mem, none-any, find-some}
 use Rattle.rules.proofs.LayoutLaws.{write-not-tick, lookUp-not-tick, create-not-tick, commit-not-tick, abort-not-tick}
-use Rattle.rules.proofs.LayoutLaws.{renew-not-tick, renew-names}
-use Rattle.rules.proofs.LayoutLaws.{lookUp-not-abort, tick-serves, lookUp-serves, finish-quiet}
+use Rattle.rules.proofs.LayoutLaws.{renew-not-tick, notify-not-tick, renew-names, lookUp-not-abort, tick-serves}
+use Rattle.rules.proofs.LayoutLaws.{lookUp-serves, finish-quiet}
+use Rattle.rules.proofs.NotifyLaws.{none-rung, lookUp-silent, finish-registrations}
 use Rattle.rules.proofs.StepCases.{own-cases, serve-ind}
 use Rattle.rules.proofs.SoundLaws.{is-party}
 use Rattle.rules.proofs.RefusalLaws.{Clear, clear, is-one, none-waits}
@@ -51,11 +55,9 @@ use Rattle.rules.proofs.TimeLaws.{until-later, until-now}
 use Rattle.sound.proofs.AllLaws.{all-none, all-cons, all-append, all-snoc, all-filter, all-map, Out, here, there}
 use Rattle.sound.proofs.AllLaws.{out-last}
 use Rattle.sound.proofs.HoldLaws.{mark-cases}
-use Rattle.sound.proofs.Events.{Renewable}
-use Rattle.sound.proofs.Events.{Admitted, Heard, saying, heard, Closes, Event, refuses, asks, writes, is-found}
-use Rattle.sound.proofs.Events.{is-nothing, is-waiting, creates, commits, aborts, renews, ticks, excepts}
-use Rattle.sound.proofs.Events.{expires}
-use Rattle.sound.proofs.Events.{Events, over, then, join}
+use Rattle.sound.proofs.Events.{Renewable, Admitted, Heard, saying, heard, Closes, Event, refuses, asks, writes}
+use Rattle.sound.proofs.Events.{is-found, is-nothing, is-waiting, creates, commits, aborts, renews, notifies}
+use Rattle.sound.proofs.Events.{ticks, excepts, expires, rings, Events, over, then, join}
 use Rattle.sound.proofs.Becomes.{waits-all}
 use Rattle.sound.proofs.Unavailable.{serve-settled}
 use Rattle.sound.proofs.AscendingLaws.{ascend-filter}
@@ -113,12 +115,15 @@ module _ (f : Frame) (m : Model) where
       (or-right (hasLeaseOrTimeout (f .op) && not (eqb (f .leaseOrTimeout) forever) && ltb lastClock
       (m .clock + f .leaseOrTimeout)) _ h))
 
-pub admitted : (m : Model) (bs : List ℕ) (area : ℕ) → Clear m bs area → Admitted (decode bs) m
-unfolding txnsFull noNumber
-admitted m bs area c =
+pub admitted : (m : Model) (bs : List ℕ) (area : ℕ) → Clear m bs area → Lasting m → Admitted (decode bs) m
+unfolding txnsFull registrationsFull noNumber
+admitted m bs area c lasts =
     let f = decode bs in
+    let notified = isNotify (f .op) && leb forever (m .nextRegistration) in
+    let numbered = isWrite (f .op) && leb forever (m .nextEntry) || isCreate (f .op) && leb forever (m .nextTxn) in
     record {
       formed = c .form;
+      lasting = lasts;
       renewable = renew-named f m (c .writer) (c .unheld);
       inside = λ z.
           ⊎-elim (λ t. inl (eqb-true (f .txn) 0 t)) (λ (t : eqb (f .txn) 0 ≡ false). inr
@@ -132,10 +137,16 @@ admitted m bs area c =
       slot-left = λ t. leb-false maxTxns (length (m .txns)) (and-false-right (isCreate (f .op)) _ t (c .txn-room));
       entry-number = λ t.
           leb-false forever (m .nextEntry) (and-false-right (isWrite (f .op)) _ t
-          (or-left _ (isCreate (f .op) && leb forever (m .nextTxn)) (c .numbers)));
+          (or-left _ (isCreate (f .op) && leb forever (m .nextTxn)) (or-left _ notified (c .numbers))));
       txn-number = λ t.
           leb-false forever (m .nextTxn) (and-false-right (isCreate (f .op)) _ t
-          (or-right (isWrite (f .op) && leb forever (m .nextEntry)) _ (c .numbers)));
+          (or-right (isWrite (f .op) && leb forever (m .nextEntry)) _ (or-left _ notified (c .numbers))));
+      registration-left = λ t.
+          leb-false maxRegistrations (length (m .registrations))
+          (and-false-right (isNotify (f .op)) _ t (c .registration-room));
+      registration-number = λ t.
+          leb-false forever (m .nextRegistration) (and-false-right (isNotify (f .op)) _ t
+          (or-right numbered notified (c .numbers)));
     }
 
 -- a look-up that is over is given nothing with reason; one that is not has its deadline ahead, and an IfExists kind a
@@ -228,6 +239,22 @@ module _ (f : Frame) where
       (all-filter ended (m .txns) (λ t i e. (i, e))) in
       subst (λ hs. Events f m hs (lapsed m .model)) (append-nil (map saying (lapsed m .records)))
       (join gone (then (expires _ tk) over))
+
+  -- who has heard of entries, once they are counted
+  rung-events : (es : List Entry) (gs : List Registration) (n : Model)
+      → All (λ g. List·Memᴰ (hearing es g) (n .registrations)) gs → Events f n (map saying (ringing es gs)) n
+  unfolding ringing hearing
+  rung-events es gs n h = go (filterb hears gs) (all-filter hears gs (λ g i _. h g i))
+    where
+      hears : Registration → Bool
+      hears g = not (eqb (matching es g) 0)
+
+      go : (gs : List Registration) → All (λ g. List·Memᴰ (hearing es g) (n .registrations)) gs
+          → Events f n (map saying (map (λ g. rung (matching es g) (hearing es g)) gs)) n
+      go [] a = over
+      go (g ∷ gs) a =
+          then (rings n (matching es g) (hearing es g) (a g (List·Memᴰ·head refl)) (omega arith))
+          (go gs (λ x i. a x (List·Memᴰ·tail i)))
 
 -- service hands out what lasts, and says nothing but found
 serve-lasting : (clock : ℕ) (ts : List Txn) (es : List Entry) (ws : List LookUp)
@@ -336,18 +363,44 @@ pub record Carries (f : Frame) (m : Model) (rs : List Record) (n : Model) : Type
 -- a frame's own part, and what it finishes with
 module _ (f : Frame) (m : Model) (a : Admitted f m)
     (ordered : Ordered (m .txns)) where
+  -- those of kind 11, said last
+  abbrev last : List Record
+  last = ringing (madePublic m f) (m .registrations)
+
   abbrev Whole : Carried → Type 0
-  Whole c = Carries f m (c .own ∷ finish f (c .model) .records) (finish f (c .model) .model)
+  Whole c = Carries f m (c .own ∷ finish f (c .model) .records ++ last) (finish f (c .model) .model)
+
+  -- what is heard of is counted by then
+  abbrev Counted : Carried → Type 0
+  Counted c = (last ≡ []) ⊎ (c .model .registrations ≡ map (hearing (madePublic m f)) (m .registrations))
+
+  last-events : (c : Carried) → Counted c → Part f (finish f (c .model) .model)
+      (record { model = finish f (c .model) .model; records = last })
+  last-events c (inl q) = rw q over
+  last-events c (inr q) =
+      rung-events f (madePublic m f) (m .registrations) (finish f (c .model) .model)
+      (λ g i. subst⁻¹ (λ gs. List·Memᴰ (hearing (madePublic m f) g) gs) (finish-registrations f (c .model) ∙ q)
+      (Memᴰ·map (hearing (madePublic m f)) i))
+
+  -- none of them is a nothing
+  last-other : (P : Record → Type 0) → All (λ a. a .kind ≡ kindNothing → P a) last
+  unfolding ringing rung
+  last-other P =
+      let es = madePublic m f in
+      all-map (λ a. a .kind ≡ kindNothing → P a) (λ g. rung (matching es g) (hearing es g))
+      (filterb (λ g. not (eqb (matching es g) 0)) (m .registrations)) (λ g i (k : 11 ≡ 3). absurd (omega arith))
 
   plain : (c : Carried) → isLookUp (f .op) ≡ false → (c .own .kind ≡ kindNothing → ⊥)
-      → (isTick (f .op) ≡ true → Ordered (c .model .txns)) → Event f m (saying (c .own) ∷ []) (c .model) → Whole c
+      → (isTick (f .op) ≡ true → Ordered (c .model .txns)) → Counted c → Event f m (saying (c .own) ∷ []) (c .model)
+      → Whole c
   unfolding asked finish
-  plain c z k o e =
+  plain c z k o counted e =
       let until = then e (until-served f (c .model) o) in
+      let mid′ = served f (c .model) .model in
       record {
-        events = rw z (then e (finish-events f (c .model) o));
+        events = rw (z, map-append) (then e (join (finish-events f (c .model) o) (last-events c counted)));
         rested = record {
-          mid = served f (c .model) .model;
+          mid = mid′;
           so-far = _;
           until-mid = until;
           left = refl;
@@ -355,7 +408,8 @@ module _ (f : Frame) (m : Model) (a : Admitted f m)
           settled = service-settles f (c .model);
           lasting = finish-lasts f (c .model);
           waits-well = λ t. absurd (true≢false (sym t ∙ z));
-          closed = all-cons (λ q. absurd (k q)) (λ b i q. inl (finish-closes f (c .model) b i q));
+          closed = all-cons (λ q. absurd (k q)) (all-append (finish f (c .model) .records)
+              (λ b i q. inl (finish-closes f (c .model) b i q)) (last-other (λ b. Shut mid′ b ⊎ AtOnce f m mid′ b)));
         };
       }
 
@@ -372,8 +426,9 @@ module _ (f : Frame) (m : Model) (a : Admitted f m)
   answered c t z e inside well shut =
       let k = lookUp-not-tick (f .op) t in
       let n = c .model in
-      subst⁻¹ (λ (d : Done). Carries f m (c .own ∷ d .records) (d .model)) (finish-quiet f n k (lookUp-serves f t))
-      (record {
+      subst⁻¹ (λ (d : Done). Carries f m (c .own ∷ d .records ++ last) (d .model))
+      (finish-quiet f n k (lookUp-serves f t))
+      (rw (lookUp-silent m f t, append-nil (map nothing (filterb (isOver n) (n .waits)))) (record {
         events = rw (t, z) (then (asks m t a) (then e (close-events f n)));
         rested = record {
           mid = n;
@@ -388,7 +443,7 @@ module _ (f : Frame) (m : Model) (a : Admitted f m)
               (all-map (λ b. b .kind ≡ kindNothing → Shut n b ⊎ AtOnce f m n b) nothing _
               (all-filter (isOver n) (n .waits) (λ w i r _. inl (w, i, refl, r))));
         };
-      })
+      }))
 
   look-up : isLookUp (f .op) ≡ true → (o : Option Entry)
       → oldest (m .txns) (lookUpOf m f) (m .entries) ≡ o
@@ -431,49 +486,62 @@ module _ (f : Frame) (m : Model) (a : Admitted f m)
             not-true _ (and-right (w .«if_exists») _ z),
           )) (or-cases (eqb timeout 0) _ g)
 
+  -- but for a write or commit nothing is heard of
+  silent : (c : Carried) → isWrite (f .op) ≡ false → isCommit (f .op) ≡ false → Counted c
+  silent c w k = inl (none-rung m f w k)
+
   pub carries : isOperation (f .op) ≡ true → Carries f m (carriedOut m f .records) (carriedOut m f .model)
-  unfolding carriedOut write lookUp create commitFrame abortFrame renew tick written created committed aborted renewed
-      ticked
+  unfolding carriedOut writeFrame write stored heardOf lookUp create commitFrame commit abortFrame renew notify tick
+      unregistered written created committed aborted renewed notified ticked
   carries is =
       let w = lookUpOf m f in
-      own-cases Whole m f is (λ t. plain (write m f) (rw (eqb-true (f .op) 1 t)) (λ (k : 1 ≡ 3). omega arith)
-      (not-now (write-not-tick (f .op) t)) (writes m t a))
+      own-cases Whole m f is
+      (λ t. plain (writeFrame m f) (rw (eqb-true (f .op) 1 t)) (λ (k : 1 ≡ 3). omega arith)
+      (not-now (write-not-tick (f .op) t)) (inr refl) (writes m t a))
       (λ t. look-up t (oldest (m .txns) w (m .entries)) refl)
       (λ t. plain (create m f) (rw (eqb-true (f .op) 6 t)) (λ (k : 5 ≡ 3). omega arith)
-      (not-now (create-not-tick (f .op) t)) (creates m t a))
+      (not-now (create-not-tick (f .op) t)) (silent (create m f) (rw (eqb-true (f .op) 6 t))
+      (rw (eqb-true (f .op) 6 t)))
+      (creates m t a))
       (λ t. plain (commitFrame m f) (rw (eqb-true (f .op) 7 t)) (λ (k : 6 ≡ 3). omega arith)
-      (not-now (commit-not-tick (f .op) t)) (commits m t a))
+      (not-now (commit-not-tick (f .op) t)) (inr refl) (commits m t a))
       (λ t. plain (abortFrame m f) (rw (eqb-true (f .op) 8 t)) (λ (k : 7 ≡ 3). omega arith)
-      (not-now (abort-not-tick (f .op) t)) (aborts m t a))
+      (not-now (abort-not-tick (f .op) t))
+      (silent (abortFrame m f) (rw (eqb-true (f .op) 8 t)) (rw (eqb-true (f .op) 8 t))) (aborts m t a))
       (λ t. plain (renew m f) (rw (eqb-true (f .op) 11 t)) (λ (k : 12 ≡ 3). omega arith)
-      (not-now (renew-not-tick (f .op) t)) (renews m t a))
-      (λ t. plain (tick m) (rw (eqb-true (f .op) 9 t)) (λ (k : 9 ≡ 3). omega arith) (λ _. ordered) (ticks m t a))
+      (not-now (renew-not-tick (f .op) t))
+      (silent (renew m f) (rw (eqb-true (f .op) 11 t)) (rw (eqb-true (f .op) 11 t))) (renews m t a))
+      (λ t. plain (notify m f) (rw (eqb-true (f .op) 10 t)) (λ (k : 10 ≡ 3). omega arith)
+      (not-now (notify-not-tick (f .op) t))
+      (silent (notify m f) (rw (eqb-true (f .op) 10 t)) (rw (eqb-true (f .op) 10 t))) (notifies m t a))
+      (λ t. plain (tick m) (rw (eqb-true (f .op) 9 t)) (λ (k : 9 ≡ 3). omega arith) (λ _. ordered)
+      (silent (tick m) (rw (eqb-true (f .op) 9 t)) (rw (eqb-true (f .op) 9 t))) (ticks m t a))
     where
       not-now : {P : Type 0} → isTick (f .op) ≡ false → isTick (f .op) ≡ true → P
       not-now z t = absurd (true≢false (sym t ∙ z))
 
 -- a frame that is not refused
-pub step-carries : (m : Model) (bs : List ℕ) (area : ℕ) → Ordered (m .txns) → refusal m bs area ≡ 0
+pub step-carries : (m : Model) (bs : List ℕ) (area : ℕ) → Sound m → refusal m bs area ≡ 0
     → Admitted (decode bs) m × Carries (decode bs) m (step m bs area .records) (step m bs area .model)
 unfolding step accepted
-step-carries m bs area ordered e =
+step-carries m bs area s e =
     let c = clear m bs area e in
-    let a = admitted m bs area c in
-    rw e (a, carries (decode bs) m a ordered (is-one bs (c .operation)))
+    let a = admitted m bs area c (s .lasting) in
+    rw e (a, carries (decode bs) m a (s .consistent .ordered .txns) (is-one bs (c .operation)))
 
 -- every step: one that is carried out, or refused
 pub data StepIs (f : Frame) (m : Model) (rs : List Record) (n : Model) : Type 0 where
   is-carried : Admitted f m → Carries f m rs n → StepIs f m rs n
   is-refused : Events f m (heard f rs) n → n ≡ m → StepIs f m rs n
 
-pub step-is : (m : Model) (bs : List ℕ) (area : ℕ) → Ordered (m .txns)
+pub step-is : (m : Model) (bs : List ℕ) (area : ℕ) → Sound m
     → StepIs (decode bs) m (step m bs area .records) (step m bs area .model)
 unfolding step accepted refusedWith wasRefused refused
-step-is m bs area ordered =
+step-is m bs area s =
     cond-cases (λ (o : Outcome). StepIs f m (o .records) (o .model)) (eqb n 0)
     (λ e. let c = clear m bs area (eqb-true n 0 e) in
-    let a = admitted m bs area c in
-    is-carried a (carries f m a ordered (is-one bs (c .operation)))) (λ _. is-refused
+    let a = admitted m bs area c (s .lasting) in
+    is-carried a (carries f m a (s .consistent .ordered .txns) (is-one bs (c .operation)))) (λ _. is-refused
     (cond-cases (λ (rs : List Record). Events f m (heard f rs) m) (eqb n areaRefused) (λ _. rw and-false over)
     (λ _. rw and-false (then (refuses m bs area refl) over))) refl)
   where
@@ -483,9 +551,9 @@ step-is m bs area ordered =
     n : ℕ
     n = refusal m bs area
 
-pub step-events : (m : Model) (bs : List ℕ) (area : ℕ) → Ordered (m .txns)
+pub step-events : (m : Model) (bs : List ℕ) (area : ℕ) → Sound m
     → Events (decode bs) m (heard (decode bs) (step m bs area .records)) (step m bs area .model)
-step-events m bs area o = go (step-is m bs area o)
+step-events m bs area s = go (step-is m bs area s)
   where
     go : {n : Model} {rs : List Record} → StepIs (decode bs) m rs n → Events (decode bs) m (heard (decode bs) rs) n
     go (is-carried a c) = c .events

@@ -1,4 +1,5 @@
--- What a frame's own part sets free, on a sound space: after a write, a commit or an abort no entry that was there before
+-- What a frame's own part sets free, on a sound space: after a write, a commit or an abort no entry that was there
+-- before
 -- is available, as it was, to anyone who waits; and after a tick that ends no transaction none is at all.
 use Prim.Native.Nat.{ℕ}
 use mathlib.Core.Bool.{Bool, true, false, not, cond, true≢false}
@@ -19,11 +20,12 @@ use Rattle.rules.specs.Done.{Carried}
 use Rattle.rules.specs.Write.{stored, write}
 use Rattle.rules.specs.Transactions.{withoutTxn, commit, abort}
 use Rattle.rules.specs.Tick.{dropEnded}
-use Rattle.rules.specs.Step.{ownPart, commitFrame, abortFrame}
+use Rattle.rules.specs.Step.{writeFrame, ownPart, commitFrame, abortFrame}
+use Rattle.rules.specs.Notify.{heardOf}
 use Rattle.rules.specs.Sound.{NoneFor, Sound}
 use Rattle.rules.proofs.ListLaws.{none-mem, all-false, mem-filter}
-use Rattle.rules.proofs.LayoutLaws.{renew-serves}
-use Rattle.rules.proofs.LayoutLaws.{lookUp-serves, create-serves, commit-not-abort, commit-ends}
+use Rattle.rules.proofs.LayoutLaws.{renew-serves, notify-serves, lookUp-serves, create-serves, commit-not-abort}
+use Rattle.rules.proofs.LayoutLaws.{commit-ends}
 use Rattle.rules.proofs.StepCases.{own-cases}
 use Rattle.sound.proofs.OrderLaws.{InOrder, stored-order, freed-numbered}
 use Rattle.sound.proofs.Events.{Admitted}
@@ -62,8 +64,9 @@ module _ (m : Model) (f : Frame) (s : Sound m) (a : Admitted f m) where
   outside t w i d e j =
       available-same (withoutTxn t (m .txns)) (m .txns) w (live-without t (w .txn .0) d (m .txns)) e ∙ none w i e j
 
-  pub own-freed : isOperation (f .op) ≡ true → isTick (f .op) ≡ false → serves f ≡ true → OutOfReach m (ownPart m f .model)
-  unfolding write stored commitFrame commit abortFrame abort
+  pub own-freed : isOperation (f .op) ≡ true → isTick (f .op) ≡ false → serves f ≡ true
+      → OutOfReach m (ownPart m f .model)
+  unfolding writeFrame write stored heardOf commitFrame commit abortFrame abort
   own-freed o k v =
       own-cases (λ (d : Carried). OutOfReach m (d .model)) m f o
       (λ t. record { order = stored-order m f in-order; unreached = none })
@@ -81,6 +84,7 @@ module _ (m : Model) (f : Frame) (s : Sound m) (a : Admitted f m) where
             outside (f .txn) w (r .0) (eqb-false (w .txn .0) (f .txn) (not-true _ (r .1)));
       })
       (λ t. absurd (true≢false (sym v ∙ renew-serves f t)))
+      (λ t. absurd (true≢false (sym v ∙ notify-serves f t)))
       (λ t. absurd (true≢false (sym t ∙ k)))
 
 -- the clock advances, and what ends is removed

@@ -8,6 +8,7 @@ pub mod HoldLaws
 pub mod HolderLaws
 pub mod OrderLaws
 pub mod OwnPartLaws
+pub mod TallyLaws
 -- a step as events, what becomes of the tables, and what each event keeps
 pub mod Events
 pub mod Unavailable

@@ -21,6 +21,7 @@ use Rattle.rules.specs.Frame.{Frame, decode, isLookUp, isTick, serves}
 use Rattle.rules.specs.Write.{newEntry, stored}
 use Rattle.rules.specs.LookUp.{lookUpOf}
 use Rattle.rules.specs.Renew.{renewEntries, renew}
+use Rattle.rules.specs.Notify.{notify, heardOf}
 use Rattle.rules.specs.Transactions.{create}
 use Rattle.rules.specs.Closing.{isOver, closeWaits}
 use Rattle.rules.specs.Step.{step}
@@ -28,14 +29,15 @@ use Rattle.rules.specs.Lists.{All}
 use Rattle.rules.specs.Sound.{NoneFor, Ahead, Hopeful, Lasting, Sound, Consistent}
 use Rattle.rules.proofs.BoolLaws.{bool-cases}
 use Rattle.rules.proofs.ListLaws.{none-mem, all-false}
-use Rattle.rules.proofs.LayoutLaws.{write-names}
-use Rattle.rules.proofs.LayoutLaws.{write-not-abort, write-serves, commit-serves, abort-serves, tick-serves}
+use Rattle.rules.proofs.LayoutLaws.{write-names, write-not-abort, write-serves, commit-serves, abort-serves}
+use Rattle.rules.proofs.LayoutLaws.{tick-serves}
 use Rattle.rules.proofs.TimeLaws.{until-later}
 use Rattle.sound.proofs.AllLaws.{all-none, all-snoc, all-filter, out-all}
 use Rattle.sound.proofs.HoldLaws.{eqb-cases, not-so, available-free}
 use Rattle.sound.proofs.Unavailable.{handOut-unavailable}
 use Rattle.sound.proofs.Events.{Heard, Event, refuses, asks, writes, is-found, is-nothing, is-waiting, creates}
-use Rattle.sound.proofs.Events.{commits, aborts, renews, ticks, excepts, expires, Events, over, then}
+use Rattle.sound.proofs.Events.{commits, aborts, renews, notifies, ticks, excepts, expires, rings, Events, over}
+use Rattle.sound.proofs.Events.{then}
 use Rattle.sound.proofs.Becomes.{newTxn, renewed-all, kept-all, clock-moves}
 use Rattle.sound.proofs.EventsProof.{not-over, in-hope, Carries, StepIs, is-carried, is-refused, step-is}
 use Rattle.sound.proofs.Consistent.{ok-below, not-inside}
@@ -75,9 +77,10 @@ renewed-none f m w n =
     (renewed-all (λ e. available (m .txns) w e ≡ false) f m (λ e i _. none e i) (λ _ e i _. none e i))
 
 -- where service does not follow
-none-event : {f : Frame} {m n : Model} {hs : List Heard} → serves f ≡ false → Event f m hs n → Consistent m → NoneElse f m
+none-event : {f : Frame} {m n : Model} {hs : List Heard} → serves f ≡ false → Event f m hs n → Consistent m
+    → NoneElse f m
     → NoneElse f n
-unfolding stored newEntry lookUpOf create renew
+unfolding stored heardOf newEntry lookUpOf create renew notify
 none-event z (refuses m bs area q) s h = h
 none-event z (asks m t a) s h = all-snoc (m .waits) h (inl (t, refl))
 none-event {f} z (writes m t a) s h =
@@ -107,9 +110,11 @@ none-event {f} z (creates m t a) s h =
 none-event {f} z (commits m t a) s h = absurd (true≢false (sym (commit-serves f t) ∙ z))
 none-event {f} z (aborts m t a) s h = absurd (true≢false (sym (abort-serves f t) ∙ z))
 none-event {f} z (renews m t a) s h = λ w i. ⊎-elim inl (λ n. inr (renewed-none f m w n)) (h w i)
+none-event z (notifies m t a) s h = h
 none-event {f} z (ticks m t a) s h = absurd (true≢false (sym (tick-serves f t) ∙ z))
 none-event {f} z (excepts m t k i r) s h = absurd (true≢false (sym (tick-serves f k) ∙ z))
 none-event {f} z (expires m k) s h = absurd (true≢false (sym (tick-serves f k) ∙ z))
+none-event z (rings m c g i l) s h = h
 
 steady-event : {f : Frame} {m n : Model} {hs : List Heard} → Event f m hs n → Consistent m → Steady f m → Steady f n
 unfolding newEntry lookUpOf
@@ -158,7 +163,8 @@ module _ {f : Frame} {m n : Model} {rs : List Record} (k : Sound m) (c : Carries
         consistent = consistent-events (c .events) (k .consistent);
         lasting =
             ⊎-elim (r .lasting) (λ x. x) (steady-events (c .events) (k .consistent) begins .lasting);
-        ahead = subst⁻¹ Ahead q (waits-on (λ w. reached (mid .clock) (w .deadline) ≡ false) (λ w i e. not-over mid w e));
+        ahead = subst⁻¹ Ahead q (waits-on (λ w. reached (mid .clock) (w .deadline) ≡ false)
+            (λ w i e. not-over mid w e));
         none-for = subst⁻¹ NoneFor q
             (waits-on (λ w. someAvailable (mid .txns) w (mid .entries) ≡ false) (λ w i e. none-mid w i));
         hopeful = subst⁻¹ Hopeful q
@@ -167,7 +173,7 @@ module _ {f : Frame} {m n : Model} {rs : List Record} (k : Sound m) (c : Carries
       }
 
 pub sound-step : (m : Model) (bs : List ℕ) (area : ℕ) → Sound m → Sound (step m bs area .model)
-sound-step m bs area k = go (step-is m bs area (k .consistent .ordered .txns))
+sound-step m bs area k = go (step-is m bs area k)
   where
     go : {rs : List Record} {n : Model} → StepIs (decode bs) m rs n → Sound n
     go (is-refused e q) = subst⁻¹ Sound q k

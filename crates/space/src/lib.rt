@@ -11,7 +11,7 @@ use words::rows::Words;
 use words::rows::set_empty;
 
 // SPACE_VERSION of host/space.h. It goes up by one with each change that a host can see.
-pub const VERSION: u32 = 7;
+pub const VERSION: u32 = 8;
 
 #[no_mangle]
 pub extern "C" fn space_version() -> u32
@@ -20,7 +20,7 @@ pub extern "C" fn space_version() -> u32
     VERSION
 }
 
-// An empty space: clock 0, nothing stored, live or waiting, and 1 as both next numbers.
+// An empty space: clock 0, nothing stored, live or waiting, and 1 as each next number.
 #[no_mangle]
 pub extern "C" fn space_empty(space: &mut Words)
     ensures { λ _. ⌜ (view (now (space .exit)) ≡ empty) × (now (space .exit) ≡ emptyWords) ⌝ }

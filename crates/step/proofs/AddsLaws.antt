@@ -8,7 +8,7 @@ use lib.Seq.{take-append-add, drop-append-add, length-take-le}
 use Rattle.rules.specs.declared.Record.{Record}
 use Rattle.rules.specs.Numbers.{recordSize}
 use Rattle.rules.specs.Records.{recordBytes, answerBytes, areaAfter}
-use Rattle.rules.specs.Done.{Done, quiet}
+use Rattle.rules.specs.Done.{Done, quiet, endingWith}
 use Rattle.rules.specs.Words.{view}
 use Rattle.rules.proofs.AreaLaws.{area-length, area-then}
 use Rattle.step.specs.Does.{Adds, Does}
@@ -66,6 +66,11 @@ pub does-then : {d e : Done} {ws₁ ws₂ a a₁ a₂ : List ℕ} {c c₁ c₂ :
     → Does d ws₁ a a₁ c c₁ → Does e ws₂ a₁ a₂ c₁ c₂
     → Does (record { model = e .model; records = d .records ++ e .records }) ws₂ a a₂ c c₂
 does-then room p q = record { model = q .model; adds = adds-then room (p .adds) (q .adds) }
+
+-- one part, and records behind all of its own
+pub does-ending : {d : Done} {rs : List Record} {ws′ a a₁ a₂ : List ℕ} {c c₁ c₂ : ℕ} → recordSize * c ≤ length a
+    → Does d ws′ a a₁ c c₁ → Adds rs a₁ a₂ c₁ c₂ → Does (endingWith rs d) ws′ a a₂ c c₂
+does-ending room p q = record { model = p .model; adds = adds-then room (p .adds) q }
 
 -- the same, said of an equal part
 pub does-as : {d d′ : Done} {ws′ a a′ : List ℕ} {c n : ℕ} → d ≡ d′ → Does d ws′ a a′ c n → Does d′ ws′ a a′ c n

@@ -5,7 +5,7 @@ use mathlib.Core.Logic.{⊎-elim}
 use mathlib.Core.Path.{_≡_, refl, sym, ap, ap₂, _∙_, subst, subst⁻¹, subst₂}
 use mathlib.Core.List.{List, _++_, List·Memᴰ, [], _∷_, Memᴰ·append-left, append-nil}
 use native.Mathlib.Omega.{arith}
-use lib.ListN.{length, length-map, take, drop, take-append-drop}
+use lib.ListN.{length, length-map, length-append, take, drop, take-append-drop}
 use borrow.Author.Tests.{eqb-true}
 use lib.Dec.{eqb}
 use Rattle.rules.specs.declared.LookUp.{LookUp}
@@ -19,11 +19,11 @@ use Rattle.rules.specs.Step.{finish, ownPart}
 use Rattle.rules.specs.Closing.{isOver, closeWaits, endsConflicts}
 use Rattle.rules.specs.Sound.{Ahead, NoneFor, Sound}
 use Rattle.rules.specs.Service.{service}
-use Rattle.rules.specs.Tick.{lapsed, tick, endedTxns, abortAll, dropEnded}
+use Rattle.rules.specs.Tick.{lapsed, tick, endedTxns, abortAll, dropEnded, unregistered}
 use Rattle.rules.specs.Words.{view}
 use Rattle.rules.proofs.BoolLaws.{bool-cases, cond-cases}
 use Rattle.rules.proofs.Capacity.{lapsed-fits}
-use Rattle.rules.proofs.ListLaws.{filter-pass, count-mem}
+use Rattle.rules.proofs.ListLaws.{filter-pass, length-filter, count-mem}
 use Rattle.rules.proofs.SoundLaws.{service-ahead, none-existing, own-ahead}
 use Rattle.rules.proofs.ViewLaws.{view-bounded}
 use Rattle.step.specs.Ending.{Ending, Quiet, Nothings, Service, Both, Tick, inTick, served, closing, EndsAs}
@@ -136,11 +136,36 @@ whole-same f e m k a h =
     same false true false a h = ap (behind (service m)) (sym (h refl))
     same false false false a h = ap (behind (quiet m)) (sym (h refl))
 
+-- a record for each who waits at most, and registrations stay, where no tick ends anything
+few-closed : (m : Model) → length (closedInVain m .records) ≤ length (m .waits)
+unfolding closeWaits
+few-closed m =
+    cond-cases (λ (d : Done). length (d .records) ≤ length (m .waits)) (someIfExists m)
+    (λ _. omega (arith, length-map (filterb (isOver m) (m .waits)) nothing, length-filter (isOver m) (m .waits)))
+    (λ _. omega arith)
+
+pub both-few : (k : ℕ) (m : Model) → length (finishedBy Both k m .records) ≤ length (m .waits)
+both-few k m =
+    let served = serviceFrom k m in
+    let closed = closedInVain (served .model) in
+    omega (
+      arith,
+      from-counts k m,
+      few-closed (served .model),
+      length-append (served .records) (closed .records),
+    )
+
+pub both-registrations : (k : ℕ) (m : Model) → finishedBy Both k m .model .registrations ≡ m .registrations
+unfolding serviceFrom closeWaits
+both-registrations k m =
+    cond-cases (λ (d : Done). d .model .registrations ≡ m .registrations) (someIfExists (serviceFrom k m .model))
+    (λ _. refl) (λ _. refl)
+
 -- in what a step looks at again nothing that stayed is available
 mem-take : {A : Type 0} {x : A} (k : ℕ) (xs : List A) → List·Memᴰ x (take k xs) → List·Memᴰ x xs
 mem-take k xs i = subst (List·Memᴰ _) (take-append-drop k xs) (Memᴰ·append-left (drop k xs) i)
 
-none-of : {A : Type 0} (xs : List A) → length xs ≡ 0 → xs ≡ []
+pub none-of : {A : Type 0} (xs : List A) → length xs ≡ 0 → xs ≡ []
 none-of [] e = refl
 none-of (x ∷ xs) e = absurd (omega arith)
 
@@ -156,7 +181,7 @@ module _ (f : Frame) (m : Model) (s : Sound m) (a : Admitted f m) (o : isOperati
 
   -- in a tick that ends no transaction nobody is served
   idle : isTick (f .op) ≡ true → length (lapsed own .records) ≡ 0 → NoneFor (lapsed own .model)
-  unfolding lapsed abortAll tick
+  unfolding lapsed abortAll dropEnded tick unregistered
   idle t e =
       let ticks = ap (λ (c : Carried). c .model) (part-at m f (eqb-true (f .op) opTick t)) in
       let none = none-of (endedTxns own) (sym (length-map (endedTxns own) exception) ∙ e) in
@@ -164,7 +189,7 @@ module _ (f : Frame) (m : Model) (s : Sound m) (a : Admitted f m) (o : isOperati
       (subst⁻¹ (λ n. NoneFor (dropEnded n)) ticks (none-expired m _ s))
 
   ticking : isTick (f .op) ≡ true → InOrder own
-  unfolding tick
+  unfolding tick unregistered
   ticking t =
       let ticks = ap (λ (c : Carried). c .model) (part-at m f (eqb-true (f .op) opTick t)) in
       subst⁻¹ InOrder ticks (s .consistent .ordered .entries, s .consistent .below)

@@ -7,13 +7,14 @@ use native.Mathlib.Omega.{arith}
 use lib.ListN.{length}
 use Rattle.rules.specs.declared.EntryId.{EntryId}
 use Rattle.rules.specs.declared.FindRequest.{FindRequest}
+use Rattle.rules.specs.declared.NotifyRequest.{NotifyRequest}
 use Rattle.rules.specs.declared.WriteRequest.{WriteRequest}
 use Rattle.rules.specs.declared.Request.{Request}
-use Rattle.rules.specs.declared.Request.the-variants.{Write, Find, Create, Renew}
+use Rattle.rules.specs.declared.Request.the-variants.{Write, Find, Create, Renew, Notify}
 use Rattle.rules.specs.declared.Decoded.the-variants.{Asks}
 use Rattle.rules.specs.Time.{until}
 use Rattle.rules.specs.State.{Model}
-use Rattle.rules.specs.Frame.{Frame, decode, isWrite, isLookUp, isCreate, isRenew}
+use Rattle.rules.specs.Frame.{Frame, decode, isWrite, isLookUp, isCreate, isRenew, isNotify}
 use Rattle.rules.specs.Requests.{frameOf, Decodes}
 use Rattle.rules.specs.Words.{view}
 use Rattle.rules.specs.Allowed.{Stepped}
@@ -49,6 +50,7 @@ module _ {m n : Model} {hs hs′ : List ℕ} where
         entry = λ _ z. sooner-still _ (b .0 .falls) (subst (λ c. NotBefore (least hs₁) (until c (w .lease))) q
             (a .1 z));
         txn = λ t. absurd (true≢false (sym t));
+        registration = λ t. absurd (true≢false (sym t));
         wait = λ t. absurd (true≢false (sym t));
       }
 
@@ -63,11 +65,15 @@ module _ {m n : Model} {hs hs′ : List ℕ} where
         acts = record { writes = λ _. in-txn; looks = λ _. in-txn };
         entry = λ t. absurd (true≢false (sym t ∙ no-entry));
         txn = λ t. absurd (true≢false (sym t ∙ no-create));
+        registration = λ t. absurd (true≢false (sym t ∙ no-notify));
         wait = λ _. b .1;
       }
     where
       no-entry : endsEntry (frameOf (Find l) .op) ≡ false
       no-entry = kind-cases (λ op. endsEntry op ≡ false) (l .takes) (l .«if_exists») refl refl refl refl
+
+      no-notify : isNotify (frameOf (Find l) .op) ≡ false
+      no-notify = kind-cases (λ op. isNotify op ≡ false) (l .takes) (l .«if_exists») refl refl refl refl
 
       no-create : isCreate (frameOf (Find l) .op) ≡ false
       no-create = kind-cases (λ op. isCreate op ≡ false) (l .takes) (l .«if_exists») refl refl refl refl
@@ -81,6 +87,7 @@ module _ {m n : Model} {hs hs′ : List ℕ} where
         acts = record { writes = λ t. absurd (true≢false (sym t)); looks = λ t. absurd (true≢false (sym t)) };
         entry = λ _ z. subst (λ c. NotBefore (least hs′) (until c lease)) q (a .1 z);
         txn = λ t. absurd (true≢false (sym t));
+        registration = λ t. absurd (true≢false (sym t));
         wait = λ t. absurd (true≢false (sym t));
       }
 
@@ -92,13 +99,26 @@ module _ {m n : Model} {hs hs′ : List ℕ} where
         acts = record { writes = λ t. absurd (true≢false (sym t)); looks = λ t. absurd (true≢false (sym t)) };
         entry = λ t. absurd (true≢false (sym t));
         txn = λ _. subst (λ c. NotBefore (least hs′) (until c lease)) q (a .1);
+        registration = λ t. absurd (true≢false (sym t));
+        wait = λ t. absurd (true≢false (sym t));
+      }
+
+  pub follows-notify : (r : NotifyRequest) {clock : ℕ} → clock ≡ m .clock
+      → Weaker hs hs′ × NotBefore (least hs′) (until clock (r .lease)) → Follows (frameOf (Notify r)) m n hs hs′
+  follows-notify r q a =
+      record {
+        weaker = a .0;
+        acts = record { writes = λ t. absurd (true≢false (sym t)); looks = λ t. absurd (true≢false (sym t)) };
+        entry = λ t. absurd (true≢false (sym t));
+        txn = λ t. absurd (true≢false (sym t));
+        registration = λ _. subst (λ c. NotBefore (least hs′) (until c (r .lease))) q (a .1);
         wait = λ t. absurd (true≢false (sym t));
       }
 
 -- nothing is new
 pub follows-same : (f : Frame) {m n : Model} {hs : List ℕ} → endsEntry (f .op) ≡ false → isLookUp (f .op) ≡ false
-    → isCreate (f .op) ≡ false → Follows f m n hs hs
-follows-same f w l c =
+    → isCreate (f .op) ≡ false → isNotify (f .op) ≡ false → Follows f m n hs hs
+follows-same f w l c g =
     record {
       weaker = weaker-same;
       acts = record {
@@ -107,5 +127,6 @@ follows-same f w l c =
       };
       entry = λ t. absurd (true≢false (sym t ∙ w));
       txn = λ t. absurd (true≢false (sym t ∙ c));
+      registration = λ t. absurd (true≢false (sym t ∙ g));
       wait = λ t. absurd (true≢false (sym t ∙ l));
     }

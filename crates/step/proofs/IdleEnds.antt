@@ -3,14 +3,15 @@ use Prim.Native.Nat.{ℕ, _<_}
 use mathlib.Core.Bool.{Bool, true, false, not, cond, _&&_, true≢false}
 use mathlib.Core.Option.{some}
 use mathlib.Core.Path.{_≡_, refl, sym, ap, ap₂, _∙_}
-use mathlib.Core.List.{List, _++_, map, List·Memᴰ}
+use mathlib.Core.List.{List, [], _++_, map, List·Memᴰ}
 use borrow.Author.Tests.{ne-eqb}
 use lib.Dec.{eqb}
 use Rattle.rules.specs.declared.Entry.{Entry}
 use Rattle.rules.specs.declared.LookUp.{LookUp}
+use Rattle.rules.specs.declared.Registration.{Registration}
 use Rattle.rules.specs.declared.Txn.{Txn}
-use Rattle.rules.specs.Lists.{All}
-use Rattle.rules.specs.State.{Model, withEntries, withWaits, withClock}
+use Rattle.rules.specs.Lists.{All, filterb}
+use Rattle.rules.specs.State.{Model, withEntries, withWaits, withClock, withRegistrations}
 use Rattle.rules.specs.Template.{matches}
 use Rattle.rules.specs.Holds.{liveTxn, dropReader, dropReaderOf, readByOther, available, conflicts, othersIf}
 use Rattle.rules.specs.Frame.{Frame, isTick, serves}
@@ -18,7 +19,7 @@ use Rattle.rules.specs.Done.{Done, quiet}
 use Rattle.rules.specs.Records.{exception}
 use Rattle.rules.specs.Step.{finish}
 use Rattle.rules.specs.Service.{service}
-use Rattle.rules.specs.Tick.{lapsed, endedTxns, abortAll, dropEnded}
+use Rattle.rules.specs.Tick.{lapsed, endedTxns, abortAll, dropEnded, unregistered}
 use Rattle.rules.specs.Closing.{closeWaits}
 use Rattle.rules.specs.Time.{reached}
 use Rattle.rules.specs.Transactions.{privateTo, takenBy, released, commit, abort}
@@ -70,6 +71,14 @@ module _ (m : Model) (n clock : ℕ) (e : EndsFrom n m) (l : clock < n) where
       ∙ ap (λ es. quiet (withEntries es now)) (filter-pass (λ (x : Entry). not (reached clock (x .end))) (m .entries)
       (λ x i. ap not (e .entries x i clock l)))
 
+  -- no registration ends
+  pub none-end : unregistered now ≡ now
+  unfolding unregistered
+  none-end =
+      ap (λ gs. withRegistrations gs now)
+      (filter-pass (λ (g : Registration). not (reached clock (g .end))) (m .registrations)
+      (λ g i. ap not (e .registrations g i clock l)))
+
   pub tick-idle : (f : Frame) → Sound m → finish f now ≡ quiet now
   tick-idle f s =
       quiet-finish f now (λ _. none-lapse) (s .none-for) (all-hopeful now (λ w i. e .waits w i clock l) (s .hopeful))
@@ -103,6 +112,14 @@ module _ (m : Model) (s : Sound m) (x : Txn) (i : List·Memᴰ x (m .txns)) (idl
       (filter-pass (λ e. not (takenBy (x .id .0) e)) (m .entries)
       (λ e j. ap not (ne-eqb _ _ (idle .apart e j .untaken))))
       ∙ map-same (released (m .txns) (x .id .0)) (m .entries) untouched)
+
+  -- it makes nothing public
+  pub public-idle : filterb (λ e. privateTo (x .id .0) e && not (takenBy (x .id .0) e)) (m .entries) ≡ []
+  public-idle =
+      let own : Entry → Bool = λ e. privateTo (x .id .0) e && not (takenBy (x .id .0) e) in
+      any-filter own (m .entries)
+      (all-false own (m .entries)
+      (λ e j. ap (λ b. b && not (takenBy (x .id .0) e)) (ne-eqb _ _ (idle .apart e j .unwritten))))
 
   pub abort-idle : abort (x .id .0) m ≡ after
   unfolding abort

@@ -4,11 +4,13 @@ use mathlib.Core.Bool.{Bool, true, false, not, _&&_, _||_, or-false}
 use mathlib.Core.Path.{_≡_, refl, sym, ap, _∙_}
 use borrow.Author.Tests.{eq-eqb, ne-eqb}
 use lib.Dec.{eqb}
+use Rattle.step.specs.Ending as Ending
 use Rattle.rules.specs.declared.FindRequest.{FindRequest}
 use Rattle.rules.specs.declared.EntryId.{EntryId}
 use Rattle.rules.specs.declared.TxnId.{TxnId}
+use Rattle.rules.specs.declared.NotifyRequest.{NotifyRequest}
 use Rattle.rules.specs.declared.WriteRequest.{WriteRequest}
-use Rattle.rules.specs.declared.Request.the-variants.{Write, Find, Create, Commit, Abort, Renew, Tick}
+use Rattle.rules.specs.declared.Request.the-variants.{Write, Find, Create, Commit, Abort, Renew, Notify, Tick}
 use Rattle.rules.specs.Numbers.{opRead, opTake, opReadIfExists, opTakeIfExists}
 use Rattle.rules.specs.State.{Model}
 use Rattle.rules.specs.Frame.{Frame, layoutOf, serves, isLookUp, isTick, isTake, endsTxn, isIfExists, lookUpOp}
@@ -16,7 +18,6 @@ use Rattle.rules.specs.LookUp.{lookUp}
 use Rattle.rules.specs.Requests.{frame, frameOf}
 use Rattle.rules.specs.Step.{ownPart}
 use Rattle.rules.proofs.LayoutLaws.{lookUp-serves}
-use Rattle.step.specs.Ending as Ending
 use Rattle.step.specs.Ending.{Ending, Quiet, Service, Both, inTick, served, closing, EndsAs}
 
 pub kind-cases : (P : ℕ → Type 0) (takes ifExists : Bool) → P opRead → P opTake → P opReadIfExists → P opTakeIfExists
@@ -89,6 +90,10 @@ abort-ends party id = record { tick = refl; service = refl; closes = refl }
 pub renew-quiet : (party : ℕ) (id : EntryId) (lease : ℕ) → EndsAs (frameOf (Renew party id lease)) Quiet
 unfolding serves layoutOf
 renew-quiet party id lease = record { tick = refl; service = refl; closes = refl }
+
+pub notify-quiet : (r : NotifyRequest) → EndsAs (frameOf (Notify r)) Quiet
+unfolding serves layoutOf
+notify-quiet r = record { tick = refl; service = refl; closes = refl }
 
 pub tick-ends : EndsAs (frameOf Tick) Ending.Tick
 unfolding serves layoutOf

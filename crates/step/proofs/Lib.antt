@@ -12,6 +12,8 @@ pub mod IdleEnds
 pub mod TurnLaws
 pub mod AbortingLaws
 pub mod FinishLaws
+pub mod BellLaws
 pub mod SteppedLaws
 pub mod IdleStepped
+pub mod BellStepped
 pub mod FollowLaws

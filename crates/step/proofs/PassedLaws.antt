@@ -7,12 +7,13 @@ use borrow.Author.Tests.{ltb-false, leb-false, ne-eqb}
 use lib.Dec.{eqb, leb, ltb}
 use lib.ListN.{length}
 use Rattle.rules.specs.declared.FindRequest.{FindRequest}
+use Rattle.rules.specs.declared.NotifyRequest.{NotifyRequest}
 use Rattle.rules.specs.declared.WriteRequest.{WriteRequest}
-use Rattle.rules.specs.declared.Request.the-variants.{Write, Find, Create, Tick}
-use Rattle.rules.specs.Numbers.{forever, lastClock, maxEntries, maxTxns}
+use Rattle.rules.specs.declared.Request.the-variants.{Write, Find, Create, Notify, Tick}
+use Rattle.rules.specs.Numbers.{forever, lastClock, maxEntries, maxTxns, maxRegistrations}
 use Rattle.rules.specs.State.{Model}
 use Rattle.rules.specs.Frame.{Frame, layoutOf}
-use Rattle.rules.specs.Refusals.{tooLate, entriesFull, txnsFull, noNumber, admissionRows, roomRows}
+use Rattle.rules.specs.Refusals.{tooLate, entriesFull, txnsFull, registrationsFull, noNumber, admissionRows, roomRows}
 use Rattle.rules.specs.Requests.{frame, frameOf, spaceRefusal}
 use Rattle.rules.proofs.BoolLaws.{and-false-right, or-left}
 use Rattle.rules.proofs.RefusalLaws.{testAt, none-applies}
@@ -20,7 +21,7 @@ use Rattle.words.specs.Ends.{InTime}
 use Rattle.step.specs.Judge.{late}
 use Rattle.step.proofs.KindLaws.{kind-cases}
 
--- none of the rows applies: 10 to 13 stand at the places 7 to 10
+-- none of the rows applies: 10 to 12, 17 and 13 stand at the places 7 to 11
 passed : (m : Model) (f : Frame) → spaceRefusal m f ≡ 0 → (k : ℕ) → testAt (admissionRows m f ++ roomRows m f) k ≡ false
 unfolding spaceRefusal
 passed m f e k = none-applies (admissionRows m f ++ roomRows m f) refl e k
@@ -46,7 +47,9 @@ module _ (m : Model) (w : WriteRequest) (e : spaceRefusal m (frameOf (Write w)) 
   pub write-number : m .nextEntry < forever
   unfolding noNumber
   write-number =
-      leb-false forever (m .nextEntry) (or-left (leb forever (m .nextEntry)) false (passed m (frameOf (Write w)) e 10))
+      leb-false forever (m .nextEntry)
+      (or-left (leb forever (m .nextEntry)) false
+      (or-left (leb forever (m .nextEntry) || false) false (passed m (frameOf (Write w)) e 11)))
 
 module _ (m : Model) (party lease : ℕ) (e : spaceRefusal m (frameOf (Create party lease)) ≡ 0) where
   pub create-in-time : InTime (m .clock) lease
@@ -59,7 +62,22 @@ module _ (m : Model) (party lease : ℕ) (e : spaceRefusal m (frameOf (Create pa
 
   pub create-number : m .nextTxn < forever
   unfolding noNumber
-  create-number = leb-false forever (m .nextTxn) (passed m (frameOf (Create party lease)) e 10)
+  create-number =
+      leb-false forever (m .nextTxn)
+      (or-left (leb forever (m .nextTxn)) false (passed m (frameOf (Create party lease)) e 11))
+
+module _ (m : Model) (q : NotifyRequest) (e : spaceRefusal m (frameOf (Notify q)) ≡ 0) where
+  pub notify-in-time : InTime (m .clock) (q .lease)
+  unfolding tooLate layoutOf
+  notify-in-time = in-time (m .clock) (q .lease) (passed m (frameOf (Notify q)) e 7)
+
+  pub notify-room : length (m .registrations) < maxRegistrations
+  unfolding registrationsFull
+  notify-room = leb-false maxRegistrations (length (m .registrations)) (passed m (frameOf (Notify q)) e 10)
+
+  pub notify-number : m .nextRegistration < forever
+  unfolding noNumber
+  notify-number = leb-false forever (m .nextRegistration) (passed m (frameOf (Notify q)) e 11)
 
 pub find-in-time : (m : Model) (l : FindRequest) → spaceRefusal m (frameOf (Find l)) ≡ 0
     → InTime (m .clock) (l .timeout)

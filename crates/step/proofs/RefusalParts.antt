@@ -4,11 +4,11 @@ use mathlib.Core.Bool.{Bool, true, false, not, cond, _&&_, _||_, or-false}
 use mathlib.Core.Option.{none, some}
 use mathlib.Core.Path.{_≡_, refl, sym, ap, _∙_}
 use mathlib.Core.List.{List, [], _∷_}
-use Rattle.rules.specs.Lists.{firstRow}
 use native.Mathlib.Omega.{arith}
 use native.Mathlib.Decide.{decLt}
 use borrow.Author.Tests.{ne-eqb, eqb-true, eqb-false, lt-ltb, le-ltb}
 use lib.Dec.{eqb, ltb}
+use Rattle.rules.specs.Lists.{firstRow}
 use Rattle.rules.specs.declared.Txn.{Txn}
 use Rattle.rules.specs.declared.LookUp.{LookUp}
 use Rattle.rules.specs.declared.FindRequest.{FindRequest}
@@ -17,9 +17,9 @@ use Rattle.rules.specs.Numbers.{waitingRefused, notLiveRefused, notOwnRefused, 
 use Rattle.rules.specs.State.{Model}
 use Rattle.rules.specs.Frame.{Frame, layoutOf, isAbort, namesEntry}
 use Rattle.rules.specs.Holds.{liveTxn}
-use Rattle.rules.specs.Refusals.{admissionRows, roomRows, inTxn, withdraws, partyWaits, notLive, notOwn}
-use Rattle.rules.specs.Refusals.{noEntry, notWriter, notFree}
-use Rattle.rules.specs.Refusals.{noLease, tooLate, entriesFull, txnsFull, noNumber}
+use Rattle.rules.specs.Refusals.{admissionRows, roomRows, inTxn, withdraws, partyWaits, notLive, notOwn, noEntry}
+use Rattle.rules.specs.Refusals.{notWriter, notFree, noLease, tooLate, entriesFull, txnsFull, registrationsFull}
+use Rattle.rules.specs.Refusals.{noNumber}
 use Rattle.rules.specs.Requests.{frame, frameOf, spaceRefusal}
 use Rattle.rules.proofs.ListLaws.{some-any, none-any, any-same, all-false}
 use Rattle.rules.proofs.RefusalLaws.{first-append}
@@ -95,7 +95,7 @@ find-leaves l = kind-cases (λ op. 0 ≡ cond (isAbort op) (l .txn .0) 0) (l .ta
 -- ---- 9 to 13, of a look-up: its timeout alone is judged
 pub find-room : (m : Model) (l : FindRequest) → roomRefusal m (frameOf (Find l))
     ≡ cond (late (m .clock) (l .timeout)) clockRefused 0
-unfolding noLease tooLate entriesFull txnsFull noNumber layoutOf
+unfolding noLease tooLate entriesFull txnsFull registrationsFull noNumber layoutOf
 find-room m l =
     let e = ap (λ b. cond b clockRefused 0) (or-false (late (m .clock) (l .timeout))) in
     kind-cases

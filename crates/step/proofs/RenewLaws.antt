@@ -16,7 +16,7 @@ use Rattle.rules.specs.State.{Model}
 use Rattle.rules.specs.Frame.{layoutOf}
 use Rattle.rules.specs.Renew.{hasNumber, storedEntry, renew}
 use Rattle.rules.specs.Refusals.{noEntry, notWriter, notFree, partyWaits, notLive, notOwn, noLease, tooLate}
-use Rattle.rules.specs.Refusals.{entriesFull, txnsFull, noNumber, isFree}
+use Rattle.rules.specs.Refusals.{entriesFull, txnsFull, registrationsFull, noNumber, isFree}
 use Rattle.rules.specs.Requests.{frameOf, spaceRefusal}
 use Rattle.rules.specs.Sound.{Sound}
 use Rattle.rules.proofs.BoolLaws.{and-false-right}
@@ -37,7 +37,7 @@ module _ (m : Model) (party : ℕ) (id : EntryId) (lease : ℕ) where
       → spaceRefusal m (frameOf (Renew party id lease))
       ≡ cond (partyWaiting party 0 (m .waits)) waitingRefused (byEntry o)
   unfolding spaceRefusal noEntry notWriter notFree partyWaits notLive notOwn noLease tooLate entriesFull txnsFull
-      noNumber layoutOf entryRefusal
+      registrationsFull noNumber layoutOf entryRefusal
   judged-so none e = rw e
   judged-so (some x) e = rw (e, or-false (late (m .clock) lease))
 

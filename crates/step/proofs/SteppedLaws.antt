@@ -3,7 +3,7 @@ use Prim.Native.Nat.{ℕ, _+_, _*_, _≤_, _<_}
 use mathlib.Core.Bool.{Bool, true, false, cond}
 use mathlib.Core.Option.{none, some}
 use mathlib.Core.Path.{_≡_, refl, sym, ap, ap₂, _∙_, subst, subst⁻¹}
-use mathlib.Core.List.{List, [], _∷_, _++_}
+use mathlib.Core.List.{List, [], _∷_, _++_, append-nil}
 use native.Mathlib.Omega.{arith}
 use borrow.Author.Tests.{ne-eqb, eqb-false, lt-ltb, le-ltb}
 use lib.Dec.{eqb, ltb}
@@ -11,10 +11,11 @@ use lib.ListN.{length}
 use Rattle.rules.specs.declared.Record.{Record}
 use Rattle.rules.specs.declared.Request.{Request}
 use Rattle.rules.specs.declared.Decoded.the-variants.{Asks, Refused}
-use Rattle.rules.specs.Numbers.{stepArea, areaRefused}
+use Rattle.rules.specs.Numbers.{stepArea, recordSize, areaRefused}
 use Rattle.rules.specs.State.{Model, Bounded}
 use Rattle.rules.specs.Frame.{Frame, decode, isOperation}
-use Rattle.rules.specs.Done.{Done}
+use Rattle.rules.specs.Done.{Done, endingWith}
+use Rattle.rules.specs.Notify.{madePublic, ringing}
 use Rattle.rules.specs.Records.{refused, answerBytes, areaAfter}
 use Rattle.rules.specs.Refusals.{wrongParty, formRows, admissionRows, roomRows, refusal}
 use Rattle.rules.specs.Requests.{frameOf, formRefusal, spaceRefusal, Decodes}
@@ -33,7 +34,7 @@ use Rattle.holds.specs.Sweep.{SameBefore}
 use Rattle.step.specs.Does.{Carries, Adds, Does}
 use Rattle.step.specs.Judge.{ReadyFor}
 use Rattle.step.specs.Ending.{Ending, EndsAs, finishedBy}
-use Rattle.step.proofs.AddsLaws.{adds-then}
+use Rattle.step.proofs.AddsLaws.{adds-then, does-ending}
 use Rattle.step.proofs.FinishLaws.{finish-same}
 
 -- ---- which refusal applies
@@ -98,16 +99,39 @@ ready-for {bs} {q} m d e s l =
     }
 
 -- and it ends as the rules say
-ends-same : {bs : List ℕ} {q : Request} (m : Model) (area : ℕ) → refusal m bs area ≡ 0 → Decodes bs (Asks q) → Sound m
+pub ends-same : {bs : List ℕ} {q : Request} (m : Model) (area : ℕ) → refusal m bs area ≡ 0 → Decodes bs (Asks q)
+    → Sound m
     → (k : ℕ) (x : Ending) → EndsAs (frameOf q) x → let own = ownPart m (frameOf q) .model in
     SameBefore k m own → Bounded own → finishedBy x k own ≡ finish (frameOf q) own
 ends-same {bs} {q} m area e d s k x y same b =
     let c = clear m bs area e in
     let f = asked-frame d in
-    finish-same (frameOf q) m s (subst⁻¹ (λ g. Admitted g m) f (admitted m bs area c))
+    finish-same (frameOf q) m s (subst⁻¹ (λ g. Admitted g m) f (admitted m bs area c (s .lasting)))
     (ap (λ (g : Frame). isOperation (g .op)) f ∙ is-one bs (c .operation)) k x y same b
 
+module _ (ws bs area : List ℕ) (h : stepArea ≤ length area) {q : Request} (d : Decodes bs (Asks q))
+    (e : spaceRefusal (view ws) (frameOf q) ≡ 0) (s : Sound (view ws)) (ws₁ : List ℕ) where
+  abbrev own : Model
+  own = ownPart (view ws) (frameOf q) .model
+
+  finished-same : (k : ℕ) (x : Ending) → EndsAs (frameOf q) x → SameBefore k (view ws) (view ws₁) → view ws₁ ≡ own
+      → finishedBy x k (view ws₁) ≡ finish (frameOf q) own
+  finished-same k x y same o =
+      ap (finishedBy x k) o
+      ∙ ends-same (view ws) (length area) (asked (view ws) bs (length area) h d ∙ e) d s k x y
+      (subst (SameBefore k (view ws)) o same) (subst Bounded o (view-bounded ws₁))
+
 -- ---- what is allowed
+-- the bells of a frame, and that it has none
+abbrev pub bells : Model → Frame → List Record
+bells m f = ringing (madePublic m f) (m .registrations)
+
+abbrev pub Silent : Model → Frame → Type 0
+Silent m f = bells m f ≡ []
+
+ends-none : (d : Done) → endingWith [] d ≡ d
+ends-none d = ap (λ rs. record { model = d .model; records = rs }) (append-nil (d .records))
+
 -- a step's outcome, where the number n is given
 abbrev outcome : List ℕ → List ℕ → ℕ → Outcome
 outcome ws bs n = cond (eqb n 0) (accepted (carriedOut (view ws) (decode bs))) (refusedWith (view ws) bs n)
@@ -171,13 +195,15 @@ module _ {ws bs area ws′ area′ : List ℕ} {returned : ℕ} where
           → (returned ≡ 1 + 65536 * n) × Adds (refused bs n ∷ []) area area′ 0 1 → Stepped ws bs area ws′ returned area′
       stepped-judged e z s a = stepped-refused (asked (view ws) bs (length area) h d′ ∙ sym e) z s a
 
-      -- carried out: the frame's own record, and then what it ends with, which is the rules' finish on a sound space
-      pub stepped-sound : {ws₁ a₁ : List ℕ} {own : Record} {n : ℕ} (d : Done) → spaceRefusal (view ws) (frameOf q) ≡ 0
-          → (Sound (view ws) → Carries (ownPart (view ws) (frameOf q)) ws₁ own) → Adds (own ∷ []) area a₁ 0 n
-          → (Sound (view ws) → d ≡ finish (frameOf q) (ownPart (view ws) (frameOf q) .model))
+      -- carried out: the frame's own record, then what it ends with, which is the rules' finish on a sound space, and
+      -- the bells
+      pub stepped-sound : {a₁ : List ℕ} {own : Record} {n : ℕ} (d : Done) → spaceRefusal (view ws) (frameOf q) ≡ 0
+          → (Sound (view ws) → own ≡ ownPart (view ws) (frameOf q) .own) → Adds (own ∷ []) area a₁ 0 n
+          → (Sound (view ws) → d ≡ endingWith (bells (view ws) (frameOf q))
+          (finish (frameOf q) (ownPart (view ws) (frameOf q) .model)))
           → Does d ws′ a₁ area′ n returned → Stepped ws bs area ws′ returned area′
       unfolding carriedOut accepted
-      stepped-sound {own = own} d e c a ends f =
+      stepped-sound {own = own} d e o a ends f =
           let all = adds-then (omega arith) a (f .adds) in
           let zero = asked (view ws) bs (length area) h d′ ∙ e in
           let same = by ws bs area zero ∙ ap (λ g. accepted (carriedOut (view ws) g)) (sym (asked-frame d′)) in
@@ -190,7 +216,7 @@ module _ {ws bs area ws′ area′ : List ℕ} {returned : ℕ} where
                       ∙ ap (λ (b : Done). b .model) (ends (s refl))
                       ∙ sym (ap (λ (x : Outcome). x .model) same);
                   records = λ s.
-                      ap₂ (λ r (b : Done). r ∷ b .records) (c (s refl) .own) (ends (s refl))
+                      ap₂ (λ r (b : Done). r ∷ b .records) (o (s refl)) (ends (s refl))
                       ∙ sym (ap (λ (x : Outcome). x .records) same);
                   count = omega (arith, all .counts);
                   number = sym (ap (λ (x : Outcome). x .number) same);
@@ -201,16 +227,31 @@ module _ {ws bs area ws′ area′ : List ℕ} {returned : ℕ} where
             leaves = refl;
           }
 
-      -- where the code goes by the frame's kind, and service from a row on
-      pub stepped-done : {ws₁ a₁ : List ℕ} {own : Record} {n : ℕ} (k : ℕ) → spaceRefusal (view ws) (frameOf q) ≡ 0
-          → (Sound (view ws) → Carries (ownPart (view ws) (frameOf q)) ws₁ own)
-          × SameBefore k (view ws) (view ws₁)
-          → Adds (own ∷ []) area a₁ 0 n → (x : Ending) → EndsAs (frameOf q) x
-          → Does (finishedBy x k (view ws₁)) ws′ a₁ area′ n returned
+      -- where nobody hears of anything
+      pub stepped-silent : {a₁ : List ℕ} {own : Record} {n : ℕ} (d : Done) → spaceRefusal (view ws) (frameOf q) ≡ 0
+          → (Sound (view ws) → own ≡ ownPart (view ws) (frameOf q) .own) → Adds (own ∷ []) area a₁ 0 n
+          → (Sound (view ws) → d ≡ finish (frameOf q) (ownPart (view ws) (frameOf q) .model))
+          → (Sound (view ws) → Silent (view ws) (frameOf q)) → Does d ws′ a₁ area′ n returned
           → Stepped ws bs area ws′ returned area′
-      stepped-done {ws₁} k e c a x y f =
-          stepped-sound (finishedBy x k (view ws₁)) e (c .0) a
-          (λ s. let o = c .0 s .model in
-          ap (finishedBy x k) o
-          ∙ ends-same (view ws) (length area) (asked (view ws) bs (length area) h d′ ∙ e) d′ s k x y
-          (subst (SameBefore k (view ws)) o (c .1)) (subst Bounded o (view-bounded ws₁))) f
+      stepped-silent d e o a ends silent f =
+          stepped-sound d e o a
+          (λ s. let last = finish (frameOf q) (ownPart (view ws) (frameOf q) .model) in
+          ends s ∙ sym (ap (λ rs. endingWith rs last) (silent s) ∙ ends-none last)) f
+
+      -- where the code goes by the frame's kind, and service from a row on; with the bells behind
+      module _ {ws₁ a₁ : List ℕ} {own : Record} {n : ℕ} (k : ℕ) (e : spaceRefusal (view ws) (frameOf q) ≡ 0)
+          (c : (Sound (view ws) → Carries (ownPart (view ws) (frameOf q)) ws₁ own) × SameBefore k (view ws) (view ws₁))
+          (a : Adds (own ∷ []) area a₁ 0 n) (x : Ending) (y : EndsAs (frameOf q) x) where
+        pub stepped-done : (Sound (view ws) → Silent (view ws) (frameOf q))
+            → Does (finishedBy x k (view ws₁)) ws′ a₁ area′ n returned → Stepped ws bs area ws′ returned area′
+        stepped-done silent f =
+            stepped-silent (finishedBy x k (view ws₁)) e (λ s. c .0 s .own) a
+            (λ s. finished-same ws bs area h d′ e s ws₁ k x y (c .1) (c .0 s .model)) silent f
+
+        pub stepped-rung : {a₂ : List ℕ} {j : ℕ} {rs : List Record} → recordSize * n ≤ length a₁
+            → Does (finishedBy x k (view ws₁)) ws′ a₁ a₂ n j → Adds rs a₂ area′ j returned
+            → (Sound (view ws) → rs ≡ bells (view ws) (frameOf q)) → Stepped ws bs area ws′ returned area′
+        stepped-rung {rs = rs} room f b rung =
+            stepped-sound (endingWith rs (finishedBy x k (view ws₁))) e (λ s. c .0 s .own) a
+            (λ s. ap₂ endingWith (rung s) (finished-same ws bs area h d′ e s ws₁ k x y (c .1) (c .0 s .model)))
+            (does-ending room f b)

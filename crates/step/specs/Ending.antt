@@ -1,5 +1,5 @@
 -- How a frame ends, kind by kind.
-use Prim.Native.Nat.{ℕ}
+use Prim.Native.Nat.{ℕ, _+_}
 use mathlib.Core.Bool.{Bool, true, false, cond}
 use mathlib.Core.Path.{_≡_}
 use mathlib.Core.List.{_++_}
@@ -8,7 +8,7 @@ use lib.ListN.{length}
 use Rattle.rules.specs.declared.LookUp.{LookUp}
 use Rattle.rules.specs.Lists.{anyb}
 use Rattle.rules.specs.Numbers.{maxEntries}
-use Rattle.rules.specs.State.{Model, withTxns}
+use Rattle.rules.specs.State.{Model, withTxns, withClock}
 use Rattle.rules.specs.Done.{Done, quiet}
 use Rattle.rules.specs.Frame.{Frame, isTick, serves}
 use Rattle.rules.specs.Tick.{lapsed}
@@ -85,6 +85,10 @@ finishedBy e k m =
     let served = serviceFrom (firstFree e k (length (ended .records))) (ended .model) in
     let closed = closedBy e (served .model) in
     record { model = closed .model; records = ended .records ++ served .records ++ closed .records }
+
+-- the clock advances, and that is all
+abbrev pub advanced : Model → Model
+advanced m = withClock (m .clock + 1) m
 
 -- a transaction that has done nothing is live no longer, and that is all
 abbrev pub ended : ℕ → Model → Model

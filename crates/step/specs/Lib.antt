@@ -3,3 +3,4 @@ pub mod Does
 pub mod Judge
 pub mod From
 pub mod Ending
+pub mod Bells

@@ -1,6 +1,6 @@
-// Why a request is refused: the refusals 6 to 13, and of a renewal 18 to 20, in the order in which they are judged.
+// Why a request is refused: the refusals 6 to 13, of a renewal 18 to 20 and of a notify 17, in the order in which they are judged.
 ghost use mathlib.Core.Path.{_≡_};
-ghost use Rattle.rules.specs.declared.Request.the-variants.{Write, Find, Create, Commit, Abort, Tick};
+ghost use Rattle.rules.specs.declared.Request.the-variants.{Write, Find, Create, Commit, Abort, Notify, Tick};
 ghost use Rattle.rules.specs.Requests.{frameOf, spaceRefusal};
 ghost use Rattle.rules.specs.Words.{view};
 ghost use Rattle.hints.specs.Hints.{Reliable};
@@ -14,6 +14,7 @@ use holds::renew::is_free;
 use rules::Entry;
 use rules::FindRequest;
 use rules::LookUp;
+use rules::NotifyRequest;
 use rules::TxnId;
 use rules::WriteRequest;
 use rules::numbers::CLOCK_REFUSED;
@@ -23,18 +24,22 @@ use rules::numbers::HELD_REFUSED;
 use rules::numbers::LAST_CLOCK;
 use rules::numbers::LEASE_REFUSED;
 use rules::numbers::MAX_ENTRIES;
+use rules::numbers::MAX_REGISTRATIONS;
 use rules::numbers::MAX_TXNS;
 use rules::numbers::NOT_LIVE_REFUSED;
 use rules::numbers::NOT_OWN_REFUSED;
 use rules::numbers::NOT_WRITER_REFUSED;
 use rules::numbers::NUMBER_REFUSED;
+use rules::numbers::REGISTRATIONS_REFUSED;
 use rules::numbers::TXNS_REFUSED;
 use rules::numbers::WAITING_REFUSED;
 use words::rows::Words;
 use words::rows::clock;
 use words::rows::entry_count;
 use words::rows::next_entry;
+use words::rows::next_registration;
 use words::rows::next_txn;
+use words::rows::registration_count;
 use words::rows::txn_count;
 use words::rows::wait_at;
 use words::rows::wait_count;
@@ -161,7 +166,27 @@ pub(crate) fn create_room(space: &Words, party: u8, lease: u32) -> u8
     }
 }
 
-// For each kind of request the first of the refusals 6 to 13 that applies, or 0.
+// 9, 10, 17 or 13, for a notify; 0: none of them applies.
+pub(crate) fn notify_room(space: &Words, q: NotifyRequest) -> u8
+    ensures { λ r. ⌜ r ≡ roomRefusal (view (now (space .entry))) (frameOf (Notify q)) ⌝ }
+{
+    if q.lease == 0 {
+        return LEASE_REFUSED;
+    }
+    if too_late(space, q.lease) {
+        return CLOCK_REFUSED;
+    }
+    if MAX_REGISTRATIONS <= registration_count(space) {
+        return REGISTRATIONS_REFUSED;
+    }
+    if FOREVER <= next_registration(space) {
+        NUMBER_REFUSED
+    } else {
+        0
+    }
+}
+
+// For each kind of request the first of the refusals 6 to 13 and 17 that applies, or 0.
 pub(crate) fn write_refusal(space: &Words, hints: &Hints, w: WriteRequest) -> u8
     requires { ⌜ Reliable (now hints) (view (now space)) ⌝ }
     ensures { λ r. ⌜ r ≡ spaceRefusal (view (now (space .entry))) (frameOf (Write w)) ⌝ }
@@ -228,6 +253,17 @@ pub(crate) fn entry_refusal(space: &Words, party: u8, e: Entry, lease: u32) -> u
     } else {
         0
     }
+}
+
+pub(crate) fn notify_refusal(space: &Words, hints: &Hints, q: NotifyRequest) -> u8
+    requires { ⌜ Reliable (now hints) (view (now space)) ⌝ }
+    ensures { λ r. ⌜ r ≡ spaceRefusal (view (now (space .entry))) (frameOf (Notify q)) ⌝ }
+{
+    let n = party_refusal(space, hints, false, q.party, TxnId(0), TxnId(0));
+    if n != 0 {
+        return n;
+    }
+    notify_room(space, q)
 }
 
 pub(crate) fn tick_refusal(space: &Words, hints: &Hints) -> u8

@@ -7,13 +7,15 @@ ghost use Rattle.rules.specs.Numbers.{stepArea};
 ghost use Rattle.rules.specs.Requests.{Decodes};
 ghost use Rattle.rules.specs.Words.{view};
 ghost use Rattle.rules.specs.declared.Decoded.the-variants.{Asks};
-ghost use Rattle.rules.specs.declared.Request.the-variants.{Write, Find, Create, Commit, Abort, Renew, Tick};
+ghost use Rattle.rules.specs.declared.Request.the-variants.{Write, Find, Create, Commit, Abort};
+ghost use Rattle.rules.specs.declared.Request.the-variants.{Renew, Notify, Tick};
 ghost use Rattle.hints.specs.Hints.{Reliable};
 ghost use Rattle.step.specs.Does.{StaysReliable};
 use crate::step::take_abort;
 use crate::step::take_commit;
 use crate::step::take_create;
 use crate::step::take_find;
+use crate::step::take_notify;
 use crate::step::take_renew;
 use crate::step::take_tick;
 use crate::step::take_write;
@@ -25,6 +27,7 @@ use hints::known::note_stored;
 use hints::renew::renew_reached;
 use rules::EntryId;
 use rules::FindRequest;
+use rules::NotifyRequest;
 use rules::Request;
 use rules::TxnId;
 use rules::WriteRequest;
@@ -145,6 +148,23 @@ pub(crate) fn renew_frame(
     take_renew(space, hints, frame, answers, party, id, lease)
 }
 
+pub(crate) fn notify_frame(
+    space: &mut Words,
+    hints: &mut Hints,
+    frame: &[u8],
+    answers: &mut [u8],
+    q: NotifyRequest,
+) -> u64
+    requires { ⌜ Decodes (now frame) (Asks (Notify q)) × (stepArea ≤ length (now answers))
+        × Reliable (now hints) (view (now space)) ⌝ }
+    ensures { λ r. ⌜ Stepped (now (space .entry)) (now (frame .entry)) (now (answers .entry))
+        (now (space .exit)) r (now (answers .exit))
+        × StaysReliable (now (space .entry)) (now (space .exit)) (now (hints .exit)) ⌝ }
+{
+    note_lease(hints, clock(space), q.lease);
+    take_notify(space, hints, frame, answers, q)
+}
+
 pub(crate) fn tick_frame(
     space: &mut Words,
     hints: &mut Hints,
@@ -185,6 +205,7 @@ pub(crate) fn take_up(
         Request::Renew(party, id, lease) => {
             renew_frame(space, hints, frame, answers, party, id, lease)
         }
+        Request::Notify(n) => notify_frame(space, hints, frame, answers, n),
         Request::Tick => tick_frame(space, hints, frame, answers),
     }
 }

@@ -1,5 +1,6 @@
 // Frames in, records out: what each frame does to one lent array of words.
 mod answers;
+mod bells;
 mod closing;
 mod finish;
 mod judge;

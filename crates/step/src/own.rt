@@ -3,20 +3,23 @@
 ghost use mathlib.Core.Path.{_≡_};
 ghost use Prim.Native.Nat.{_<_};
 ghost use Rattle.rules.specs.Numbers.{lastClock};
-ghost use Rattle.rules.specs.Records.{committed, aborted};
+ghost use Rattle.rules.specs.Notify.{notify as notifyFrame};
+ghost use Rattle.rules.specs.Records.{committed, aborted, ticked};
 ghost use Rattle.rules.specs.Requests.{frameOf, spaceRefusal};
-ghost use Rattle.rules.specs.Step.{commitFrame, abortFrame};
-ghost use Rattle.rules.specs.Tick.{tick};
-ghost use Rattle.rules.specs.Transactions.{create as createFrame};
+ghost use Rattle.rules.specs.Step.{abortFrame};
+ghost use Rattle.rules.specs.Transactions.{commit as commitTxn, create as createFrame};
 ghost use Rattle.rules.specs.Words.{view};
 ghost use Rattle.holds.specs.Sweep.{SameBefore};
 ghost use Rattle.step.specs.Does.{Carries};
-ghost use Rattle.step.specs.Ending.{ended};
+ghost use Rattle.step.specs.Ending.{ended, advanced};
+use codec::records::notified_record;
 use codec::records::plain_record;
 use holds::endings::abort_txn;
 use holds::endings::commit_txn;
 use holds::live::remove_txn;
+use holds::registry::register;
 use holds::txns::create_txn;
+use rules::NotifyRequest;
 use rules::Record;
 use rules::Request;
 use rules::TxnId;
@@ -43,9 +46,10 @@ pub(crate) fn create(space: &mut Words, party: u8, lease: u32) -> Record
     plain_record(KIND_CREATED, party, id)
 }
 
+// What registrations hear of it is told where the frame is finished.
 pub(crate) fn commit(space: &mut Words, party: u8, id: TxnId) -> Own
-    ensures { λ r. ⌜ Carries (commitFrame (view (now (space .entry))) (frameOf (Request.Commit party id)))
-        (now (space .exit)) (r .answer)
+    ensures { λ r. ⌜ (view (now (space .exit)) ≡ commitTxn (id .0) (view (now (space .entry))))
+        × (r .answer ≡ committed (frameOf (Request.Commit party id)))
         × SameBefore (r .from) (view (now (space .entry))) (view (now (space .exit))) ⌝ }
 {
     let from = commit_txn(space, id);
@@ -80,10 +84,20 @@ pub(crate) fn abort_idle(space: &mut Words, party: u8, id: TxnId) -> Record
     plain_record(KIND_ABORTED, party, id)
 }
 
+// A registration is made.
+pub(crate) fn notify(space: &mut Words, q: NotifyRequest) -> Record
+    requires { ⌜ spaceRefusal (view (now space)) (frameOf (Request.Notify q)) ≡ 0 ⌝ }
+    ensures { λ r. ⌜ Carries (notifyFrame (view (now (space .entry))) (frameOf (Request.Notify q)))
+        (now (space .exit)) r ⌝ }
+{
+    let id = register(space, q);
+    notified_record(q, id)
+}
+
 // The clock advances; what ends with that, ends where the frame is finished.
-pub(crate) fn tick(space: &mut Words) -> Record
+pub(crate) fn advance(space: &mut Words) -> Record
     requires { ⌜ view (now space) .clock < lastClock ⌝ }
-    ensures { λ r. ⌜ Carries (tick (view (now (space .entry)))) (now (space .exit)) r ⌝ }
+    ensures { λ r. ⌜ (view (now (space .exit)) ≡ advanced (view (now (space .entry)))) × (r ≡ ticked) ⌝ }
 {
     let t = clock(space);
     set_clock(space, t + 1);

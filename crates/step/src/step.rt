@@ -10,10 +10,14 @@ ghost use Rattle.rules.specs.Records.{refused};
 ghost use Rattle.rules.specs.Requests.{Decodes};
 ghost use Rattle.rules.specs.Words.{view};
 ghost use Rattle.rules.specs.declared.Decoded.the-variants.{Asks};
-ghost use Rattle.rules.specs.declared.Request.the-variants.{Write, Find, Create, Commit, Abort, Renew, Tick};
+ghost use Rattle.rules.specs.declared.Request.the-variants.{Write, Find, Create, Commit, Abort};
+ghost use Rattle.rules.specs.declared.Request.the-variants.{Renew, Notify, Tick};
 ghost use Rattle.hints.specs.Hints.{Reliable};
 ghost use Rattle.step.specs.Does.{Adds};
 use crate::answers::add_record;
+use crate::bells::may_ring;
+use crate::bells::put_bells;
+use crate::bells::serve_and_ring;
 use crate::closing::close_in_vain;
 use crate::finish::finish_tick;
 use crate::finish::serve;
@@ -23,29 +27,38 @@ use crate::judge::commit_refusal;
 use crate::judge::create_refusal;
 use crate::judge::entry_refusal;
 use crate::judge::find_refusal;
+use crate::judge::notify_refusal;
 use crate::judge::tick_refusal;
 use crate::judge::waits_already;
 use crate::judge::write_refusal;
 use crate::look_up::find;
 use crate::own::abort;
 use crate::own::abort_idle;
+use crate::own::advance;
 use crate::own::commit;
 use crate::own::commit_idle;
 use crate::own::create;
-use crate::own::tick;
+use crate::own::notify;
 use crate::write::write;
+use codec::records::mark_of;
 use codec::records::refused_record;
 use codec::records::renewed_record;
 use hints::known::Hints;
 use hints::known::is_idle;
 use hints::known::least_end;
 use holds::find::Match;
+use holds::registry::Public;
+use holds::registry::count_public;
+use holds::registry::drop_registrations;
+use holds::registry::hear;
 use holds::renew::find_entry;
 use holds::renew::renew_entry;
 use rules::EntryId;
 use rules::FindRequest;
+use rules::NotifyRequest;
 use rules::TxnId;
 use rules::WriteRequest;
+use rules::numbers::MAX_REGISTRATIONS;
 use rules::numbers::NO_ENTRY_REFUSED;
 use rules::numbers::WAITING_REFUSED;
 use words::rows::Words;
@@ -65,7 +78,7 @@ pub(crate) fn refuse(answers: &mut [u8], frame: &[u8], n: u8) -> u64
     1 + NUMBER * n as u64
 }
 
-// Service follows a write outside transactions.
+// Service follows a write outside transactions, and then the bells of those who hear of it.
 pub(crate) fn take_write(
     space: &mut Words,
     hints: &Hints,
@@ -85,10 +98,14 @@ pub(crate) fn take_write(
     let own = write(space, w);
     let answer = own.answer;
     let count = add_record(answers, 0, answer);
-    if w.txn.0 == 0 {
-        return serve(space, answers, count, own.from) as u64;
+    if w.txn.0 != 0 {
+        return count as u64;
     }
-    count as u64
+    if may_ring(space, w.lease) {
+        let fields = mark_of(w.blanks, w.fields);
+        return serve_and_ring(space, answers, count, own.from, fields) as u64;
+    }
+    serve(space, answers, count, own.from) as u64
 }
 
 // A take inside a transaction may be of the transaction's own private entry, for which others wait.
@@ -137,6 +154,7 @@ pub(crate) fn take_create(
     add_record(answers, 0, answer) as u64
 }
 
+// What a commit makes public is counted before it is released; the bells come after all other records.
 pub(crate) fn take_commit(
     space: &mut Words,
     hints: &Hints,
@@ -158,10 +176,14 @@ pub(crate) fn take_commit(
         let answer = commit_idle(space, party, id);
         return add_record(answers, 0, answer) as u64;
     }
+    let mut counts = [0u32; MAX_REGISTRATIONS];
+    count_public(space, Public::Committed(id), &mut counts);
     let own = commit(space, party, id);
+    hear(space, &counts);
     let answer = own.answer;
     let count = add_record(answers, 0, answer);
-    serve_and_close(space, answers, count, own.from) as u64
+    let closed = serve_and_close(space, answers, count, own.from);
+    put_bells(space, answers, closed, &counts) as u64
 }
 
 pub(crate) fn take_abort(
@@ -221,6 +243,26 @@ pub(crate) fn take_renew(
     add_record(answers, 0, answer) as u64
 }
 
+pub(crate) fn take_notify(
+    space: &mut Words,
+    hints: &Hints,
+    frame: &[u8],
+    answers: &mut [u8],
+    q: NotifyRequest,
+) -> u64
+    requires { ⌜ Decodes (now frame) (Asks (Notify q)) × (stepArea ≤ length (now answers))
+        × Reliable (now hints) (view (now space)) ⌝ }
+    ensures { λ r. ⌜ Stepped (now (space .entry)) (now (frame .entry)) (now (answers .entry))
+        (now (space .exit)) r (now (answers .exit)) ⌝ }
+{
+    let n = notify_refusal(space, hints, q);
+    if n != 0 {
+        return refuse(answers, frame, n);
+    }
+    let answer = notify(space, q);
+    add_record(answers, 0, answer) as u64
+}
+
 pub(crate) fn take_tick(space: &mut Words, hints: &Hints, frame: &[u8], answers: &mut [u8]) -> u64
     requires { ⌜ Decodes (now frame) (Asks Tick) × (stepArea ≤ length (now answers))
         × Reliable (now hints) (view (now space)) ⌝ }
@@ -231,10 +273,11 @@ pub(crate) fn take_tick(space: &mut Words, hints: &Hints, frame: &[u8], answers:
     if n != 0 {
         return refuse(answers, frame, n);
     }
-    let answer = tick(space);
+    let answer = advance(space);
     let count = add_record(answers, 0, answer);
     if clock(space) < least_end(hints) {
         return count as u64;
     }
+    drop_registrations(space);
     finish_tick(space, answers, count) as u64
 }

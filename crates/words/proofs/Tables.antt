@@ -1,4 +1,4 @@
--- The three tables of a space: how a row is read and what it can hold, and the model once one of them is written.
+-- The four tables of a space: how a row is read and what it can hold, and the model once one of them is written.
 use Prim.Native.Nat.{ℕ, zero, suc, _+_, _*_, _<_}
 use mathlib.Core.Bool.{Bool, true, false, cond}
 use mathlib.Core.Path.{_≡_, refl, sym, ap, _∙_}
@@ -12,18 +12,21 @@ use lib.Seq.{getD-set-same}
 use Rattle.rules.specs.Template.{bare}
 use Rattle.rules.specs.declared.Entry.{Entry}
 use Rattle.rules.specs.declared.LookUp.{LookUp}
+use Rattle.rules.specs.declared.Registration.{Registration}
 use Rattle.rules.specs.declared.Txn.{Txn}
 use Rattle.rules.specs.declared.TxnId.{TxnId}
 use Rattle.rules.specs.Frame.{isTake, isIfExists, lookUpOp}
-use Rattle.rules.specs.Numbers.{forever, maxEntries, maxTxns, maxWaits}
+use Rattle.rules.specs.Numbers.{forever, maxEntries, maxTxns, maxWaits, maxRegistrations}
 use Rattle.rules.specs.State.{Model, holding, withEntries, withTxns, withWaits, withClock, withNextEntry, withNextTxn}
-use Rattle.rules.specs.Words.{untilOf, untilWord, entryWords, txnWords, waitWords, entryOf, txnOf, waitOf, entries, row}
-use Rattle.rules.specs.Words.{txns, waits, view, clockAt, nextEntryAt, nextTxnAt, entryCountAt, txnCountAt, waitCountAt}
-use Rattle.rules.specs.Words.{entryCount, txnCount, waitCount, entriesAt, entryWidth, txnsAt, txnWidth, waitsAt}
-use Rattle.rules.specs.Words.{waitWidth, spaceWords}
+use Rattle.rules.specs.State.{withRegistrations, withNextRegistration}
+use Rattle.rules.specs.Words.{registrationWords, registrationOf, registrations, nextRegistrationAt, registrationCountAt}
+use Rattle.rules.specs.Words.{registrationCount, registrationsAt, registrationWidth, untilOf, untilWord, entryWords}
+use Rattle.rules.specs.Words.{txnWords, waitWords, entryOf, txnOf, waitOf, entries, row, txns, waits, view, clockAt}
+use Rattle.rules.specs.Words.{nextEntryAt, nextTxnAt, entryCountAt, txnCountAt, waitCountAt, entryCount, txnCount}
+use Rattle.rules.specs.Words.{waitCount, entriesAt, entryWidth, txnsAt, txnWidth, waitsAt, waitWidth, spaceWords}
 use Rattle.rules.proofs.NumberLaws.{three-bytes}
 use Rattle.rules.proofs.BoolLaws.{cond-cases}
-use Rattle.words.specs.Rows.{entryRow, txnRow, waitRow, fieldAt, FitsWord, byteValues}
+use Rattle.words.specs.Rows.{entryRow, txnRow, waitRow, registrationRow, fieldAt, FitsWord, byteValues}
 use Rattle.words.proofs.RowLaws.{But, but-set, clear, word-kept, row-word}
 use Rattle.words.proofs.SearchLaws.{Rows}
 use Rattle.words.proofs.UpToLaws.{getD-upTo}
@@ -37,6 +40,10 @@ txnTable = tableOf txnsAt txnWidth maxTxns txnCountAt txnOf (lit< tt)
 
 abbrev pub waitTable : Table LookUp
 waitTable = tableOf waitsAt waitWidth maxWaits waitCountAt waitOf (lit< tt)
+
+abbrev pub registrationTable : Table Registration
+registrationTable =
+    tableOf registrationsAt registrationWidth maxRegistrations registrationCountAt registrationOf (lit< tt)
 
 -- ---- the model is the numbers and the tables: once words differ, each that has none of them is as it was
 module _ {c lo hi : ℕ} {ws ws₀ : List ℕ} (b : But c lo hi ws ws₀) where
@@ -52,21 +59,27 @@ module _ {c lo hi : ℕ} {ws ws₀ : List ℕ} (b : But c lo hi ws ws₀) where
         clock = cond (clear c lo hi clockAt) (view ws₀ .clock) (getD ws clockAt 0);
         nextEntry = cond (clear c lo hi nextEntryAt) (view ws₀ .nextEntry) (getD ws nextEntryAt 0);
         nextTxn = cond (clear c lo hi nextTxnAt) (view ws₀ .nextTxn) (getD ws nextTxnAt 0);
+        nextRegistration = cond (clear c lo hi nextRegistrationAt) (view ws₀ .nextRegistration)
+            (getD ws nextRegistrationAt 0);
         entries = cond (apart entryTable c lo hi) (view ws₀ .entries) (all entryTable ws);
         txns = cond (apart txnTable c lo hi) (view ws₀ .txns) (all txnTable ws);
         waits = cond (apart waitTable c lo hi) (view ws₀ .waits) (all waitTable ws);
+        registrations =
+            cond (apart registrationTable c lo hi) (view ws₀ .registrations) (all registrationTable ws);
       }
 
   view-but : view ws ≡ seen
-  unfolding view entries txns waits
+  unfolding view entries txns waits registrations
   view-but =
       λ i. record {
         clock = number clockAt i;
         nextEntry = number nextEntryAt i;
         nextTxn = number nextTxnAt i;
+        nextRegistration = number nextRegistrationAt i;
         entries = rows entryTable i;
         txns = rows txnTable i;
         waits = rows waitTable i;
+        registrations = rows registrationTable i;
       }
 
 -- so only what is written is told anew
@@ -79,6 +92,10 @@ module _ (ws ws₀ : List ℕ) where
 
   pub view-waits : {xs : List LookUp} → Turned waitTable ws ws₀ xs → view ws ≡ withWaits xs (view ws₀)
   view-waits h = view-but (h .but) ∙ ap (λ xs. withWaits xs (view ws₀)) (h .now)
+
+  pub view-registrations : {xs : List Registration} → Turned registrationTable ws ws₀ xs
+      → view ws ≡ withRegistrations xs (view ws₀)
+  view-registrations h = view-but (h .but) ∙ ap (λ xs. withRegistrations xs (view ws₀)) (h .now)
 
 module _ (ws : List ℕ) (v : ℕ) (l : length ws ≡ spaceWords) where
   new : (k : ℕ) → k < entriesAt → getD (set ws k v) k 0 ≡ v
@@ -93,6 +110,11 @@ module _ (ws : List ℕ) (v : ℕ) (l : length ws ≡ spaceWords) where
 
   pub view-next-txn : view (set ws nextTxnAt v) ≡ withNextTxn v (view ws)
   view-next-txn = view-but (but-set nextTxnAt 0 0 ws v) ∙ ap (λ n. withNextTxn n (view ws)) (new nextTxnAt (lit< tt))
+
+  pub view-next-registration : view (set ws nextRegistrationAt v) ≡ withNextRegistration v (view ws)
+  view-next-registration =
+      view-but (but-set nextRegistrationAt 0 0 ws v)
+      ∙ ap (λ n. withNextRegistration n (view ws)) (new nextRegistrationAt (lit< tt))
 
 -- ---- the tables as the code reads them
 pub entries-read : (ws : List ℕ) → Rows (view ws .entries) (entryRow ws) (entryCount ws)
@@ -110,6 +132,19 @@ txns-read ws = record { is = refl }
 pub waits-read : (ws : List ℕ) → Rows (view ws .waits) (waitRow ws) (waitCount ws)
 unfolding view waits
 waits-read ws = record { is = refl }
+
+pub registrations-read : (ws : List ℕ) → Rows (view ws .registrations) (registrationRow ws) (registrationCount ws)
+unfolding view registrations
+registrations-read ws = record { is = refl }
+
+pub registration-in : (ws : List ℕ) (i : ℕ) (d : Registration) → i < registrationCount ws
+    → getD (view ws .registrations) i d ≡ registrationRow ws i
+unfolding view registrations
+registration-in ws i d h = getD-upTo (registrationRow ws) (registrationCount ws) i d h
+
+pub length-registrations : (ws : List ℕ) → length (view ws .registrations) ≡ registrationCount ws
+unfolding view registrations
+length-registrations ws = length-all registrationTable ws
 
 pub length-entries : (ws : List ℕ) → length (view ws .entries) ≡ entryCount ws
 unfolding view entries
@@ -192,3 +227,12 @@ unfolding waitOf
 wait-back w s =
     let o = op-back (w .takes) (w .«if_exists») in
     rw (s .deadline-fits, mod-eq-of-lt (s .party-fits), mod-eq-of-lt (s .mask-fits), o .0, o .1)
+
+pub record Registrable (g : Registration) : Type 0 where
+  pub party-fits : g .party < byteValues
+  pub mask-fits : g .mask < byteValues
+  pub end-fits : FitsWord (g .end)
+
+pub registration-back : (g : Registration) → Registrable g → registrationOf (registrationWords g) ≡ g
+unfolding registrationOf
+registration-back g s = rw (s .end-fits, mod-eq-of-lt (s .party-fits), mod-eq-of-lt (s .mask-fits))

@@ -1,3 +1,3 @@
--- The words of a space are three tables: rows read, put, moved and appended.
+-- The words of a space are four tables: rows read, put, moved and appended.
 pub mod Rows
 pub mod Ends

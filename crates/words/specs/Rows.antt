@@ -7,10 +7,12 @@ use lib.Seq.{sets}
 use Rattle.rules.specs.declared.Entry.{Entry}
 use Rattle.rules.specs.declared.Fields.{Fields}
 use Rattle.rules.specs.declared.LookUp.{LookUp}
+use Rattle.rules.specs.declared.Registration.{Registration}
 use Rattle.rules.specs.declared.Txn.{Txn}
 use Rattle.rules.specs.declared.Until.{Until}
-use Rattle.rules.specs.Words.{row, untilOf, untilWord, entryOf, txnOf, waitOf, entryWords}
-use Rattle.rules.specs.Words.{entriesAt, entryWidth, txnsAt, txnWidth, waitsAt, waitWidth, spaceWords}
+use Rattle.rules.specs.Words.{row, untilOf, untilWord, entryOf, txnOf, waitOf, registrationOf, entryWords}
+use Rattle.rules.specs.Words.{registrationWords, entriesAt, entryWidth, txnsAt, txnWidth, waitsAt, waitWidth}
+use Rattle.rules.specs.Words.{registrationsAt, registrationWidth, spaceWords}
 
 -- row k of each table, read
 abbrev pub entryRow : List ℕ → ℕ → Entry
@@ -22,6 +24,9 @@ txnRow ws k = txnOf (row txnsAt txnWidth ws k)
 abbrev pub waitRow : List ℕ → ℕ → LookUp
 waitRow ws k = waitOf (row waitsAt waitWidth ws k)
 
+abbrev pub registrationRow : List ℕ → ℕ → Registration
+registrationRow ws k = registrationOf (row registrationsAt registrationWidth ws k)
+
 -- the field at a column, counted from 0
 abbrev pub fieldAt : ℕ → Fields → ℕ
 fieldAt k f = getD (f .kind ∷ f .side ∷ f .image ∷ f .place ∷ []) k 0
@@ -29,6 +34,10 @@ fieldAt k f = getD (f .kind ∷ f .side ∷ f .image ∷ f .place ∷ []) k 0
 -- the words once an entry is put in row k
 abbrev pub putEntry : List ℕ → ℕ → Entry → List ℕ
 putEntry ws k e = sets ws (entriesAt + entryWidth * k) (entryWords e)
+
+-- and a registration
+abbrev pub putRegistration : List ℕ → ℕ → Registration → List ℕ
+putRegistration ws k g = sets ws (registrationsAt + registrationWidth * k) (registrationWords g)
 
 -- once the n words from the offset f on also stand from t on
 abbrev pub moveWords : List ℕ → ℕ → ℕ → ℕ → List ℕ
@@ -40,6 +49,11 @@ moveTxn ws from to = moveWords ws (txnsAt + txnWidth * from) (txnsAt + txnWidth 
 
 abbrev pub moveWait : List ℕ → ℕ → ℕ → List ℕ
 moveWait ws from to = moveWords ws (waitsAt + waitWidth * from) (waitsAt + waitWidth * to) waitWidth
+
+abbrev pub moveRegistration : List ℕ → ℕ → ℕ → List ℕ
+moveRegistration ws from to =
+    moveWords ws (registrationsAt + registrationWidth * from) (registrationsAt + registrationWidth * to)
+    registrationWidth
 
 -- a list without its element at i
 abbrev pub without : {A : Type 0} → ℕ → List A → List A
@@ -53,10 +67,10 @@ byteValues = 256
 abbrev pub FitsWord : Until → Type 0
 FitsWord u = untilOf (untilWord u) ≡ u
 
--- an empty space: 1 as both next numbers, and 0 elsewhere
+-- an empty space: 1 as each next number, and 0 elsewhere
 abbrev pub zeros : ℕ → List ℕ
 zeros zero = []
 zeros (suc n) = 0 ∷ zeros n
 
 unfoldable pub emptyWords : List ℕ
-emptyWords = 0 ∷ 1 ∷ 1 ∷ zeros (spaceWords - 3)
+emptyWords = 0 ∷ 1 ∷ 1 ∷ 0 ∷ 0 ∷ 0 ∷ 1 ∷ zeros (spaceWords - 7)

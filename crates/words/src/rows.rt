@@ -6,24 +6,28 @@ ghost use lib.ListN.{length, set};
 ghost use lib.Seq.{sets};
 ghost use mathlib.Core.List.{[], _∷_, _++_};
 ghost use Rattle.rules.specs.Frame.{isTake, isIfExists, lookUpOp};
-ghost use Rattle.rules.specs.Numbers.{maxEntries, maxTxns, maxWaits};
-ghost use Rattle.rules.specs.State.{empty, withEntries, withTxns, withWaits, withClock, withNextEntry, withNextTxn};
+ghost use Rattle.rules.specs.Numbers.{maxEntries, maxTxns, maxWaits, maxRegistrations};
+ghost use Rattle.rules.specs.State.{empty, withEntries, withTxns, withWaits, withRegistrations, withClock, withNextEntry};
+ghost use Rattle.rules.specs.State.{withNextTxn, withNextRegistration};
 ghost use Rattle.rules.specs.Template.{bare};
-ghost use Rattle.rules.specs.Words.{untilOf, untilWord, entryCount, txnCount, waitCount, view, spaceWords};
-ghost use Rattle.rules.specs.Words.{entryCountAt, txnCountAt, waitCountAt};
+ghost use Rattle.rules.specs.Words.{untilOf, untilWord, entryCount, txnCount, waitCount, registrationCount, view};
+ghost use Rattle.rules.specs.Words.{entryCountAt, txnCountAt, waitCountAt, registrationCountAt, spaceWords};
 ghost use Rattle.words.specs.Rows.{entryRow, txnRow, waitRow, fieldAt, putEntry, moveWords, moveTxn};
-ghost use Rattle.words.specs.Rows.{moveWait, without};
+ghost use Rattle.words.specs.Rows.{moveWait, registrationRow, putRegistration, moveRegistration, without};
 ghost use Rattle.words.specs.Rows.{FitsWord, emptyWords};
 use rules::Entry;
 use rules::EntryId;
 use rules::Fields;
 use rules::LookUp;
 use rules::Mark;
+use rules::Registration;
+use rules::RegistrationId;
 use rules::Txn;
 use rules::TxnId;
 use rules::Until;
 use rules::numbers::FOREVER;
 use rules::numbers::MAX_ENTRIES;
+use rules::numbers::MAX_REGISTRATIONS;
 use rules::numbers::MAX_TXNS;
 use rules::numbers::MAX_WAITS;
 use rules::numbers::OP_READ;
@@ -32,7 +36,7 @@ use rules::numbers::OP_TAKE;
 use rules::numbers::OP_TAKE_IF_EXISTS;
 
 // How many words a space has.
-pub const WORDS: usize = WAITS_AT + WAIT_WIDTH * MAX_WAITS;
+pub const WORDS: usize = REGISTRATIONS_AT + REGISTRATION_WIDTH * MAX_REGISTRATIONS;
 
 pub type Words = [u32; WORDS];
 
@@ -49,8 +53,12 @@ const TXN_COUNT_AT: usize = 4;
 
 const WAIT_COUNT_AT: usize = 5;
 
-// Where the three tables begin behind them, and the words of a row.
-const ENTRIES_AT: usize = 6;
+const NEXT_REGISTRATION_AT: usize = 6;
+
+const REGISTRATION_COUNT_AT: usize = 7;
+
+// Where the four tables begin behind them, and the words of a row.
+const ENTRIES_AT: usize = 8;
 
 const ENTRY_WIDTH: usize = 9;
 
@@ -64,6 +72,10 @@ const TXN_WIDTH: usize = 4;
 const WAITS_AT: usize = TXNS_AT + TXN_WIDTH * MAX_TXNS;
 
 const WAIT_WIDTH: usize = 9;
+
+const REGISTRATIONS_AT: usize = WAITS_AT + WAIT_WIDTH * MAX_WAITS;
+
+const REGISTRATION_WIDTH: usize = 9;
 
 // How many values a byte has: a word that stands for one is read by its remainder.
 const BYTE_VALUES: u32 = 256;
@@ -90,13 +102,14 @@ pub fn whole(space: &Words)
     all.len();
 }
 
-// An empty space: clock 0, nothing stored, live or waiting, and 1 as both next numbers.
+// An empty space: clock 0, nothing stored, live or waiting, and 1 as each next number.
 pub fn set_empty(space: &mut Words)
     ensures { λ _. ⌜ (view (now (space .exit)) ≡ empty) × (now (space .exit) ≡ emptyWords) ⌝ }
 {
     *space = [0; WORDS];
     space[NEXT_ENTRY_AT] = 1;
     space[NEXT_TXN_AT] = 1;
+    space[NEXT_REGISTRATION_AT] = 1;
 }
 
 pub fn clock(space: &Words) -> u32
@@ -136,6 +149,19 @@ pub fn set_next_txn(space: &mut Words, n: u32)
 {
     whole(space);
     space[NEXT_TXN_AT] = n;
+}
+
+pub fn next_registration(space: &Words) -> u32
+    ensures { λ r. ⌜ r ≡ view (now (space .entry)) .nextRegistration ⌝ }
+{
+    space[NEXT_REGISTRATION_AT]
+}
+
+pub fn set_next_registration(space: &mut Words, n: u32)
+    ensures { λ _. ⌜ view (now (space .exit)) ≡ withNextRegistration n (view (now (space .entry))) ⌝ }
+{
+    whole(space);
+    space[NEXT_REGISTRATION_AT] = n;
 }
 
 pub fn entry_count(space: &Words) -> usize
@@ -193,6 +219,25 @@ pub fn set_wait_count(space: &mut Words, n: usize)
     ensures { λ _. ⌜ now (space .exit) ≡ set (now (space .entry)) waitCountAt n ⌝ }
 {
     space[WAIT_COUNT_AT] = n as u32;
+}
+
+pub fn registration_count(space: &Words) -> usize
+    ensures { λ r. ⌜ (r ≡ registrationCount (now (space .entry))) × (length (now (space .entry)) ≡ spaceWords) ⌝ }
+{
+    let all = &space[..];
+    let n = all[REGISTRATION_COUNT_AT];
+    if n < MAX_REGISTRATIONS as u32 {
+        n as usize
+    } else {
+        MAX_REGISTRATIONS
+    }
+}
+
+pub fn set_registration_count(space: &mut Words, n: usize)
+    requires { ⌜ n ≤ maxRegistrations ⌝ }
+    ensures { λ _. ⌜ now (space .exit) ≡ set (now (space .entry)) registrationCountAt n ⌝ }
+{
+    space[REGISTRATION_COUNT_AT] = n as u32;
 }
 
 pub(crate) fn until_of(n: u32) -> Until
@@ -517,5 +562,91 @@ pub fn move_wait(space: &mut Words, from: usize, to: usize)
         WAITS_AT + WAIT_WIDTH * from,
         WAITS_AT + WAIT_WIDTH * to,
         WAIT_WIDTH,
+    );
+}
+
+pub fn registration_at(space: &Words, i: usize) -> Registration
+    requires { ⌜ i < maxRegistrations ⌝ }
+    ensures { λ r. ⌜ r ≡ registrationRow (now (space .entry)) i ⌝ }
+{
+    let o = REGISTRATIONS_AT + REGISTRATION_WIDTH * i;
+    let e = o + REGISTRATION_WIDTH;
+    let all = &space[..];
+    let r = &all[o..e];
+    let end = until_of(r[7]);
+    Registration {
+        id: RegistrationId(r[0]),
+        party: (r[1] % BYTE_VALUES) as u8,
+        mask: (r[2] % BYTE_VALUES) as u8,
+        fields: Fields {
+            kind: r[3],
+            side: r[4],
+            image: r[5],
+            place: r[6],
+        },
+        end,
+        total: r[8],
+    }
+}
+
+// The end of the lease of the registration in row i, as a word: FOREVER is later than every tick.
+pub fn registration_end(space: &Words, i: usize) -> u32
+    requires { ⌜ i < maxRegistrations ⌝ }
+    ensures { λ r. ⌜ r ≡ untilWord (registrationRow (now (space .entry)) i .end) ⌝ }
+{
+    space[REGISTRATIONS_AT + REGISTRATION_WIDTH * i + 7]
+}
+
+pub(crate) fn put_registration(space: &mut Words, i: usize, g: Registration)
+    requires { ⌜ i < maxRegistrations ⌝ }
+    ensures { λ _. ⌜ now (space .exit) ≡ putRegistration (now (space .entry)) i g ⌝ }
+{
+    let end = g.end;
+    let end = until_word(end);
+    let r = [
+        g.id.0,
+        g.party as u32,
+        g.mask as u32,
+        g.fields.kind,
+        g.fields.side,
+        g.fields.image,
+        g.fields.place,
+        end,
+        g.total,
+    ];
+    put_words(space, REGISTRATIONS_AT + REGISTRATION_WIDTH * i, &r);
+}
+
+// The registration stands behind the others.
+pub fn add_registration(space: &mut Words, g: Registration)
+    requires { ⌜ (length (view (now space) .registrations) < maxRegistrations) × FitsWord (g .end) ⌝ }
+    ensures { λ _. ⌜ view (now (space .exit))
+        ≡ withRegistrations (view (now (space .entry)) .registrations ++ (g ∷ [])) (view (now (space .entry))) ⌝ }
+{
+    let n = registration_count(space);
+    put_registration(space, n, g);
+    set_registration_count(space, n + 1);
+}
+
+// The registration in row i becomes g.
+pub fn set_registration(space: &mut Words, i: usize, g: Registration)
+    requires { ⌜ (i < registrationCount (now space)) × FitsWord (g .end) ⌝ }
+    ensures { λ _. ⌜ (view (now (space .exit))
+        ≡ withRegistrations (set (view (now (space .entry)) .registrations) i g) (view (now (space .entry))))
+        × (length (now (space .exit)) ≡ spaceWords) ⌝ }
+{
+    whole(space);
+    put_registration(space, i, g);
+}
+
+pub fn move_registration(space: &mut Words, from: usize, to: usize)
+    requires { ⌜ (from < maxRegistrations) × (to ≤ from) ⌝ }
+    ensures { λ _. ⌜ now (space .exit) ≡ moveRegistration (now (space .entry)) from to ⌝ }
+{
+    move_words(
+        space,
+        REGISTRATIONS_AT + REGISTRATION_WIDTH * from,
+        REGISTRATIONS_AT + REGISTRATION_WIDTH * to,
+        REGISTRATION_WIDTH,
     );
 }

@@ -1,6 +1,6 @@
 //! Frames made.
 
-use reference::frame::Fields;
+use reference::frame::{Fields, NONE};
 use tray::frame::{operation_of, Request};
 
 pub use tray::frame::tick_frame;
@@ -16,6 +16,12 @@ pub fn long_frame(operation: u8, party: u8, mask: u8, transaction: u32, duration
 
 pub fn create_frame(party: u8, lease: u32) -> Vec<u8> {
     Request { duration: lease, ..request(6, party) }.frame()
+}
+
+/// Outside any transaction.
+pub fn notify_frame(party: u8, mask: u8, lease: u32, fields: Fields) -> Vec<u8> {
+    let head = [[10, party, mask, 0], NONE.to_le_bytes(), lease.to_le_bytes()];
+    [head.concat(), fields.map(u32::to_le_bytes).concat()].concat()
 }
 
 /// Names an entry where other frames name a transaction.

@@ -1,8 +1,8 @@
 //! Seeded random frames and trays that make deep histories: several panes, few distinct kinds, short leases, ticks
-//! anywhere, full tables, steps that set several entries free, blanks, renewals, garbled frames, damaged trays, answers
-//! areas of odd lengths.
+//! anywhere, full tables, steps that set several entries free, blanks, renewals, registrations, garbled frames, damaged
+//! trays, answers areas of odd lengths.
 
-use crate::frames::{create_frame, ending_frame, long_frame, renew_frame, tick_frame};
+use crate::frames::{create_frame, ending_frame, long_frame, notify_frame, renew_frame, tick_frame};
 use crate::random::Random;
 use reference::answer::{RECORD, STEP};
 use reference::frame::{Fields, Mark, FOREVER, LAST_CLOCK, NONE};
@@ -30,8 +30,9 @@ struct Lean {
     stray: usize,
     /// Of frames, where somebody waits: one of those who wait tries to get out.
     escapes: usize,
-    /// Of frames: renewals.
+    /// Of frames: renewals, notifies.
     renews: usize,
+    notifies: usize,
     garbled: usize,
     /// Shares of write, look-up, create, commit or abort, tick.
     shares: [usize; 5],
@@ -54,10 +55,11 @@ impl Lean {
             stray: random.pick(&[0, 2, 10]),
             escapes: random.pick(&[0, 3, 15]),
             renews: random.pick(&[0, 4, 15]),
+            notifies: random.pick(&[0, 2, 8]),
             garbled: random.pick(&[0, 2, 15]),
             shares: [random.between(2, 8) as usize, random.between(2, 8) as usize, 2, 2, random.between(1, 4) as usize],
         };
-        match random.below(8) {
+        match random.below(9) {
             // many entries stored
             0 => Lean { forever: 80, takes: 15, timeout_0: 90, shares: [10, 4, 1, 1, 1], ..mixed },
             // many transactions live, with holds
@@ -95,6 +97,18 @@ impl Lean {
             5 => {
                 Lean { longest: 8, forever: 10, takes: 30, timeout_0: 60, renews: 40, shares: [4, 4, 1, 1, 4], ..mixed }
             }
+            // registrations that come and go, while entries become public and are put back in every way
+            6 => Lean {
+                longest: 8,
+                forever: random.pick(&[5, 40]),
+                inside: 60,
+                gathered: 40,
+                timeout_0: 50,
+                renews: 4,
+                notifies: 15,
+                shares: [8, 6, 2, 3, 3],
+                ..mixed
+            },
             _ => mixed,
         }
     }
@@ -111,7 +125,11 @@ impl Generator {
     pub fn new(seed: u64) -> Generator {
         let mut random = Random::new(seed);
         let lean = Lean::draw(&mut random);
-        let script = if random.percent(4) { longest_step(&mut random) } else { Vec::new() };
+        let script = match random.below(25) {
+            0 => longest_step(&mut random),
+            1 | 2 => longest_ringing(&mut random),
+            _ => Vec::new(),
+        };
         Generator { random, lean, script }
     }
 
@@ -122,6 +140,7 @@ impl Generator {
         }
         let frame = match guide.waiting.len() {
             _ if self.random.percent(self.lean.renews) => self.renewal_frame(guide),
+            _ if self.random.percent(self.lean.notifies) => self.registering_frame(guide),
             0 => self.sound_frame(guide),
             waiting if self.random.percent(self.lean.escapes) => {
                 let look_up = &guide.waiting[self.random.below(waiting)];
@@ -205,6 +224,12 @@ impl Generator {
         let operation = 2 + u8::from(self.random.percent(takes)) + 2 * u8::from(self.random.percent(if_exists));
         let transaction = self.transaction(guide, party);
         let timeout = self.timeout(guide);
+        let (mask, fields) = self.template(guide);
+        long_frame(operation, party, mask, transaction, timeout, fields)
+    }
+
+    /// Often one that a stored entry matches: mask and fields.
+    fn template(&mut self, guide: &Space) -> (u8, Fields) {
         let mut mask = if self.random.percent(60) { 1 } else { self.random.below(16) as u8 };
         let like = match guide.entries.len() {
             0 => self.mark(),
@@ -214,7 +239,7 @@ impl Generator {
         if self.random.percent(60) {
             mask &= !like.blanks; // else it may ask 0 of a blank
         }
-        long_frame(operation, party, mask, transaction, timeout, cleared(like.fields, !mask))
+        (mask, cleared(like.fields, !mask))
     }
 
     /// A party renews an entry: mostly its own that nobody holds, else any that is stored, or none.
@@ -230,14 +255,34 @@ impl Generator {
             _ => self.random.pick(&stored),
         };
         let party = if self.random.percent(85) { writer } else { self.random.between(1, self.lean.parties) as u8 };
-        let lease = match self.random.below(20) {
+        renew_frame(party, number, self.odd_lease(guide))
+    }
+
+    /// A lease, more often than elsewhere of 0, for good, or about the latest end that is allowed.
+    fn odd_lease(&mut self, guide: &Space) -> u32 {
+        match self.random.below(20) {
             0 | 1 => 0,
-            // about the latest end that is allowed
             2 => (LAST_CLOCK - guide.clock).saturating_add(2).saturating_sub(self.random.below(4) as u32),
             3 => FOREVER,
             _ => self.duration(guide),
+        }
+    }
+
+    /// A notify. A few are spoilt: they name a transaction, have a mask above 15, or a field that it does not ask for.
+    fn registering_frame(&mut self, guide: &Space) -> Vec<u8> {
+        let party = match self.party(guide) {
+            Some(party) if self.random.percent(92) => party,
+            _ => self.random.between(1, 16) as u8,
         };
-        renew_frame(party, number, lease)
+        let (mask, fields) = self.template(guide);
+        let mut frame = notify_frame(party, mask, self.odd_lease(guide), fields);
+        match self.random.below(40) {
+            0 => frame[4..8].copy_from_slice(&self.stray_transaction(guide).to_le_bytes()),
+            1 if mask < 15 => frame[12 + 4 * self.random.pick(&fields_in(!mask))] = 1,
+            2 => frame[2] |= self.random.pick(&[16, 32, 64, 128]),
+            _ => {}
+        }
+        frame
     }
 
     /// Perhaps the number of an entry that is there no more, or not yet.
@@ -501,6 +546,27 @@ fn longest_step(random: &mut Random) -> Vec<Vec<u8>> {
     let timeout = random.pick(&[lease, lease + 1, FOREVER]);
     frames.extend((1..=16).map(|party| long_frame(3 + party % 2 * 2, party, 1, NONE, timeout, kind)));
     frames.extend((0..lease).map(|_| tick_frame()));
+    frames.reverse();
+    frames
+}
+
+/// The same, and the last step writes 24: its own, one for each of the fifteen parties that wait, and eight bells.
+fn longest_ringing(random: &mut Random) -> Vec<Vec<u8>> {
+    let kind = [77, 0, 0, 0];
+    let mask = random.pick(&[0, 1]);
+    let mut frames: Vec<Vec<u8>> =
+        (9..=16).map(|party| notify_frame(party, mask, FOREVER, cleared(kind, !mask))).collect();
+    if random.percent(50) {
+        // one entry, which all read
+        frames.extend((2..=16).map(|party| long_frame(2, party, 1, NONE, FOREVER, kind)));
+        frames.push(long_frame(1, 1, 0, NONE, FOREVER, kind));
+    } else {
+        // so many entries; who takes none of them gets nothing, since all conflicts are gone
+        frames.push(create_frame(1, FOREVER));
+        frames.extend((0..random.between(1, 15)).map(|_| long_frame(1, 1, 0, 1, FOREVER, kind)));
+        frames.extend((2..=16).map(|party| long_frame(5, party, 1, NONE, FOREVER, kind)));
+        frames.push(ending_frame(7, 1, 1));
+    }
     frames.reverse();
     frames
 }

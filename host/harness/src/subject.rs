@@ -3,24 +3,26 @@
 use crate::view::view;
 use reference::space::Space;
 use tray::boundary;
-use tray::words::{Words, WORDS, WORD_CLOCK, WORD_NEXT_ENTRY, WORD_NEXT_TRANSACTION, WORD_WAITING_COUNT};
+use tray::words::{Words, WORDS, WORD_WAITING_COUNT};
+use tray::words::{WORD_CLOCK, WORD_NEXT_ENTRY, WORD_NEXT_REGISTRATION, WORD_NEXT_TRANSACTION};
 
-/// Where a history begins: nothing is stored, live or waiting, and so many ticks, writes with lease 0 and ended
-/// transactions lie behind.
+/// Where a history begins: nothing is stored, live or waiting, and so many ticks, writes with lease 0, transactions and
+/// registrations lie behind.
 #[derive(Clone, Copy, PartialEq, Eq, Debug)]
 pub struct Beginning {
     pub clock: u32,
     pub next_entry: u32,
     pub next_transaction: u32,
+    pub next_registration: u32,
 }
 
 impl Beginning {
     /// The empty space.
-    pub const EMPTY: Beginning = Beginning { clock: 0, next_entry: 1, next_transaction: 1 };
+    pub const EMPTY: Beginning = Beginning { clock: 0, next_entry: 1, next_transaction: 1, next_registration: 1 };
 
     pub fn of_reference(self) -> Space {
-        let Beginning { clock, next_entry, next_transaction } = self;
-        Space { clock, next_entry, next_transaction, ..Space::new() }
+        let Beginning { clock, next_entry, next_transaction, next_registration } = self;
+        Space { clock, next_entry, next_transaction, next_registration, ..Space::new() }
     }
 }
 
@@ -59,6 +61,7 @@ impl Subject for Proved {
             words[WORD_CLOCK] = at.clock;
             words[WORD_NEXT_ENTRY] = at.next_entry;
             words[WORD_NEXT_TRANSACTION] = at.next_transaction;
+            words[WORD_NEXT_REGISTRATION] = at.next_registration;
         }
         Proved(words)
     }
@@ -88,7 +91,7 @@ impl<S: tuned::Space> Subject for Tuned<S> {
     const NAME: &'static str = S::NAME;
 
     fn begin(at: Beginning) -> Tuned<S> {
-        Tuned(S::beginning(at.clock, at.next_entry, at.next_transaction))
+        Tuned(S::beginning(at.clock, [at.next_entry, at.next_transaction, at.next_registration]))
     }
 
     fn step(&mut self, frame: &[u8], area: &mut [u8]) -> u64 {

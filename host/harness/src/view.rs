@@ -1,7 +1,7 @@
 //! The tables that the words of the proved space are, in the reference's own types.
 
 use reference::frame::{look_up_kind, Mark, Template, NONE};
-use reference::space::{End, Entry, LookUp, Space, Transaction};
+use reference::space::{End, Entry, LookUp, Registration, Space, Transaction};
 use tray::words::{self, Words, ENTRIES, ENTRY_READERS, MAX_TRANSACTIONS, TRANSACTIONS, TRANSACTION_SLOT};
 
 fn end(end: words::End) -> End {
@@ -45,6 +45,17 @@ fn look_up(look_up: words::LookUp) -> LookUp {
     }
 }
 
+fn registration(registration: words::Registration) -> Registration {
+    Registration {
+        number: registration.number,
+        party: registration.party,
+        template: Template::new(registration.template.mask, registration.template.fields),
+        end: end(registration.end),
+        total: registration.total,
+        count: 0,
+    }
+}
+
 /// The tables that the words are.
 pub fn view(words: &Words) -> Space {
     let tables = words::tables(words);
@@ -53,8 +64,10 @@ pub fn view(words: &Words) -> Space {
         clock: tables.clock,
         next_entry: tables.next_entry,
         next_transaction: tables.next_transaction,
+        next_registration: tables.next_registration,
         entries: tables.entries.into_iter().zip(ENTRIES.rows(words)).map(|(e, row)| entry(words, e, row)).collect(),
         transactions: tables.transactions.into_iter().map(transaction).collect(),
         waiting: tables.look_ups.into_iter().map(look_up).collect(),
+        registrations: tables.registrations.into_iter().map(registration).collect(),
     }
 }

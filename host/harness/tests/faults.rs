@@ -1,13 +1,16 @@
 //! Wrong spaces: the comparison must find each, and print a text that shows it.
 
+#[path = "common/shown.rs"]
+mod shown;
+
 use harness::compare::{compare, replay, Coverage, Discrepancy};
 use harness::subject::{Beginning, Subject};
 use reference::answer::{Kind, RECORD, STEP};
 use reference::frame::{word, Template, FOREVER, LAST_CLOCK, LOOK_UPS, NONE};
 use reference::space::{End, Entry, Outcome, Space};
-use reference::tray::{judge, run};
+use reference::tray::run;
+use shown::{frames_of, tray_of};
 use std::collections::BTreeMap;
-use tray::text::parse;
 
 /// The mistakes that document 01 tells of students, and what its contracts exclude; then smaller ones; then the order
 /// that document 02 fixes; then one that only some areas show; then the rule of document 01 that document 02 replaces;
@@ -250,35 +253,12 @@ fn named(frame: &[u8]) -> Option<(u8, u32)> {
     (frame.len() == 12 && frame[0] == 11).then(|| (frame[1], word(frame, 4)))
 }
 
-/// The first discrepancy, of those that a text alone shows or of the others.
 fn found<const FAULT: u8>(by_text: bool) -> Discrepancy {
-    let mut coverage = Coverage::default();
-    let mut all = (1..2000).filter_map(|seed| compare::<Wrong<FAULT>>(seed, &mut coverage).err());
-    let found = all.find(|discrepancy| discrepancy.besides.is_empty() == by_text);
-    found.unwrap_or_else(|| panic!("fault {FAULT} is not found"))
+    shown::found::<Wrong<FAULT>>(by_text)
 }
 
-fn tray_of(discrepancy: &Discrepancy) -> Vec<u8> {
-    let text = parse(&discrepancy.to_string()).expect("what is printed is a text");
-    text.tray().expect("what is printed can be run")
-}
-
-fn frames_of(discrepancy: &Discrepancy) -> Vec<Vec<u8>> {
-    let tray = tray_of(discrepancy);
-    judge(&tray).expect("a sound tray").into_iter().map(|frame| tray[frame].to_vec()).collect()
-}
-
-/// The printed text alone shows the fault, and each of its frames is needed.
 fn shows<const FAULT: u8>() {
-    let discrepancy = found::<FAULT>(true);
-    let frames = frames_of(&discrepancy);
-    assert!(replay::<Wrong<FAULT>>(Beginning::EMPTY, &frames).is_err(), "fault {FAULT}:\n{discrepancy}");
-    println!("{discrepancy}");
-    for left_out in 0..frames.len() {
-        let mut fewer = frames.clone();
-        fewer.remove(left_out);
-        assert!(replay::<Wrong<FAULT>>(Beginning::EMPTY, &fewer).is_ok(), "fault {FAULT}:\n{discrepancy}");
-    }
+    shown::shows::<Wrong<FAULT>>();
 }
 
 #[test]

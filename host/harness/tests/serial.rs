@@ -1,7 +1,8 @@
 //! Document 02, T-08: "The plain set keeps blanks with its fields." A found needs both, and both are left at the end.
-//! T-05: "In the serial run a renewal changes the entry's end at its place."
+//! T-05: "In the serial run a renewal changes the entry's end at its place." T-03 changes nothing in the run: kinds 10 and
+//! 11 are "any other record".
 
-use harness::frames::{create_frame, ending_frame, long_frame, renew_frame, tick_frame};
+use harness::frames::{create_frame, ending_frame, long_frame, notify_frame, renew_frame, tick_frame};
 use reference::answer::{Kind, Record, RECORD, STEP};
 use reference::frame::{FOREVER, NONE};
 use reference::serial::{committed, SerialRun};
@@ -91,5 +92,45 @@ fn a_renewal_needs_its_entry() {
     for other in [0, 2, FOREVER] {
         let why = renew(9, 0, |record| record.entry = if record.is(Kind::Renewed) { other } else { record.entry }).1;
         assert_eq!(why, Err(format!("entry {other} is renewed and missing")));
+    }
+}
+
+/// Two registrations, a write that a waiting take gets at once, and a commit of two entries: whatever is done to the
+/// records of registrations and bells, the run is the same.
+fn ring(alter: impl Fn(&mut Record)) -> Result<(), String> {
+    let fields = [7, 0, 0, 0];
+    let frames = [
+        notify_frame(1, 0, FOREVER, [0; 4]),
+        notify_frame(2, 1, 1, fields),
+        long_frame(3, 3, 1, NONE, FOREVER, fields),
+        long_frame(1, 1, 0, NONE, FOREVER, fields),
+        create_frame(2, FOREVER),
+        long_frame(1, 2, 0, 1, FOREVER, fields),
+        long_frame(1, 2, 0, 1, 2, fields),
+        ending_frame(7, 2, 1),
+        tick_frame(),
+        long_frame(1, 1, 8, NONE, FOREVER, fields),
+    ];
+    let (mut space, mut run, mut area, mut bells) = (Space::new(), SerialRun::new(0), [0; STEP], 0);
+    for frame in &frames {
+        let written = space.step(frame, &mut area).records;
+        let mut records: Vec<Record> = area.chunks_exact(RECORD).take(written).map(Record::read).collect();
+        for record in records.iter_mut().filter(|record| record.is(Kind::Notified) || record.is(Kind::Rung)) {
+            bells += usize::from(record.is(Kind::Rung));
+            alter(record);
+        }
+        run.feed(frame, records.into_iter());
+    }
+    assert_eq!((bells, space.entries.len()), (5, 3), "bells, and entries left");
+    run.check(&committed(&space))
+}
+
+#[test]
+fn bells_change_nothing() {
+    assert_eq!(ring(|_| {}), Ok(()));
+    assert_eq!(ring(|bell| bell.kind = 0), Ok(()));
+    for number in [0, 1, 2, 3, 4, FOREVER] {
+        assert_eq!(ring(|bell| (bell.entry, bell.transaction) = (number, number)), Ok(()));
+        assert_eq!(ring(|bell| bell.mark.fields = [number; 4]), Ok(()));
     }
 }

@@ -1,40 +1,15 @@
 //! The sums of a history, kept frame by frame: as by the definition; a lost or invented answer is told at its frame.
 
+#[path = "common/steps.rs"]
+mod steps;
+
 use harness::compare::Sums;
-use harness::generate::Generator;
 use reference::answer::{Kind, Record, RECORD};
-use reference::space::{LookUp, Space};
-use reference::tray::{judge, run_watched};
+use reference::space::LookUp;
+use steps::{steps, Step};
 use tray::tally::{Logged, Tally};
 
 const CLOSING: [Kind; 4] = [Kind::Found, Kind::Nothing, Kind::Exception, Kind::Aborted];
-
-/// A frame, the bytes of its records, and the space before and after it.
-struct Step {
-    frame: Vec<u8>,
-    bytes: Vec<u8>,
-    before: Space,
-    after: Space,
-}
-
-impl Step {
-    fn records(&self) -> Vec<Record> {
-        self.bytes.chunks_exact(RECORD).map(Record::read).collect()
-    }
-}
-
-/// The steps of a random tray; none if it is refused.
-fn steps(seed: u64) -> Vec<Step> {
-    let tray = Generator::new(seed).tray();
-    let Ok(frames) = judge(&tray) else { return Vec::new() };
-    let mut steps: Vec<Step> = Vec::new();
-    run_watched(&tray, &mut vec![0; 300_000], |place, bytes, after| {
-        let before = steps.last().map_or(Space::new(), |step| step.after.clone());
-        let frame = tray[frames[place].clone()].to_vec();
-        steps.push(Step { frame, bytes: bytes.to_vec(), before, after: after.clone() });
-    });
-    steps
-}
 
 #[test]
 fn kept_by_frames_as_by_the_definition() {

@@ -17,6 +17,8 @@ pub enum Kind {
     Aborted = 7,
     Exception = 8,
     Ticked = 9,
+    Notified = 10,
+    Rung = 11,
     Renewed = 12,
     Refused = 15,
 }
@@ -27,6 +29,7 @@ pub struct Record {
     pub party: u8,
     pub refusal: u8,
     pub transaction: u32,
+    /// Of kinds 10 and 11 the registration's number.
     pub entry: u32,
     /// Fields and blanks.
     pub mark: Mark,

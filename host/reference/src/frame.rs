@@ -18,7 +18,7 @@ pub struct Mark {
 }
 
 impl Mark {
-    /// Of every record but a found.
+    /// Of every record but a found and a rung.
     pub const NONE: Mark = Mark { fields: [0; 4], blanks: 0 };
 }
 
@@ -39,7 +39,7 @@ pub enum Refusal {
     PartyWaits = 6,
     NotLive = 7,
     AnothersTransaction = 8,
-    CreateWithoutLease = 9,
+    WithoutLease = 9,
     TooLate = 10,
     EntriesFull = 11,
     TransactionsFull = 12,
@@ -47,6 +47,7 @@ pub enum Refusal {
     // 14 is never given out (document 02).
     TraySize = 15,
     TrayPair = 16,
+    RegistrationsFull = 17,
     NoEntry = 18,
     AnothersEntry = 19,
     EntryHeld = 20,
@@ -87,6 +88,7 @@ pub enum Request {
     Commit { party: u8, transaction: u32 },
     Abort { party: u8, transaction: u32 },
     Tick,
+    Notify { party: u8, lease: u32, template: Template },
     Renew { party: u8, entry: u32, lease: u32 },
 }
 
@@ -96,10 +98,10 @@ pub fn look_up_kind(operation: u8) -> LookUpKind {
     LookUpKind { takes: operation == 3 || operation == 5, if_exists: operation >= 4 }
 }
 
-/// The length of a frame of this operation; none if the operation is not 1-9 or 11.
+/// The length of a frame of this operation; none if the operation is not 1-11.
 fn length_of(operation: u8) -> Option<usize> {
     match operation {
-        1..=5 => Some(28),
+        1..=5 | 10 => Some(28),
         6 | 11 => Some(12),
         7 | 8 => Some(8),
         9 => Some(4),
@@ -138,13 +140,14 @@ pub fn decode(frame: &[u8]) -> Result<Request, Refusal> {
     let duration = if length >= 12 { word(frame, 8) } else { 0 };
     let fields = if length == 28 { fields_of(frame) } else { [0; 4] };
 
-    let (is_write, is_look_up) = (operation == 1, LOOK_UPS.contains(&operation));
+    let (is_write, is_notify) = (operation == 1, operation == 10);
+    let has_template = LOOK_UPS.contains(&operation) || is_notify;
     let ill_formed = frame[3] != 0
         || mask > 15
-        || mask != 0 && !is_write && !is_look_up
-        || is_look_up && (0..4).any(|i| !bit(mask, i) && fields[i] != 0)
+        || mask != 0 && !is_write && !has_template
+        || has_template && (0..4).any(|i| !bit(mask, i) && fields[i] != 0)
         || is_write && (0..4).any(|i| bit(mask, i) && fields[i] != 0)
-        || operation == 6 && transaction != NONE;
+        || (operation == 6 || is_notify) && transaction != NONE;
     if ill_formed {
         return Err(Refusal::Form);
     }
@@ -164,6 +167,7 @@ pub fn decode(frame: &[u8]) -> Result<Request, Refusal> {
         7 => Request::Commit { party, transaction },
         8 => Request::Abort { party, transaction },
         9 => Request::Tick,
+        10 => Request::Notify { party, lease: duration, template: Template::new(mask, fields) },
         _ => Request::Renew { party, entry: transaction, lease: duration },
     })
 }

@@ -6,6 +6,7 @@ use crate::frame::{decode, LookUpKind, Mark, Refusal, Request, Template, FOREVER
 pub const MOST_ENTRIES: usize = 64;
 pub const MOST_TRANSACTIONS: usize = 8;
 pub const MOST_WAITING: usize = 16;
+pub const MOST_REGISTRATIONS: usize = 8;
 
 /// When a lease or a wait is over.
 #[derive(Clone, Copy, PartialEq, Eq, Debug)]
@@ -62,6 +63,18 @@ pub struct LookUp {
     pub deadline: End,
 }
 
+#[derive(Clone, PartialEq, Eq, Debug)]
+pub struct Registration {
+    pub number: u32,
+    pub party: u8,
+    pub template: Template,
+    pub end: End,
+    /// The matching entries made public since.
+    pub total: u32,
+    /// Those of them made public in this step; 0 between steps.
+    pub count: u32,
+}
+
 impl Entry {
     fn read_by_other(&self, transaction: u32) -> bool {
         self.read_by.iter().any(|&reader| reader != transaction)
@@ -106,12 +119,15 @@ pub struct Space {
     pub clock: u32,
     pub next_entry: u32,
     pub next_transaction: u32,
+    pub next_registration: u32,
     /// By number.
     pub entries: Vec<Entry>,
     /// By number.
     pub transactions: Vec<Transaction>,
     /// By arrival.
     pub waiting: Vec<LookUp>,
+    /// By number.
+    pub registrations: Vec<Registration>,
 }
 
 impl Default for Space {
@@ -126,9 +142,11 @@ impl Space {
             clock: 0,
             next_entry: 1,
             next_transaction: 1,
+            next_registration: 1,
             entries: Vec::with_capacity(MOST_ENTRIES),
             transactions: Vec::with_capacity(MOST_TRANSACTIONS),
             waiting: Vec::with_capacity(MOST_WAITING),
+            registrations: Vec::with_capacity(MOST_REGISTRATIONS),
         }
     }
 
@@ -140,6 +158,7 @@ impl Space {
         let number = match decode(frame).and_then(|request| self.perform(request, &mut answers)) {
             Ok(()) => {
                 self.close_waits(&mut answers);
+                self.ring(&mut answers);
                 0
             }
             Err(refusal) => {
@@ -152,7 +171,7 @@ impl Space {
         Outcome { records: answers.records, number }
     }
 
-    /// Carries out the request, or gives the first of refusals 6 to 13 and 18 to 20 that applies and changes nothing.
+    /// Carries out the request, or gives the first of refusals 6 to 13 and 17 to 20 that applies and changes nothing.
     fn perform(&mut self, request: Request, answers: &mut Answers) -> Result<(), Refusal> {
         match request {
             Request::Write { party, transaction, lease, mark } => {
@@ -188,6 +207,10 @@ impl Space {
                 self.serve(answers);
             }
             Request::Tick => self.tick(answers)?,
+            Request::Notify { party, lease, template } => {
+                self.check_party(party)?;
+                self.notify(party, lease, template, answers)?;
+            }
             Request::Renew { party, entry, lease } => {
                 self.check_party(party)?;
                 self.renew(party, entry, lease, answers)?;
@@ -243,6 +266,14 @@ impl Space {
         Ok(place)
     }
 
+    /// 9 and 10, for create and notify
+    fn check_lease(&self, lease: u32) -> Result<(), Refusal> {
+        if lease == 0 {
+            return Err(Refusal::WithoutLease);
+        }
+        self.check_duration(lease)
+    }
+
     /// 10, for a lease or a timeout
     fn check_duration(&self, duration: u32) -> Result<(), Refusal> {
         if duration != FOREVER && u64::from(self.clock) + u64::from(duration) > u64::from(LAST_CLOCK) {
@@ -275,6 +306,9 @@ impl Space {
         }
         answers.put(Record { entry: number, ..Record::new(Kind::Written, party, transaction) });
         if transaction == NONE {
+            if lease != 0 {
+                made_public(&mut self.registrations, &mark);
+            }
             self.serve(answers);
         }
         Ok(())
@@ -291,6 +325,23 @@ impl Space {
             self.entries[place].end = End::after(self.clock, lease);
         }
         answers.put(Record { entry, ..Record::new(Kind::Renewed, party, NONE) });
+        Ok(())
+    }
+
+    /// Document 02: "is answered by kind 10 with a registration number, counted from 1, in the entry place"; "17 when
+    /// eight registrations live, after 12".
+    fn notify(&mut self, party: u8, lease: u32, template: Template, answers: &mut Answers) -> Result<(), Refusal> {
+        self.check_lease(lease)?;
+        if self.registrations.len() >= MOST_REGISTRATIONS {
+            return Err(Refusal::RegistrationsFull);
+        }
+        if self.next_registration == FOREVER {
+            return Err(Refusal::NumbersUsedUp);
+        }
+        let (number, end) = (self.next_registration, End::after(self.clock, lease));
+        self.next_registration += 1;
+        self.registrations.push(Registration { number, party, template, end, total: 0, count: 0 });
+        answers.put(Record { entry: number, ..Record::new(Kind::Notified, party, NONE) });
         Ok(())
     }
 
@@ -337,10 +388,7 @@ impl Space {
     }
 
     fn create(&mut self, party: u8, lease: u32, answers: &mut Answers) -> Result<(), Refusal> {
-        if lease == 0 {
-            return Err(Refusal::CreateWithoutLease);
-        }
-        self.check_duration(lease)?;
+        self.check_lease(lease)?;
         if self.transactions.len() >= MOST_TRANSACTIONS {
             return Err(Refusal::TransactionsFull);
         }
@@ -359,6 +407,7 @@ impl Space {
         self.entries.retain_mut(|entry| {
             if entry.private_to == transaction {
                 entry.private_to = NONE;
+                made_public(&mut self.registrations, &entry.mark);
             }
             entry.read_by.retain(|&reader| reader != transaction);
             entry.taken_by != transaction
@@ -404,6 +453,7 @@ impl Space {
             self.abort(ended.number);
             answers.put(Record::new(Kind::Exception, ended.owner, ended.number));
         }
+        self.registrations.retain(|registration| !registration.end.reached(clock));
         self.entries.retain(|entry| !entry.end.reached(clock));
         self.serve(answers);
         Ok(())
@@ -422,5 +472,28 @@ impl Space {
             }
             !over
         });
+    }
+
+    /// Document 02: "each registration that matches some gives one record of kind 11 to its party, after all others, by
+    /// number: registration number in the entry place, count in this step in kind, total so far in side".
+    fn ring(&mut self, answers: &mut Answers) {
+        for registration in self.registrations.iter_mut().filter(|registration| registration.count != 0) {
+            registration.total += registration.count;
+            let fields = [registration.count, registration.total, 0, 0];
+            registration.count = 0;
+            answers.put(Record {
+                entry: registration.number,
+                mark: Mark { fields, blanks: 0 },
+                ..Record::new(Kind::Rung, registration.party, NONE)
+            });
+        }
+    }
+}
+
+/// A stored entry has become committed, "by a write or commit": each registration that matches counts it. "Put-backs do
+/// not count."
+fn made_public(registrations: &mut [Registration], mark: &Mark) {
+    for registration in registrations.iter_mut().filter(|registration| registration.template.matches(mark)) {
+        registration.count += 1;
     }
 }

@@ -44,6 +44,7 @@ pub enum Class {
     Commit,
     Abort,
     Tick,
+    Notify,
     Renew,
 }
 
@@ -68,7 +69,7 @@ const fn look_up(takes: bool, if_exists: bool) -> Class {
 const LOOKS: &[Part] = &[Part::Template, Part::Timeout, Part::Inside];
 const ENDS: &[Part] = &[Part::Transaction];
 
-pub static OPERATIONS: [Operation; 10] = [
+pub static OPERATIONS: [Operation; 11] = [
     row(1, "write", 28, Class::Write, &[Part::Fields, Part::Lease, Part::Inside]),
     row(2, "read", 28, look_up(false, false), LOOKS),
     row(3, "take", 28, look_up(true, false), LOOKS),
@@ -78,7 +79,7 @@ pub static OPERATIONS: [Operation; 10] = [
     row(7, "commit", 8, Class::Commit, ENDS),
     row(8, "abort", 8, Class::Abort, ENDS),
     row(9, "tick", 4, Class::Tick, &[]),
-    // 10 is no operation.
+    row(10, "notify", 28, Class::Notify, &[Part::Template, Part::Lease]),
     row(11, "renew", 12, Class::Renew, &[Part::Entry, Part::Lease]),
 ];
 

@@ -26,10 +26,12 @@ pub enum Action {
 /// By the places of EVENTS.
 pub type Reactions = [Option<Action>; EVENTS.len()];
 
-/// A line of a pane: a frame that it sends.
+/// A line of a pane: a frame that it sends, or where it listens for a bell.
 #[derive(Clone, Debug)]
 pub struct Sent {
     pub label: Option<String>,
+    /// `await bell`: it sends nothing, and goes on when a bell has come.
+    pub awaits_bell: bool,
     /// With the number of its transaction, or of the entry that it renews, left out if that is given by a name.
     pub frame: Vec<u8>,
     /// What it asks for; none of bytes that no request gives.
@@ -69,6 +71,11 @@ pub struct Pane {
 }
 
 impl Pane {
+    /// Whether it listens for bells anywhere.
+    pub fn listens(&self) -> bool {
+        self.sent.iter().any(|sent| sent.awaits_bell)
+    }
+
     pub fn line_labelled(&self, label: &str) -> Option<usize> {
         self.sent.iter().position(|sent| sent.label.as_deref() == Some(label))
     }
@@ -144,17 +151,22 @@ fn place_of(names: &mut Vec<String>, name: &str) -> usize {
     })
 }
 
-/// A pane's frame, with the name of its transaction, or of the entry that it renews, if that is given by one.
-fn sent_frame(line: &mut Line, party: u8) -> Result<(Vec<u8>, Option<String>), Fault> {
+/// A pane's frame, with the name of its transaction, or of the entry that it renews, if that is given by one; none of
+/// `await bell`.
+fn sent_frame(line: &mut Line, party: u8) -> Result<(Option<Vec<u8>>, Option<String>), Fault> {
+    if line.passes("await") {
+        line.want("bell")?;
+        return Ok((None, None));
+    }
     if line.peek() != Some("bytes") {
         let (request, inside) = line.request(party)?;
-        return Ok((request.frame(), inside));
+        return Ok((Some(request.frame()), inside));
     }
     let frame = raw_frame(line, &["after", "then"])?;
     if Request::of(&frame).is_some_and(|request| request.operation.class == Class::Tick) {
         return Err(Fault::new(line.number, "expected a frame that is no tick: `ticks at most N` is for these"));
     }
-    Ok((frame, None))
+    Ok((Some(frame), None))
 }
 
 impl Parser {
@@ -211,6 +223,7 @@ impl Parser {
         }
         let begin = line.rest();
         let (frame, inside) = sent_frame(line, self.script.panes[place].party)?;
+        let (awaits_bell, frame) = (frame.is_none(), frame.unwrap_or_default());
         let request = Request::of(&frame);
         let brings = request.as_ref().is_some_and(brings_number);
         let named = if brings && line.passes("as") { Some(name(line, "a name for it")?) } else { None };
@@ -228,7 +241,8 @@ impl Parser {
         }
         let inside = inside.map(|name| place_of(&mut pane.names, &name));
         let names = named.map(|name| place_of(&mut pane.names, &name));
-        pane.sent.push(Sent { label, frame, request, inside, names, reactions, then, text, line: line.number });
+        let line = line.number;
+        pane.sent.push(Sent { label, awaits_bell, frame, request, inside, names, reactions, then, text, line });
         Ok(())
     }
 

@@ -3,8 +3,11 @@
 use crate::frame::{duration_text, end_text, named_fields, operation_of, plain_fields, template_text};
 use crate::history::History;
 use crate::oracle::{standing, Matcher, Sought, Standing};
-use crate::record::{kind_of, refusal_meaning, Record, Tells, ABORTED, NOTHING, REFUSED, RENEWED, WAITING};
-use crate::words::{End, Entry, LookUp, Tables, Transaction};
+use crate::record::{
+    kind_of, refusal_meaning, Record, Tells, ABORTED, COMMITTED, NOTHING, NOTIFIED, REFUSED, RENEWED, RUNG, WAITING,
+    WRITTEN,
+};
+use crate::words::{End, Entry, LookUp, Registration, Tables, Transaction, Values};
 
 fn inside(record: &Record) -> String {
     match record.transaction {
@@ -33,6 +36,11 @@ pub fn record_deed(record: &Record, clock: u32) -> String {
         Tells::Transaction => format!("{name} transaction {transaction}"),
         Tells::Expired => format!("{name}: transaction {transaction} has expired"),
         Tells::Clock => format!("{name}: the clock is {clock}"),
+        Tells::Registration => format!("{name} registration {entry}"),
+        Tells::Bell => {
+            let (new, so_far) = record.bell();
+            format!("{name}: {new} new, {so_far} so far, by registration {entry}")
+        }
         Tells::Refusal => refusal_words(record.refusal),
     }
 }
@@ -45,8 +53,8 @@ pub fn record_words(record: &Record, clock: u32) -> String {
     }
 }
 
-/// A record of a frame in words, with what the tables tell besides: whether an abort withdraws a look-up, why a wait ends
-/// with nothing, when a renewed entry ends, and why one cannot be renewed.
+/// A record of a frame in words, with what the tables tell besides: whether an abort withdraws a look-up, why a wait
+/// ends with nothing, when a renewed entry or a registration ends, why an entry cannot be renewed, what a bell rings for.
 pub fn told(history: &History, place: usize, record: &Record) -> String {
     let (before, clock) = (history.before(place), history.steps[place].after.clock);
     let words = record_words(record, clock);
@@ -55,7 +63,7 @@ pub fn told(history: &History, place: usize, record: &Record) -> String {
         Some(End::At(deadline)) if deadline <= clock => words + "; its deadline is reached",
         Some(_) => words + "; no conflicting entry is left",
         None if withdraws(record, before) => words + "; its look-up is withdrawn",
-        None => words + &renewal_words(history, place, record),
+        None => words + &renewal_words(history, place, record) + &registration_words(history, place, record),
     }
 }
 
@@ -76,6 +84,38 @@ fn renewal_words(history: &History, place: usize, record: &Record) -> String {
         },
         (REFUSED, 19, Some(entry)) => format!("; party {} wrote it", entry.writer),
         (REFUSED, 20, Some(entry)) => format!("; {}", standing_words(&bars_renewal(entry), before)),
+        _ => String::new(),
+    }
+}
+
+/// The entries that a frame makes public: the one that a write outside transactions stores, with what its request says;
+/// those that a commit's transaction had written and not taken again.
+pub fn made_public(history: &History, place: usize) -> Vec<(u32, Values)> {
+    let (step, before) = (&history.steps[place], history.before(place));
+    let (Some(own), Some(request)) = (step.records.first(), step.request()) else { return Vec::new() };
+    match own.kind {
+        WRITTEN if own.transaction == 0 && request.duration != 0 => vec![(own.entry, request.values())],
+        COMMITTED => {
+            let published = |entry: &&Entry| entry.private_to == own.transaction && entry.taken_by == 0;
+            before.entries.iter().filter(published).map(|entry| (entry.number, entry.values())).collect()
+        }
+        _ => Vec::new(),
+    }
+}
+
+/// What the tables tell of a registration or its bell: "; it ends at clock 9", "; for entries 3, 4".
+fn registration_words(history: &History, place: usize, record: &Record) -> String {
+    let registration = history.steps[place].after.registration(record.entry);
+    match (record.kind, registration) {
+        (NOTIFIED, Some(registration)) => format!("; it {}", ends(registration.end)),
+        (RUNG, Some(registration)) => {
+            let mut matcher = Matcher::default();
+            let public = made_public(history, place).into_iter();
+            let heard = public.filter(|(_, values)| matcher.matches(&registration.template, values));
+            let numbers: Vec<String> = heard.map(|(number, _)| number.to_string()).collect();
+            let entries = if numbers.len() == 1 { "entry" } else { "entries" };
+            format!("; for {entries} {}", numbers.join(", "))
+        }
         _ => String::new(),
     }
 }
@@ -145,6 +185,12 @@ pub fn look_up_words(look_up: &LookUp) -> String {
     format!("party {} waits {until}: {operation} {template}{inside}", look_up.party)
 }
 
+/// "registration 1 of party 5: kind 7, ends at clock 9, 3 so far"
+pub fn registration_line(registration: &Registration) -> String {
+    let Registration { number, party, template, end, total } = registration;
+    format!("registration {number} of party {party}: {}, {}, {total} so far", template_text(template), ends(*end))
+}
+
 pub fn standing_words(standing: &Standing, tables: &Tables) -> String {
     match standing {
         Standing::Available => "available".to_string(),
@@ -193,6 +239,7 @@ pub fn state_lines(tables: &Tables, matcher: &mut Matcher) -> Vec<String> {
         let reasons = why_waits(look_up, tables, matcher);
         lines.extend(reasons.into_iter().map(|reason| format!("  {reason}")));
     }
+    lines.extend(tables.registrations.iter().map(registration_line));
     if lines.is_empty() {
         lines.push("nothing stored, live or waiting".to_string());
     }

@@ -16,6 +16,8 @@ pub const COMMITTED: u8 = 6;
 pub const ABORTED: u8 = 7;
 pub const EXCEPTION: u8 = 8;
 pub const TICKED: u8 = 9;
+pub const NOTIFIED: u8 = 10;
+pub const RUNG: u8 = 11;
 pub const RENEWED: u8 = 12;
 pub const REFUSED: u8 = 15;
 
@@ -28,6 +30,10 @@ pub enum Tells {
     Transaction,
     Expired,
     Clock,
+    /// In the entry place.
+    Registration,
+    /// A registration in the entry place, the entries of this step in kind, those so far in side.
+    Bell,
     Refusal,
 }
 
@@ -42,7 +48,7 @@ const fn kind(number: u8, name: &'static str, tells: Tells) -> Kind {
     Kind { number, name, tells }
 }
 
-pub const KINDS: [Kind; 11] = [
+pub const KINDS: [Kind; 13] = [
     kind(WRITTEN, "written", Tells::Entry),
     kind(FOUND, "found", Tells::EntryAndFields),
     kind(NOTHING, "nothing", Tells::Inside),
@@ -52,6 +58,8 @@ pub const KINDS: [Kind; 11] = [
     kind(ABORTED, "aborted", Tells::Transaction),
     kind(EXCEPTION, "exception", Tells::Expired),
     kind(TICKED, "ticked", Tells::Clock),
+    kind(NOTIFIED, "notified", Tells::Registration),
+    kind(RUNG, "rung", Tells::Bell),
     kind(RENEWED, "renewed", Tells::Entry),
     kind(REFUSED, "refused", Tells::Refusal),
 ];
@@ -76,21 +84,21 @@ const fn refusal(number: u8, label: &'static str, meaning: &'static str) -> Refu
     Refusal { number, label, meaning }
 }
 
-const REFUSALS: [Refusal; 18] = [
+const REFUSALS: [Refusal; 19] = [
     refusal(1, "area too small", "the answers area has under 700 bytes"),
-    refusal(2, "no such operation", "the frame is empty or its operation is not 1-9 or 11"),
+    refusal(2, "no such operation", "the frame is empty or its operation is not 1-11"),
     refusal(3, "wrong length", "the frame's length is not the operation's"),
     refusal(
         4,
         "wrong form",
-        "the frame's form is wrong: byte 3, mask, a field outside the mask, a blank that is not 0, or a create that \
-         names a transaction",
+        "the frame's form is wrong: byte 3, mask, a field outside the mask, a blank that is not 0, or a create or \
+         notify that names a transaction",
     ),
     refusal(5, "no such party", "the party is not 1-16, or not 0 for tick"),
     refusal(6, "look-up still waits", "the party has a waiting look-up that the frame does not withdraw"),
     refusal(7, "T is not live", "the transaction is not live"),
     refusal(8, "T is another's", "the transaction is another party's"),
-    refusal(9, "lease 0", "create with lease 0"),
+    refusal(9, "lease 0", "create or notify with lease 0"),
     refusal(10, "beyond the last clock", "the lease, the timeout or the tick goes beyond the last clock"),
     refusal(11, "64 entries stored", "64 entries are stored"),
     refusal(12, "8 transactions live", "8 transactions are live"),
@@ -106,6 +114,7 @@ const REFUSALS: [Refusal; 18] = [
         "bad pair",
         "a pair begins before the pairs' end or before the previous pair's end, or runs past the tray",
     ),
+    refusal(17, "8 registrations live", "8 registrations are live"),
     refusal(18, "E is not stored", "no stored entry has that number"),
     refusal(19, "E is another's", "another party wrote the entry"),
     refusal(20, "E is private or held", "the entry is private or held"),
@@ -129,7 +138,7 @@ pub fn refusal_label(number: u8, transaction: u32, entry: u32) -> String {
     }
 }
 
-#[derive(Clone, Copy, PartialEq, Eq, Debug)]
+#[derive(Clone, Copy, Default, PartialEq, Eq, Debug)]
 pub struct Record {
     pub kind: u8,
     pub party: u8,
@@ -158,6 +167,11 @@ impl Record {
 
     pub fn values(&self) -> Values {
         Values { fields: self.fields, blanks: self.blanks }
+    }
+
+    /// Of a bell: the entries that this step made public and it rings for, and those of its registration so far.
+    pub fn bell(&self) -> (u32, u32) {
+        (self.fields[0], self.fields[1])
     }
 
     /// As the program prints it: without the blanks.

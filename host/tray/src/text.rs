@@ -8,6 +8,7 @@
 //! party P take kind K side S image I place L timeout D  (any of the four fields)
 //! party P create lease D
 //! party P commit T                                      also: abort
+//! party P notify kind K lease D                         a template as a look-up's
 //! party P renew N lease D                               N is an entry's number
 //! tick
 //! bytes 01 02 ff                                        a frame given byte by byte
@@ -35,21 +36,27 @@ pub struct Expectation {
     pub negated: bool,
     party: Option<u8>,
     kind: u8,
-    /// The entry, the transaction or the refusal, as the kind tells.
+    /// The entry, the registration, the transaction or the refusal, as the kind tells.
     number: Option<u32>,
+    /// Of a bell.
+    new: Option<u32>,
+    so_far: Option<u32>,
 }
 
 impl Expectation {
     pub fn is_met_by(&self, record: &Record) -> bool {
         let tells = KINDS.iter().find(|kind| kind.number == record.kind).map(|kind| kind.tells);
         let told = match tells {
-            Some(Tells::Entry | Tells::EntryAndFields) => record.entry,
+            Some(Tells::Entry | Tells::EntryAndFields | Tells::Registration | Tells::Bell) => record.entry,
             Some(Tells::Refusal) => u32::from(record.refusal),
             _ => record.transaction,
         };
+        let (new, so_far) = record.bell();
         record.kind == self.kind
             && self.party.is_none_or(|party| party == record.party)
             && self.number.is_none_or(|number| number == told)
+            && self.new.is_none_or(|wanted| wanted == new)
+            && self.so_far.is_none_or(|wanted| wanted == so_far)
     }
 }
 
@@ -158,7 +165,14 @@ pub fn expectation(line: &mut Line) -> Result<Expectation, Fault> {
     let kind = line.peek().and_then(kind_named);
     let kind = kind.ok_or_else(|| line.expected(&format!("an answer ({})", names.join(", "))))?;
     line.word("an answer")?;
-    Ok(Expectation { line: line.number, text, negated, party, kind: kind.number, number: line.number_if_any() })
+    let number = line.number_if_any();
+    let mut counted = |word: &[&str], what: &str| match kind.tells == Tells::Bell && line.pass_all(word) {
+        true => line.number(what).map(Some),
+        false => Ok(None),
+    };
+    let new = counted(&["new"], "how many are new")?;
+    let so_far = counted(&["so", "far"], "how many there are so far")?;
+    Ok(Expectation { line: line.number, text, negated, party, kind: kind.number, number, new, so_far })
 }
 
 impl Parser {

@@ -10,10 +10,12 @@ pub const WORD_NEXT_TRANSACTION: usize = 2;
 pub const WORD_ENTRY_COUNT: usize = 3;
 pub const WORD_TRANSACTION_COUNT: usize = 4;
 pub const WORD_WAITING_COUNT: usize = 5;
+pub const WORD_NEXT_REGISTRATION: usize = 6;
+pub const WORD_REGISTRATION_COUNT: usize = 7;
 
 // Entries, by number.
 pub const MAX_ENTRIES: usize = 64;
-pub const ENTRIES_AT: usize = 6;
+pub const ENTRIES_AT: usize = 8;
 pub const ENTRY_NUMBER: usize = 0;
 pub const ENTRY_FIELDS: usize = 1;
 pub const ENTRY_END: usize = 5;
@@ -46,9 +48,20 @@ pub const WAITING_TRANSACTION: usize = 7;
 pub const WAITING_DEADLINE: usize = 8;
 pub const WAITING_WORDS: usize = 9;
 
+// Live registrations, by number.
+pub const MAX_REGISTRATIONS: usize = 8;
+pub const REGISTRATIONS_AT: usize = WAITING_AT + WAITING_WORDS * MAX_WAITING;
+pub const REGISTRATION_NUMBER: usize = 0;
+pub const REGISTRATION_PARTY: usize = 1;
+pub const REGISTRATION_MASK: usize = 2;
+pub const REGISTRATION_FIELDS: usize = 3;
+pub const REGISTRATION_END: usize = 7;
+pub const REGISTRATION_TOTAL: usize = 8;
+pub const REGISTRATION_WORDS: usize = 9;
+
 /// The words before the tables.
 pub const HEAD_WORDS: usize = ENTRIES_AT;
-pub const WORDS: usize = WAITING_AT + WAITING_WORDS * MAX_WAITING;
+pub const WORDS: usize = REGISTRATIONS_AT + REGISTRATION_WORDS * MAX_REGISTRATIONS;
 pub type Words = [u32; WORDS];
 
 /// A table: where its count stands, where it begins, the words of a row, the rows at most.
@@ -65,7 +78,13 @@ pub const TRANSACTIONS: Table =
     Table { count: WORD_TRANSACTION_COUNT, begin: TRANSACTIONS_AT, width: TRANSACTION_WORDS, most: MAX_TRANSACTIONS };
 pub const LOOK_UPS: Table =
     Table { count: WORD_WAITING_COUNT, begin: WAITING_AT, width: WAITING_WORDS, most: MAX_WAITING };
-pub const TABLES: [Table; 3] = [ENTRIES, TRANSACTIONS, LOOK_UPS];
+pub const REGISTRATIONS: Table = Table {
+    count: WORD_REGISTRATION_COUNT,
+    begin: REGISTRATIONS_AT,
+    width: REGISTRATION_WORDS,
+    most: MAX_REGISTRATIONS,
+};
+pub const TABLES: [Table; 4] = [ENTRIES, TRANSACTIONS, LOOK_UPS, REGISTRATIONS];
 
 impl Table {
     /// The words of the rows in use.
@@ -161,15 +180,28 @@ pub struct LookUp {
     pub deadline: End,
 }
 
+/// Who is told of which entries made public.
+#[derive(Clone, Copy, PartialEq, Eq, Debug)]
+pub struct Registration {
+    pub number: u32,
+    pub party: u8,
+    pub template: Template,
+    pub end: End,
+    /// Matching entries made public since it was made.
+    pub total: u32,
+}
+
 /// What the words of a space say.
 #[derive(Clone, PartialEq, Eq, Debug)]
 pub struct Tables {
     pub clock: u32,
     pub next_entry: u32,
     pub next_transaction: u32,
+    pub next_registration: u32,
     pub entries: Vec<Entry>,
     pub transactions: Vec<Transaction>,
     pub look_ups: Vec<LookUp>,
+    pub registrations: Vec<Registration>,
 }
 
 fn fields(row: &[u32], at: usize) -> Fields {
@@ -224,6 +256,16 @@ fn look_up(row: &[u32]) -> LookUp {
     }
 }
 
+fn registration(row: &[u32]) -> Registration {
+    Registration {
+        number: row[REGISTRATION_NUMBER],
+        party: row[REGISTRATION_PARTY] as u8,
+        template: Template { mask: row[REGISTRATION_MASK] as u8, fields: fields(row, REGISTRATION_FIELDS) },
+        end: End::of(row[REGISTRATION_END]),
+        total: row[REGISTRATION_TOTAL],
+    }
+}
+
 /// The tables that the words are. A read hold is a bit, at its transaction's slot.
 pub fn tables(words: &Words) -> Tables {
     let slot = |row: &[u32]| (row[TRANSACTION_NUMBER], row[TRANSACTION_SLOT] % MAX_TRANSACTIONS as u32);
@@ -232,9 +274,11 @@ pub fn tables(words: &Words) -> Tables {
         clock: words[WORD_CLOCK],
         next_entry: words[WORD_NEXT_ENTRY],
         next_transaction: words[WORD_NEXT_TRANSACTION],
+        next_registration: words[WORD_NEXT_REGISTRATION],
         entries: ENTRIES.rows(words).map(|row| entry(row, &slots)).collect(),
         transactions: TRANSACTIONS.rows(words).map(transaction).collect(),
         look_ups: LOOK_UPS.rows(words).map(look_up).collect(),
+        registrations: REGISTRATIONS.rows(words).map(registration).collect(),
     }
 }
 
@@ -255,5 +299,9 @@ impl Tables {
 
     pub fn look_up(&self, party: u8) -> Option<&LookUp> {
         self.look_ups.iter().find(|look_up| look_up.party == party)
+    }
+
+    pub fn registration(&self, number: u32) -> Option<&Registration> {
+        self.registrations.iter().find(|registration| registration.number == number)
     }
 }

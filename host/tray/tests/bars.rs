@@ -1,11 +1,12 @@
 //! `tray draw`, more closely: every bar's ends, leases and deadlines, in one row and cut into several; and no text cut off
 //! or run into.
 
-use crate::draw::{at, columns, histories, hold, moment, near, svg, ONE_ROW, SLOT};
+use crate::draw::{at, columns, histories, history, hold, moment, near, svg, ONE_ROW, SLOT};
 use crate::xml::Element;
 use std::collections::{BTreeMap, BTreeSet};
 use tray::draw::lives::slots;
 use tray::draw::metrics::width;
+use tray::draw::svg_file;
 use tray::frame::{operation_of, Class};
 use tray::history::History;
 use tray::record::{COMMITTED, EXCEPTION, FOUND, RENEWED, TICKED, WRITTEN};
@@ -46,11 +47,13 @@ fn bars_are_the_tables_in_every_row() {
         let drawn = svg(history, room);
         let mut seen = 0;
         for (row, columns) in rows(&drawn) {
-            let [entries, transactions, waits] = ["entry", "transaction", "wait"].map(|class| row.with_class(class));
+            let [entries, transactions, waits, registrations] =
+                ["entry", "transaction", "wait", "registration"].map(|class| row.with_class(class));
             for &frame in columns.keys() {
                 let now = (frame, last_slot(history, frame));
-                let Tables { entries: stored, transactions: live, look_ups, next_entry, .. } =
-                    &history.steps[frame - 1].after;
+                let Tables {
+                    entries: stored, transactions: live, look_ups, registrations: registered, next_entry, ..
+                } = &history.steps[frame - 1].after;
                 let about = format!("{} after frame {frame}, {room} wide", history.title);
                 let wanted: Vec<(u32, String)> = stored.iter().map(|e| (e.number, hold(e).to_string())).collect();
                 assert_eq!(shown(&at(&entries, now), *next_entry), wanted, "{about}");
@@ -58,6 +61,8 @@ fn bars_are_the_tables_in_every_row() {
                 assert_eq!(numbers(&at(&transactions, now), "data-transaction"), wanted, "{about}");
                 let wanted: BTreeSet<u32> = look_ups.iter().map(|l| l.party.into()).collect();
                 assert_eq!(numbers(&at(&waits, now), "data-party"), wanted, "{about}");
+                let wanted: BTreeSet<u32> = registered.iter().map(|r| r.number).collect();
+                assert_eq!(numbers(&at(&registrations, now), "data-registration"), wanted, "{about}");
                 seen += 1;
             }
         }
@@ -90,7 +95,8 @@ fn bars_reach_from_moment_to_moment() {
                 .collect();
             let (left_edge, right_edge) = (bands[0].0, bands[bands.len() - 1].1);
             let x = |(frame, slot): (usize, usize)| columns.get(&frame).map(|x| x + SLOT * slot as f64);
-            for bar in ["entry", "transaction", "wait"].iter().flat_map(|class| row.with_class(class)) {
+            let classes = ["entry", "transaction", "wait", "registration"];
+            for bar in classes.iter().flat_map(|class| row.with_class(class)) {
                 let (from, to) = (x(moment(bar.get("data-from"))), x(moment(bar.get("data-to"))));
                 let (left, right) = ends(bar);
                 assert!(near(left, from.unwrap_or(left_edge)), "{}, {room} wide: {bar:?}", history.title);
@@ -314,11 +320,13 @@ fn ends_that_lie_ahead() {
         for look_up in &last.look_ups {
             wanted.extend(finite(look_up.deadline).map(|clock| ("data-party", look_up.party.into(), clock)));
         }
+        for live in &last.registrations {
+            wanted.extend(finite(live.end).map(|clock| ("data-registration", live.number, clock)));
+        }
         let mut marks = BTreeSet::new();
         for mark in drawn.with_class("ahead") {
-            let class =
-                ["data-entry", "data-transaction", "data-party"].into_iter().find(|class| !mark.get(class).is_empty());
-            let class = class.unwrap();
+            let classes = ["data-entry", "data-transaction", "data-party", "data-registration"];
+            let class = classes.into_iter().find(|class| !mark.get(class).is_empty()).unwrap();
             assert!(marks.insert((class, mark.number(class) as u32, mark.number("data-clock") as u32)));
         }
         assert_eq!(marks, wanted, "{}, {room} wide", history.title);
@@ -366,23 +374,32 @@ fn texts_are_inside() {
 #[test]
 fn texts_of_the_space_are_apart() {
     for (history, room) in histories().iter().flat_map(|history| ROOMS.map(|room| (history, room))) {
-        let drawn = svg(history, room);
-        for (row, _) in rows(&drawn) {
-            let lanes = row.with_class("lane");
-            let bottom = lanes.first().map_or(f64::MAX, |lane| lane.child("rect").number("y"));
-            let mut lines: BTreeMap<i64, Vec<(f64, f64, String)>> = BTreeMap::new();
-            for text in row.children.iter().filter(|child| child.name == "text") {
-                let (y, left, right) = extent(text);
-                let all: String = text.all().iter().map(|part| part.text.as_str()).collect();
-                if y > 44.0 && y < bottom && left > 60.0 {
-                    lines.entry((y * 10.0) as i64).or_default().push((left, right, all));
-                }
+        are_apart(history, room);
+    }
+    // Where a row begins, a name that is told again leaves room for the next in its row of entries.
+    let text = "party 1 write 7 1 40 9 lease forever\nrepeat 3\nparty 2 read any timeout 0\nend\n\
+                party 2 take kind 7 timeout 0\nparty 1 write 7 1 41 9 lease forever\nparty 2 read kind 7 timeout 0\n";
+    are_apart(&history(text), 360.0);
+    assert!(svg_file(&history(text), 360.0).contains("<tspan dx=\"6\">7 1 40 9</tspan></text>"), "without its lease");
+}
+
+fn are_apart(history: &History, room: f64) {
+    let drawn = svg(history, room);
+    for (row, _) in rows(&drawn) {
+        let lanes = row.with_class("lane");
+        let bottom = lanes.first().map_or(f64::MAX, |lane| lane.child("rect").number("y"));
+        let mut lines: BTreeMap<i64, Vec<(f64, f64, String)>> = BTreeMap::new();
+        for text in row.children.iter().filter(|child| child.name == "text") {
+            let (y, left, right) = extent(text);
+            let all: String = text.all().iter().map(|part| part.text.as_str()).collect();
+            if y > 44.0 && y < bottom && left > 60.0 {
+                lines.entry((y * 10.0) as i64).or_default().push((left, right, all));
             }
-            for texts in lines.values_mut() {
-                texts.sort_by(|a, b| a.0.total_cmp(&b.0));
-                for pair in texts.windows(2) {
-                    assert!(pair[0].1 < pair[1].0 + 0.5, "{}, {room} wide: {pair:?}", history.title);
-                }
+        }
+        for texts in lines.values_mut() {
+            texts.sort_by(|a, b| a.0.total_cmp(&b.0));
+            for pair in texts.windows(2) {
+                assert!(pair[0].1 < pair[1].0 + 0.5, "{}, {room} wide: {pair:?}", history.title);
             }
         }
     }

@@ -6,10 +6,10 @@ use crate::draw::{history, ONE_ROW};
 use tray::boundary::Space;
 use tray::bytes::frames_of;
 use tray::draw::{page, svg_file};
-use tray::frame::{operation_named, show, Class, Request, OPERATIONS};
+use tray::frame::{operation_named, show, Class, Part, Request, OPERATIONS};
 use tray::history::History;
 use tray::oracle::Matcher;
-use tray::record::{FOUND, RECORD_BYTES, STEP_BYTES};
+use tray::record::{FOUND, RECORD_BYTES, RUNG, STEP_BYTES};
 use tray::text::parse;
 use tray::words::{Fields, Template, Values, FOREVER, WORDS};
 
@@ -66,18 +66,19 @@ fn number_4_and_texts_agree() {
     }
 }
 
-/// Look-ups are judged and shown as before; all other frames have no mask.
+/// Look-ups are judged and shown as before, and notifies as these; all other frames have no mask.
 #[test]
 fn masks_of_other_frames() {
     for operation in OPERATIONS.iter().filter(|operation| operation.class != Class::Write) {
         let party = u8::from(operation.class != Class::Tick);
         for mask in 0..=255u8 {
             let request = Request { mask, duration: 1, ..Request::new(operation, party) };
-            let request = match request.looks_up() {
+            let has_template = operation.parts.contains(&Part::Template);
+            let request = match has_template {
                 true => Request { fields: under(mask, [7, 1, 40, 9]), ..request },
                 false => request,
             };
-            let wrong = if request.looks_up() { mask > 15 } else { mask != 0 };
+            let wrong = if has_template { mask > 15 } else { mask != 0 };
             let number = Space::default().step(&request.frame());
             assert_eq!(number == 4, wrong, "{} with mask {mask}", operation.name);
             let text = show(&request.frame());
@@ -143,6 +144,7 @@ fn blanks_of_records() {
                 assert_eq!(record.blanks, bytes[3]);
                 match record.kind {
                     FOUND => assert_eq!(record.values(), values[record.entry as usize], "seed {seed}, frame {place}"),
+                    RUNG => assert_eq!(record.blanks, 0, "seed {seed}, frame {place}"),
                     _ => assert_eq!(record.values(), Values::default(), "seed {seed}, frame {place}"),
                 }
                 with += usize::from(record.blanks != 0);

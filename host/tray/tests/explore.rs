@@ -176,16 +176,36 @@ fn enumerate(script: &Script) -> Enumerated {
     enumerator.found
 }
 
-/// With renewals or without.
-fn random_script(seed: u64, renews: bool) -> String {
+const CLAIMS: &str = "claim P1 never gets nothing\nclaim P1 always gets found\nclaim P2 always gets committed\n\
+    claim P1 never gets refused 7\nclaim P1 and P2 never both find the same entry\n\
+    claim P1 and P2 never both take the same entry\nclaim P1 and P2 never both hold the same entry\n\
+    claim what P1 took is there again after its abort\nclaim P1 and P2 take turns at l0\n\
+    claim P1 needs at most 0 ticks from c to l0\nclaim at the end exactly 2 committed entries match any\n\
+    claim always at most 2 stored entries match any\nclaim P1 gets nothing only if no stored entry matches\n\
+    claim P2 gets nothing only if no available entry matches\nclaim when all have stopped some committed any\n\
+    claim P1 never gets renewed\nclaim P1 never gets rung\nclaim P2 always gets rung\n";
+
+/// What the panes of a random script do besides.
+#[derive(Clone, Copy, PartialEq)]
+enum Besides {
+    Nothing,
+    Renew,
+    Listen,
+}
+
+fn random_script(seed: u64, besides: Besides) -> String {
     let mut random = Random(seed);
     let mut text = "party 16 write 1 1 0 0 lease 2\nparty 16 write 2 1 0 blank lease forever\n".to_string();
-    let panes = 2 + random.below(2);
+    let panes = if besides == Besides::Listen { 2 } else { 2 + random.below(2) };
     for party in 1..=panes {
         text += &format!("pane P{party} party {party}\n");
         text += if party == 1 && random.below(4) == 0 { "rounds 2\n" } else { "" };
         if random.below(2) == 0 {
             text += random.pick(&["after exception stop\n", "after refusal stop\n", "after nothing stop\n"]);
+        }
+        if besides == Besides::Listen {
+            let template = random.pick(&["any", "kind 3", "kind 3 side 1", "kind 1"]);
+            text += &format!("notify {template} lease {}\n", random.pick(&["1", "2", "forever"]));
         }
         text += &format!("c: create lease {} as T\n", random.pick(&["1", "2", "forever"]));
         for line in 0..1 + random.below(2) {
@@ -199,35 +219,32 @@ fn random_script(seed: u64, renews: bool) -> String {
             text += &format!("write 3 1 0 0 lease {} in T\n", random.pick(&["1", "2", "forever"]));
         }
         text += random.pick(&["commit T\n", "commit T\n", "abort T\n"]);
-        if renews && party < 3 {
+        if besides == Besides::Listen {
+            text +=
+                random.pick(&["await bell\n", "await bell\nread kind 3 timeout 0\n", "write 3 1 0 0 lease forever\n"]);
+        }
+        if besides == Besides::Renew && party < 3 {
             let lease = random.pick(&["0", "1", "forever"]);
             text += &format!("write 3 2 0 0 lease 1 as M\nr: renew M lease {lease}\nrenew 3 lease 2\n");
         }
     }
     text += &format!("ticks at most {}\n", 1 + random.below(2));
-    text += "claim P1 never gets nothing\nclaim P1 always gets found\nclaim P2 always gets committed\n\
-             claim P1 never gets refused 7\nclaim P1 and P2 never both find the same entry\n\
-             claim P1 and P2 never both take the same entry\nclaim P1 and P2 never both hold the same entry\n\
-             claim what P1 took is there again after its abort\nclaim P1 and P2 take turns at l0\n\
-             claim P1 needs at most 0 ticks from c to l0\nclaim at the end exactly 2 committed entries match any\n\
-             claim always at most 2 stored entries match any\nclaim P1 gets nothing only if no stored entry matches\n\
-             claim P2 gets nothing only if no available entry matches\nclaim when all have stopped some committed any\n\
-             claim P1 never gets renewed\n";
-    text
+    text + CLAIMS
 }
 
 /// Folded or not, the same histories: their number, how many refute each claim, and the shortest.
 #[test]
 fn folding_changes_nothing() {
-    let (mut refuted, mut compared) = ([0; 16], 0);
-    let renewing = (1..=80).map(|seed| (seed, true));
-    for (seed, renews) in (1..=120).map(|seed| (seed, false)).chain(renewing) {
-        let text = random_script(seed, renews);
+    let (mut refuted, mut compared, mut rung) = ([0; 18], 0, 0);
+    let of = |seeds, besides: Besides| (1..=seeds).map(move |seed| (seed, besides));
+    for (seed, besides) in of(120, Besides::Nothing).chain(of(80, Besides::Renew)).chain(of(80, Besides::Listen)) {
+        let text = random_script(seed, besides);
         let (script, analysis) = analysed(&text);
         if analysis.histories > Some(Natural::from(40_000)) {
             continue;
         }
         compared += 1;
+        rung += usize::from(besides == Besides::Listen);
         let plain = enumerate(&script);
         assert_eq!(analysis.histories, Some(Natural::from(plain.histories)), "{text}");
         for (place, finding) in analysis.findings.iter().enumerate() {
@@ -238,8 +255,8 @@ fn folding_changes_nothing() {
             refuted[place] += usize::from(finding.verdict == Verdict::Refuted);
         }
     }
-    assert!(compared > 40, "{compared} scripts");
-    // The last claim but two is document 01's rule of nothing: it cannot be refuted. All others are, now and then.
+    assert!(compared > 40 && rung > 20, "{compared} scripts, {rung} with bells");
+    // Claim 13 is document 01's rule of nothing: it cannot be refuted. All others are, now and then.
     for (place, &times) in refuted.iter().enumerate() {
         assert_eq!(times == 0, place == 13, "claim {place} refuted {times} times");
     }

@@ -35,11 +35,15 @@ macro_rules! same {
 fn the_header_says_the_same() {
     let header = header();
     same!(header, WORD_CLOCK WORD_NEXT_ENTRY WORD_NEXT_TRANSACTION WORD_ENTRY_COUNT WORD_TRANSACTION_COUNT WORD_WAITING_COUNT);
-    same!(header, FOREVER WORDS MAX_ENTRIES MAX_TRANSACTIONS MAX_WAITING);
+    same!(header, WORD_NEXT_REGISTRATION WORD_REGISTRATION_COUNT);
+    same!(header, FOREVER WORDS MAX_ENTRIES MAX_TRANSACTIONS MAX_WAITING MAX_REGISTRATIONS);
     same!(header, ENTRIES_AT ENTRY_NUMBER ENTRY_FIELDS ENTRY_END ENTRY_PRIVATE_TO ENTRY_TAKEN_BY ENTRY_READERS);
     same!(header, ENTRY_WORDS TRANSACTIONS_AT TRANSACTION_NUMBER TRANSACTION_OWNER TRANSACTION_END TRANSACTION_SLOT);
     same!(header, TRANSACTION_WORDS WAITING_AT WAITING_PARTY WAITING_OPERATION WAITING_MASK WAITING_FIELDS);
     same!(header, WAITING_TRANSACTION WAITING_DEADLINE WAITING_WORDS BLANKS_UNIT WRITER_UNIT);
+    same!(header, REGISTRATIONS_AT REGISTRATION_NUMBER REGISTRATION_PARTY REGISTRATION_MASK REGISTRATION_FIELDS);
+    same!(header, REGISTRATION_END REGISTRATION_TOTAL REGISTRATION_WORDS);
+    assert_eq!(words::WORDS, 832);
     assert_eq!(header["RECORD_BYTES"], tray::record::RECORD_BYTES);
     assert_eq!(header["STEP_BYTES"], tray::record::STEP_BYTES);
 }
@@ -47,8 +51,9 @@ fn the_header_says_the_same() {
 #[test]
 fn the_empty_space() {
     let empty = tables(&Space::default().words);
-    assert_eq!((empty.clock, empty.next_entry, empty.next_transaction), (0, 1, 1));
-    assert!(empty.entries.is_empty() && empty.transactions.is_empty() && empty.look_ups.is_empty());
+    assert_eq!((empty.clock, empty.next_entry, empty.next_transaction, empty.next_registration), (0, 1, 1, 1));
+    assert!(empty.entries.is_empty() && empty.transactions.is_empty());
+    assert!(empty.look_ups.is_empty() && empty.registrations.is_empty());
 }
 
 #[test]
@@ -56,12 +61,14 @@ fn every_word_of_a_row() {
     let text = "party 1 write 7 1 40 9 lease 5\nparty 2 create lease 3\nparty 3 create lease forever\n\
                 party 3 read any timeout 0 in 2\nparty 2 read any timeout 0 in 1\nparty 4 write 8 2 41 10 lease forever\n\
                 party 3 take kind 8 timeout 0 in 2\nparty 3 write 9 0 0 0 lease 2 in 2\n\
+                party 6 notify kind 8 image 42 lease 4\n\
                 party 5 takeIfExists kind 8 side 2 image 41 place 10 timeout 7\ntick\n\
+                party 16 notify side 1 place 9 lease forever\n\
                 party 3 take kind 1 timeout forever in 2\nparty 4 write 8 blank 42 blank lease forever\n\
                 party 2 read image 42 timeout 0 in 1\n";
     let history = History::of(parse(text).unwrap().frames().cloned());
     let state = &history.steps.last().unwrap().after;
-    assert_eq!((state.clock, state.next_entry, state.next_transaction), (1, 5, 3));
+    assert_eq!((state.clock, state.next_entry, state.next_transaction, state.next_registration), (1, 5, 3, 3));
     let rows: Vec<_> = state.entries.iter().map(|e| (e.number, e.fields, e.end, e.private_to, e.taken_by)).collect();
     assert_eq!(rows[0], (1, [7, 1, 40, 9], End::At(5), 0, 0));
     assert_eq!(rows[1], (2, [8, 2, 41, 10], End::Never, 0, 2));
@@ -77,4 +84,8 @@ fn every_word_of_a_row() {
     assert_eq!(waits, [(5, 5, 0, End::At(7)), (3, 3, 2, End::Never)]);
     assert_eq!((state.look_ups[0].template.mask, state.look_ups[0].template.fields), (15, [8, 2, 41, 10]));
     assert_eq!((state.look_ups[1].template.mask, state.look_ups[1].template.fields), (1, [1, 0, 0, 0]));
+    let listening: Vec<_> = state.registrations.iter().map(|r| (r.number, r.party, r.end, r.total)).collect();
+    assert_eq!(listening, [(1, 6, End::At(4), 1), (2, 16, End::Never, 0)]);
+    let templates: Vec<_> = state.registrations.iter().map(|r| (r.template.mask, r.template.fields)).collect();
+    assert_eq!(templates, [(0b0101, [8, 0, 42, 0]), (0b1010, [0, 1, 0, 9])]);
 }

@@ -1,6 +1,7 @@
 //! The tool's own tests, in one program.
 
 mod bars;
+mod bells;
 mod blanks;
 mod common;
 mod draw;

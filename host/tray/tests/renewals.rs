@@ -56,8 +56,9 @@ fn odd_renewals_are_bytes() {
         assert!(show(&frame).starts_with("bytes 0b "), "{}", show(&frame));
         assert_eq!(assembled(&show(&frame)), frame);
     }
-    // 10 is no operation, nor is what comes after 11.
-    for operation in [0, 10, 12, 13, 255] {
+    // What comes after 11 is no operation; 10 is, with another length.
+    assert_eq!(Space::default().step(&[&[10], &renew(1, 1, 5)[1..]].concat()), 3);
+    for operation in [0, 12, 13, 255] {
         let frame = [&[operation], &renew(1, 1, 5)[1..]].concat();
         assert_eq!(Space::default().step(&frame), 2, "operation {operation}");
         assert!(show(&frame).starts_with("bytes "));

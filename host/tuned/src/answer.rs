@@ -14,6 +14,8 @@ pub const COMMITTED: u8 = 6;
 pub const ABORTED: u8 = 7;
 pub const EXCEPTION: u8 = 8;
 pub const TICKED: u8 = 9;
+const NOTIFIED: u8 = 10;
+const RUNG: u8 = 11;
 const RENEWED: u8 = 12;
 const REFUSED: u8 = 15;
 
@@ -57,6 +59,14 @@ impl<'a> Answers<'a> {
     #[inline(always)]
     pub fn found(&mut self, party: u8, transaction: u32, entry: u32, blanks: u8, fields: Fields) {
         self.put([FOUND, party, 0, blanks], transaction, entry, fields);
+    }
+
+    pub fn notified(&mut self, party: u8, registration: u32) {
+        self.put([NOTIFIED, party, 0, 0], 0, registration, [0; 4]);
+    }
+
+    pub fn rung(&mut self, party: u8, registration: u32, count: u32, total: u32) {
+        self.put([RUNG, party, 0, 0], 0, registration, [count, total, 0, 0]);
     }
 
     pub fn renewed(&mut self, renewal: &Renewal) {

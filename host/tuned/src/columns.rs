@@ -9,8 +9,9 @@
 //! A write takes the first free row, so rows are not by number: of several available entries the numbers are compared.
 
 use crate::answer::{Answers, ABORTED, COMMITTED, EXCEPTION, NOTHING, WAITING};
-use crate::common::{Common, NO_SLOT, SLOTS};
-use crate::frame::{asked, decode, decode_renewal, is_renewal, Fields, Long, Renewal, Request, FOREVER};
+use crate::common::{Common, BELLS, NO_SLOT, SLOTS};
+use crate::frame::{asked, decode, decode_notify, decode_renewal, is_notify, is_renewal};
+use crate::frame::{Fields, Long, Renewal, Request, FOREVER};
 use crate::tray;
 
 const ENTRIES: usize = 64;
@@ -61,6 +62,8 @@ fn equal(column: &Column, x: u32, blocks: usize) -> u64 {
 pub struct Space {
     common: Common,
     used: u64,
+    /// Rows that the latest write or commit has made public, till bells ring for them.
+    public: u64,
     /// Rows in use with blanks, and perhaps free ones.
     blank: u64,
     /// Private to some transaction; take-held by one.
@@ -70,9 +73,9 @@ pub struct Space {
     own: [u64; SLOTS + 1],
     held: [u64; SLOTS + 1],
     read: [u64; SLOTS + 1],
-    /// Bit p: party p waits.
+    /// Bit p: party p waits. BELLS: registrations live.
     waiting: u32,
-    /// Bit p: the look-up with which party p waits, or waited last, is of an IfExists kind.
+    /// Bit p: the look-up with which party p waits, or waited last, is of an IfExists kind. BELLS is always set.
     if_exists: u32,
     wait_count: usize,
     /// By arrival.
@@ -88,13 +91,14 @@ pub struct Space {
 impl crate::Space for Space {
     const NAME: &'static str = "the tuned columns";
 
-    fn beginning(clock: u32, next_entry: u32, next_transaction: u32) -> Space {
+    fn beginning(clock: u32, next: [u32; 3]) -> Space {
         let (takes, if_exists) = (false, false);
         let (mask, slot) = (0, NO_SLOT);
         let wait = LookUp { party: 0, takes, if_exists, mask, slot, transaction: 0, deadline: 0, fields: [0; 4] };
         Space {
-            common: Common::beginning(clock, next_entry, next_transaction),
+            common: Common::beginning(clock, next),
             used: 0,
+            public: 0,
             blank: 0,
             private: 0,
             taken: 0,
@@ -102,7 +106,7 @@ impl crate::Space for Space {
             held: [0; SLOTS + 1],
             read: [0; SLOTS + 1],
             waiting: 0,
-            if_exists: 0,
+            if_exists: BELLS,
             wait_count: 0,
             waits: [wait; WAITS],
             fields: [[0; ENTRIES]; 4],
@@ -117,15 +121,19 @@ impl crate::Space for Space {
     fn step(&mut self, frame: &[u8], answers: &mut [u8]) -> u64 {
         let Some(mut answers) = Answers::new(answers) else { return 65536 };
         if is_renewal(frame) {
-            return self.renewal(frame, answers);
+            return self.rare(frame, answers);
         }
         match decode(frame).and_then(|request| self.perform(request, &mut answers)) {
             Ok(()) => {
                 if self.waiting & self.if_exists != 0 {
                     self.close_waits(&mut answers);
+                    if self.waiting & BELLS != 0 {
+                        self.ring(&mut answers);
+                    }
                 }
                 answers.count as u64
             }
+            Err(2) if is_notify(frame) => self.rare(frame, answers),
             Err(number) => {
                 answers.refused(frame, number);
                 1 + 65536 * u64::from(number)
@@ -210,22 +218,23 @@ impl Space {
         if slot != NONE {
             self.private |= bit;
             self.own[slot] |= bit;
-        } else if self.wait_count != 0 {
-            self.serve(bit, answers);
+        } else {
+            self.public = bit;
+            if self.wait_count != 0 {
+                self.serve(bit, answers);
+            }
         }
         Ok(())
     }
 
-    /// A step by a renewal. Its own record is all of the answer: nobody is served, and a look-up that waits for a
-    /// conflicting entry keeps it, since what is renewed is private to nobody and not held.
+    /// A step by a notify or a renewal. Its own record is all of the answer: nobody is served, and a look-up that waits
+    /// for a conflicting entry keeps it, since what is renewed is private to nobody and not held.
     #[cold]
     #[inline(never)]
-    fn renewal(&mut self, frame: &[u8], mut answers: Answers) -> u64 {
-        match decode_renewal(frame).and_then(|renewal| self.renew(renewal)) {
-            Ok(renewal) => {
-                answers.renewed(&renewal);
-                1
-            }
+    fn rare(&mut self, frame: &[u8], mut answers: Answers) -> u64 {
+        let done = if is_notify(frame) { self.notify(frame, &mut answers) } else { self.renew(frame, &mut answers) };
+        match done {
+            Ok(()) => 1,
             Err(number) => {
                 answers.refused(frame, number);
                 1 + 65536 * u64::from(number)
@@ -233,9 +242,28 @@ impl Space {
         }
     }
 
-    /// Carries out the renewal, or gives the first of refusals 6, 18, 19, 20, 10 that applies and changes nothing. An
-    /// end that is put off leaves `next_end` as it is: then one tick too many is looked at.
-    fn renew(&mut self, renewal: Renewal) -> Result<Renewal, u8> {
+    /// Registers, or gives the first of refusals 3 to 6, 9, 10, 17, 13 that applies and changes nothing.
+    fn notify(&mut self, frame: &[u8], answers: &mut Answers) -> Result<(), u8> {
+        let long = decode_notify(frame)?;
+        self.check_party(long.party)?;
+        answers.notified(long.party, self.common.notify(&long)?);
+        self.waiting |= BELLS;
+        self.public = 0;
+        Ok(())
+    }
+
+    #[cold]
+    #[inline(never)]
+    fn end_registrations(&mut self) {
+        if self.common.end_registrations() {
+            self.waiting &= !BELLS;
+        }
+    }
+
+    /// Carries out the renewal, or gives the first of refusals 3 to 6, 18, 19, 20, 10 that applies and changes nothing.
+    /// An end that is put off leaves `next_end` as it is: then one tick too many is looked at.
+    fn renew(&mut self, frame: &[u8], answers: &mut Answers) -> Result<(), u8> {
+        let renewal = decode_renewal(frame)?;
         let Renewal { party, entry: number, lease } = renewal;
         self.check_party(party)?;
         let bit = self.used & equal(&self.numbers, number, ENTRIES / BLOCK);
@@ -256,7 +284,8 @@ impl Space {
             self.ends[row] = end;
             self.common.next_end = self.common.next_end.min(end);
         }
-        Ok(renewal)
+        answers.renewed(&renewal);
+        Ok(())
     }
 
     #[inline(always)]
@@ -393,9 +422,22 @@ impl Space {
         }
     }
 
+    /// The bells of a step while registrations live. What service has removed stands in its row still.
+    #[cold]
+    #[inline(never)]
+    fn ring(&mut self, answers: &mut Answers) {
+        for row in (0..ENTRIES).filter(|row| self.public >> row & 1 == 1) {
+            let fields = self.fields.each_ref().map(|column| column[row]);
+            self.common.bells.count(&fields, self.blanks[row]);
+        }
+        self.public = 0;
+        self.common.bells.ring(answers);
+    }
+
     /// Gives the rows set free.
     #[inline(always)]
     fn commit(&mut self, slot: usize) -> u64 {
+        self.public = self.own[slot];
         self.used &= !self.held[slot];
         let fresh = self.own[slot] | self.read[slot];
         self.end_transaction(slot);
@@ -457,6 +499,9 @@ impl Space {
             self.serve(fresh & self.used, answers);
             self.close_waits(answers);
             self.common.next_end = self.least_end();
+            if self.waiting & BELLS != 0 {
+                self.end_registrations();
+            }
         }
         Ok(())
     }

@@ -1,9 +1,14 @@
 //! What both layouts have: the clock, the next numbers, and the transactions in their slots.
 
 use crate::answer::{Answers, CREATED, TICKED};
-use crate::frame::{FOREVER, LAST_CLOCK};
+use crate::bells::Bells;
+use crate::frame::{Long, FOREVER, LAST_CLOCK};
 
 pub const SLOTS: usize = 8;
+
+/// In the bits of the parties that wait: registrations live. It is the bit of party 0, which there is not, and set in
+/// `if_exists`, so that one test tells a step whether IfExists look-ups wait or bells may ring.
+pub const BELLS: u32 = 1;
 
 /// The slot of no transaction.
 pub const NO_SLOT: u8 = 8;
@@ -13,12 +18,13 @@ pub struct Common {
     pub clock: u32,
     next_entry: u32,
     next_transaction: u32,
-    /// No entry, transaction or waiting look-up ends before this.
+    /// No entry, transaction, waiting look-up or registration ends before this.
     pub next_end: u32,
     /// The transactions by slot; number 0: the slot is free.
     pub numbers: [u32; SLOTS],
     pub ends: [u32; SLOTS],
     pub owners: [u8; SLOTS],
+    pub bells: Bells,
 }
 
 /// The words that equal x, as bits.
@@ -32,7 +38,7 @@ fn equal(words: &[u32; SLOTS], x: u32) -> u8 {
 }
 
 impl Common {
-    pub fn beginning(clock: u32, next_entry: u32, next_transaction: u32) -> Common {
+    pub fn beginning(clock: u32, [next_entry, next_transaction, next_registration]: [u32; 3]) -> Common {
         Common {
             clock,
             next_entry,
@@ -41,6 +47,7 @@ impl Common {
             numbers: [0; SLOTS],
             ends: [0; SLOTS],
             owners: [0; SLOTS],
+            bells: Bells::beginning(next_registration),
         }
     }
 
@@ -113,6 +120,23 @@ impl Common {
         self.next_end = self.next_end.min(end);
         answers.plain(CREATED, party, number);
         Ok(())
+    }
+
+    /// The number of a new registration; 9, 10, 17 and 13.
+    pub fn notify(&mut self, long: &Long) -> Result<u32, u8> {
+        if long.duration == 0 {
+            return Err(9);
+        }
+        let end = self.end_of(long.duration)?;
+        let number = self.bells.register(long, end)?;
+        self.next_end = self.next_end.min(end);
+        Ok(number)
+    }
+
+    /// Ends the registrations that end now; whether none is left.
+    pub fn end_registrations(&mut self) -> bool {
+        self.next_end = self.next_end.min(self.bells.end(self.clock));
+        self.bells.none_live()
     }
 
     /// Whether anything may end now; 10.

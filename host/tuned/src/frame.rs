@@ -43,7 +43,7 @@ fn party_fits(party: u8) -> bool {
     (1..=16).contains(&party)
 }
 
-/// A write's or a look-up's frame; refusals 4 and 5.
+/// A write's, look-up's or notify's frame; refusals 4 and 5.
 #[inline(always)]
 fn long(frame: &[u8; 28]) -> Result<Long, u8> {
     let long = Long {
@@ -77,6 +77,19 @@ fn short<const N: usize>(frame: &[u8; N]) -> Result<u8, u8> {
     Ok(frame[1])
 }
 
+pub fn is_notify(frame: &[u8]) -> bool {
+    frame.first() == Some(&10)
+}
+
+/// Of a frame that is one; refusals 3 to 5.
+pub fn decode_notify(frame: &[u8]) -> Result<Long, u8> {
+    let frame = <&[u8; 28]>::try_from(frame).map_err(|_| 3)?;
+    if word(frame, 4) != 0 {
+        return Err(4);
+    }
+    long(frame)
+}
+
 pub struct Renewal {
     pub party: u8,
     pub entry: u32,
@@ -94,8 +107,8 @@ pub fn decode_renewal(frame: &[u8]) -> Result<Renewal, u8> {
     Ok(Renewal { party: short(frame)?, entry: word(frame, 4), lease: word(frame, 8) })
 }
 
-/// Refusals 2 to 5, in document 01's order. A renewal, which is rare, gets 2 here and is decoded apart: so no other
-/// frame is slower for it.
+/// Refusals 2 to 5, in document 01's order. Notifies and renewals, which are rare, get 2 here and are decoded apart: so
+/// no other frame is slower for them.
 #[inline(always)]
 pub fn decode(frame: &[u8]) -> Result<Request, u8> {
     let Some(&operation) = frame.first() else { return Err(2) };

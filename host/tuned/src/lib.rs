@@ -3,14 +3,16 @@
 //!
 //! - `frame`: frames decoded, refusals 2 to 5
 //! - `answer`: answer records
-//! - `rows`, `columns`: spaces, who holds what, what each frame does, refusals 1, 6 to 13 and 18 to 20
+//! - `rows`, `columns`: spaces, who holds what, what each frame does, refusals 1, 6 to 13 and 17 to 20
 //! - `common`: what both have
+//! - `bells`: registrations
 //! - `tray`: trays, refusals 15 and 16
 //!
 //! Of several available entries the one with the lowest number is handed out (document 02).
 #![forbid(unsafe_code)]
 
 mod answer;
+mod bells;
 pub mod columns;
 mod common;
 mod frame;
@@ -21,8 +23,9 @@ mod tray;
 pub trait Space: Clone + PartialEq {
     const NAME: &'static str;
 
-    /// With 0, 1, 1 the empty space; else one like it, at this clock and with these next numbers.
-    fn beginning(clock: u32, next_entry: u32, next_transaction: u32) -> Self;
+    /// With 0 and [1, 1, 1] the empty space; else one like it, at this clock and with these next numbers of entries,
+    /// transactions and registrations.
+    fn beginning(clock: u32, next: [u32; 3]) -> Self;
 
     /// Carries out a frame: records + 65,536 × number.
     fn step(&mut self, frame: &[u8], answers: &mut [u8]) -> u64;

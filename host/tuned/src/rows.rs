@@ -10,8 +10,9 @@
 //! - The four fields are compared as two words of 64 bits.
 
 use crate::answer::{Answers, ABORTED, COMMITTED, EXCEPTION, NOTHING, WAITING};
-use crate::common::{Common, NO_SLOT, SLOTS};
-use crate::frame::{asked, decode, decode_renewal, is_renewal, Fields, Long, Renewal, Request, FOREVER};
+use crate::common::{Common, BELLS, NO_SLOT, SLOTS};
+use crate::frame::{asked, decode, decode_notify, decode_renewal, is_notify, is_renewal};
+use crate::frame::{Fields, Long, Renewal, Request, FOREVER};
 use crate::tray;
 
 const ENTRIES: usize = 64;
@@ -101,9 +102,9 @@ pub struct Space {
     common: Common,
     /// Bit p: the transaction in slot p has written, read or taken something.
     active: u8,
-    /// Bit p: party p waits.
+    /// Bit p: party p waits. BELLS: registrations live.
     waiting: u32,
-    /// Bit p: the look-up with which party p waits, or waited last, is of an IfExists kind.
+    /// Bit p: the look-up with which party p waits, or waited last, is of an IfExists kind. BELLS is always set.
     if_exists: u32,
     wait_count: usize,
     entry_count: usize,
@@ -116,7 +117,7 @@ pub struct Space {
 impl crate::Space for Space {
     const NAME: &'static str = "the tuned rows";
 
-    fn beginning(clock: u32, next_entry: u32, next_transaction: u32) -> Space {
+    fn beginning(clock: u32, next: [u32; 3]) -> Space {
         let (asks, pairs) = ([0; 2], [0; 2]);
         let (takes, if_exists) = (false, false);
         let (slot, bit, mask) = (NO_SLOT, 0, 0);
@@ -124,10 +125,10 @@ impl crate::Space for Space {
         let (private, taken) = (NO_SLOT, NO_SLOT);
         let entry = Entry { pairs, number: 0, end: 0, private, taken, readers: 0, blanks: 0, writer: 0 };
         Space {
-            common: Common::beginning(clock, next_entry, next_transaction),
+            common: Common::beginning(clock, next),
             active: 0,
             waiting: 0,
-            if_exists: 0,
+            if_exists: BELLS,
             wait_count: 0,
             entry_count: 0,
             waits: [wait; WAITS],
@@ -142,10 +143,13 @@ impl crate::Space for Space {
             Ok(()) => {
                 if self.waiting & self.if_exists != 0 {
                     self.close_waits(&mut answers);
+                    if self.waiting & BELLS != 0 {
+                        self.common.bells.ring(&mut answers);
+                    }
                 }
                 answers.count as u64
             }
-            Err(2) if is_renewal(frame) => self.renewal(frame, answers),
+            Err(2) if is_notify(frame) || is_renewal(frame) => self.rare(frame, answers),
             Err(number) => {
                 answers.refused(frame, number);
                 1 + 65536 * u64::from(number)
@@ -221,22 +225,23 @@ impl Space {
         self.entry_count = row + 1;
         self.common.next_end = self.common.next_end.min(end);
         self.active |= bit_of(private);
-        if private == NO_SLOT && self.wait_count != 0 {
+        if private == NO_SLOT && self.waiting != 0 {
+            if self.waiting & BELLS != 0 {
+                self.count_public(1 << row);
+            }
             self.serve(1 << row, answers);
         }
         Ok(())
     }
 
-    /// A step by a renewal. Its own record is all of the answer: nobody is served, and a look-up that waits for a
-    /// conflicting entry keeps it, since what is renewed is private to nobody and not held.
+    /// A step by a notify or a renewal. Its own record is all of the answer: nobody is served, and a look-up that waits
+    /// for a conflicting entry keeps it, since what is renewed is private to nobody and not held.
     #[cold]
     #[inline(never)]
-    fn renewal(&mut self, frame: &[u8], mut answers: Answers) -> u64 {
-        match decode_renewal(frame).and_then(|renewal| self.renew(renewal)) {
-            Ok(renewal) => {
-                answers.renewed(&renewal);
-                1
-            }
+    fn rare(&mut self, frame: &[u8], mut answers: Answers) -> u64 {
+        let done = if is_notify(frame) { self.notify(frame, &mut answers) } else { self.renew(frame, &mut answers) };
+        match done {
+            Ok(()) => 1,
             Err(number) => {
                 answers.refused(frame, number);
                 1 + 65536 * u64::from(number)
@@ -244,9 +249,27 @@ impl Space {
         }
     }
 
-    /// Carries out the renewal, or gives the first of refusals 6, 18, 19, 20, 10 that applies and changes nothing. An
-    /// end that is put off leaves `next_end` as it is: then one tick too many is looked at.
-    fn renew(&mut self, renewal: Renewal) -> Result<Renewal, u8> {
+    /// Registers, or gives the first of refusals 3 to 6, 9, 10, 17, 13 that applies and changes nothing.
+    fn notify(&mut self, frame: &[u8], answers: &mut Answers) -> Result<(), u8> {
+        let long = decode_notify(frame)?;
+        self.check_party(long.party)?;
+        answers.notified(long.party, self.common.notify(&long)?);
+        self.waiting |= BELLS;
+        Ok(())
+    }
+
+    #[cold]
+    #[inline(never)]
+    fn end_registrations(&mut self) {
+        if self.common.end_registrations() {
+            self.waiting &= !BELLS;
+        }
+    }
+
+    /// Carries out the renewal, or gives the first of refusals 3 to 6, 18, 19, 20, 10 that applies and changes nothing.
+    /// An end that is put off leaves `next_end` as it is: then one tick too many is looked at.
+    fn renew(&mut self, frame: &[u8], answers: &mut Answers) -> Result<(), u8> {
+        let renewal = decode_renewal(frame)?;
         let Renewal { party, entry: number, lease } = renewal;
         self.check_party(party)?;
         let row = self.rows().binary_search_by_key(&number, |entry| entry.number).map_err(|_| 18)?;
@@ -264,7 +287,8 @@ impl Space {
             self.entries[row & 63].end = end;
             self.common.next_end = self.common.next_end.min(end);
         }
-        Ok(renewal)
+        answers.renewed(&renewal);
+        Ok(())
     }
 
     #[inline(always)]
@@ -342,6 +366,9 @@ impl Space {
             return before;
         }
         self.active &= !bit;
+        if commits && self.waiting & BELLS != 0 {
+            self.count_public(self.private_to(slot));
+        }
         let (mut fresh, mut kept) = (0, 0);
         for row in 0..self.entry_count.min(ENTRIES) {
             let entry = self.entries[row];
@@ -360,6 +387,21 @@ impl Space {
         }
         self.entry_count = kept;
         fresh
+    }
+
+    /// The rows that a commit is about to make public.
+    fn private_to(&self, slot: u8) -> u64 {
+        self.rows().iter().enumerate().fold(0, |rows, (row, entry)| rows | u64::from(entry.private == slot) << row)
+    }
+
+    /// These rows become public while registrations live.
+    #[cold]
+    #[inline(never)]
+    fn count_public(&mut self, rows: u64) {
+        for row in (0..ENTRIES).filter(|row| rows >> row & 1 == 1) {
+            let entry = &self.entries[row];
+            self.common.bells.count(&entry.fields(), entry.blanks);
+        }
     }
 
     /// The waiting look-ups once, in order of arrival; each with an available entry among the fresh is answered found,
@@ -402,6 +444,9 @@ impl Space {
             self.close_waits(answers);
             for look_up in &self.waits[..self.wait_count.min(WAITS)] {
                 self.common.next_end = self.common.next_end.min(look_up.deadline);
+            }
+            if self.waiting & BELLS != 0 {
+                self.end_registrations();
             }
         }
         Ok(())

@@ -42,7 +42,7 @@ pub fn run<S: Space>(tray: &[u8], answers: &mut [u8]) -> u64 {
         Ok(count) => count,
         Err(number) => return number << 32,
     };
-    let mut space = S::beginning(0, 1, 1);
+    let mut space = S::beginning(0, [1; 3]);
     let mut records = 0;
     for place in 0..count {
         let rest = &mut answers[RECORD * records..];

@@ -2,6 +2,7 @@
 
 use super::blanks::Blanks;
 use super::hand_outs::{hand_outs, HandOut, FOUNDS};
+use super::registrations::Registrations;
 use super::renewals::Renewals;
 use super::situation::Step;
 use reference::answer::{Kind, Record};
@@ -11,11 +12,11 @@ use std::collections::BTreeMap;
 use tray::record::KINDS;
 use tray::tally::Tally;
 
-/// Document 02, T-04: "14 is never given out again". 17 is T-03's, which there is not.
-const NEVER_GIVEN: [usize; 2] = [14, 17];
+/// Document 02, T-04: "14 is never given out again".
+const NEVER_GIVEN: usize = 14;
 const LAST_NUMBER: usize = 20;
 
-const SITUATIONS: [&str; 82] = [
+const SITUATIONS: [&str; 135] = [
     "64 entries stored",
     "8 transactions live",
     "16 look-ups waiting",
@@ -98,11 +99,64 @@ const SITUATIONS: [&str; 82] = [
     "renewal refused: mask",
     "renewal refused: byte 3",
     "renewal refused: party",
+    "notified for good",
+    "notified up to the last clock",
+    "notified while look-ups wait",
+    "notified after one has ended",
+    "notified like one that lives",
+    "8 registrations live",
+    "notify refused: length",
+    "notify refused: a transaction",
+    "notify refused: a mask above 15",
+    "notify refused: a field not asked for",
+    "notify refused: byte 3",
+    "notify refused: party",
+    "notify of a party that waits",
+    "notify with lease 0",
+    "notify with lease 0, 8 live",
+    "notify too late",
+    "notify too late, 8 live",
+    "notify with 8 live",
+    "notify with 8 live, numbers used up",
+    "notify, numbers used up",
+    "bell by a write",
+    "bell by a commit",
+    "bell with a count above 1",
+    "bell with a total above its count",
+    "bells of several registrations",
+    "bells of 8 registrations",
+    "several bells to one party",
+    "bell to the party of the frame",
+    "bell to a party that waits",
+    "bell behind a found",
+    "bell behind a nothing",
+    "24 records in a step, 8 of them bells",
+    "bell by a write, taken in the step",
+    "bell by a commit, taken in the step",
+    "bell for blanks",
+    "bell of one for good",
+    "bell before the tick that ends it",
+    "silent: matches none",
+    "silent: 0 asked of a blank",
+    "silent: lease 0",
+    "silent: written inside",
+    "silent: put back by an abort",
+    "silent: put back by an exception",
+    "silent: aborted",
+    "silent: renewed",
+    "registration ended",
+    "registrations ended together",
+    "registration ended, a later one left",
+    "registration ended, an earlier one left",
+    "registration ended with a transaction",
+    "silent: ended before",
+    "silent: taken again before the commit",
+    "silent: lease over before the commit",
 ];
 
 /// The refusals' numbers.
 fn given() -> impl Iterator<Item = usize> {
-    (1..=LAST_NUMBER).filter(|number| !NEVER_GIVEN.contains(number))
+    (1..=LAST_NUMBER).filter(|&number| number != NEVER_GIVEN)
 }
 
 #[derive(Default)]
@@ -118,6 +172,7 @@ pub struct Coverage {
     /// Of the tray or history that is compared.
     blanks: Blanks,
     renewals: Renewals,
+    registrations: Registrations,
     /// Of all trays and histories, and those waiting at their ends.
     pub sums: Tally,
     pub waiting: usize,
@@ -140,6 +195,7 @@ impl Coverage {
         self.waiting += waiting;
         self.blanks = Blanks::default();
         self.renewals = Renewals::default();
+        self.registrations = Registrations::default();
     }
 
     /// A frame has been compared.
@@ -154,7 +210,8 @@ impl Coverage {
         let step = Step { before, frame, records, after };
         let blanks = self.blanks.step(&step);
         let renewals = self.renewals.step(&step);
-        for (situation, times) in blanks.into_iter().chain(renewals) {
+        let registrations = self.registrations.step(&step);
+        for (situation, times) in blanks.into_iter().chain(renewals).chain(registrations) {
             self.note(situation, times);
         }
         if own.is(Kind::Refused) {

@@ -46,11 +46,12 @@ fn shown(frames: &[Vec<u8>]) -> String {
 }
 
 fn before(at: Beginning) -> String {
-    let Beginning { clock, next_entry, next_transaction } = at;
+    let Beginning { clock, next_entry, next_transaction, next_registration } = at;
     if at == Beginning::EMPTY {
         return String::new();
     }
-    format!("the history begins at clock {clock}, next entry {next_entry}, next transaction {next_transaction}; ")
+    let next = format!("entry {next_entry}, transaction {next_transaction}, registration {next_registration}");
+    format!("the history begins at clock {clock}; next are {next}; ")
 }
 
 /// Fewer frames, each of them needed, that show a discrepancy, if the last gets an answers area of this length; none if

@@ -1,18 +1,21 @@
 //! A space and the reference, led through the same histories and trays; everything that can be seen is compared, byte
 //! for byte. The reference is told nothing of the space's answers.
 
+mod bells;
 mod blanks;
 mod buffer;
 mod coverage;
 mod discrepancy;
 mod hand_outs;
 mod pair;
+mod registrations;
 mod renewals;
 mod situation;
 mod steps;
 mod tally;
 mod trays;
 
+pub use bells::Bells;
 pub use coverage::Coverage;
 pub use discrepancy::Discrepancy;
 pub use pair::replay;

@@ -1,5 +1,6 @@
 //! A space and the reference, side by side, frame by frame.
 
+use super::bells::Bells;
 use super::buffer::{both, Buffer};
 use super::tally::Sums;
 use crate::random::Random;
@@ -8,18 +9,19 @@ use reference::answer::{Record, STEP};
 use reference::serial::{committed, SerialRun};
 use reference::space::{Outcome, Space};
 
-/// Both, after the same frames, with the serial run and the sums of these.
+/// Both, after the same frames, with the serial run, the sums and the bells of these.
 pub struct Pair<S> {
     subject: S,
     pub space: Space,
     run: SerialRun,
     pub sums: Sums,
+    bells: Bells,
 }
 
 impl<S: Subject> Pair<S> {
     pub fn begin(at: Beginning) -> Result<Pair<S>, String> {
         let (subject, space, run) = (S::begin(at), at.of_reference(), SerialRun::new(at.clock));
-        let pair = Pair { subject, space, run, sums: Sums::default() };
+        let pair = Pair { subject, space, run, sums: Sums::default(), bells: Bells::new(at.clock) };
         match pair.difference() {
             Some(why) => Err(format!("before the first frame: {why}")),
             None => Ok(pair),
@@ -60,22 +62,24 @@ impl<S: Subject> Pair<S> {
     }
 
     /// The sums, if they do not add up after this frame with those that wait by the space's own count; by the
-    /// reference's, if it shows none.
+    /// reference's, if it shows none. Else the bells, if the history has others.
     fn unexplained(&mut self, frame: &[u8], written: &[Record]) -> Option<String> {
         self.sums.feed(frame, written);
+        let bells = self.bells.feed(frame, written);
         let waiting = self.subject.waiting().unwrap_or(self.space.waiting.len());
-        self.sums.check(waiting).err()
+        self.sums.check(waiting).and(bells).err()
     }
 
     /// The first thing in which the tables differ, if the space shows its own.
     fn difference(&self) -> Option<String> {
         let ours = self.subject.tables()?;
         let theirs = in_order(&self.space);
-        let counters = |space: &Space| [space.clock, space.next_entry, space.next_transaction];
+        let counters = |space: &Space| [space.clock, space.next_entry, space.next_transaction, space.next_registration];
         differ_in::<S, _>("clock or next numbers", &counters(&ours), &counters(&theirs))
             .or_else(|| differ_in::<S, _>("entries", &ours.entries, &theirs.entries))
             .or_else(|| differ_in::<S, _>("transactions", &ours.transactions, &theirs.transactions))
             .or_else(|| differ_in::<S, _>("waiting look-ups", &ours.waiting, &theirs.waiting))
+            .or_else(|| differ_in::<S, _>("registrations", &ours.registrations, &theirs.registrations))
     }
 }
 

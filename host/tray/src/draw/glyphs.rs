@@ -1,7 +1,7 @@
 //! The signs of the drawing, each around a point; the legend shows the same.
 
 use super::metrics::{hue, INK};
-use super::svg::{n, path, rect};
+use super::svg::{line, n, path, rect};
 
 const ROUND: &str = "stroke-linejoin=\"round\" stroke-linecap=\"round\"";
 
@@ -31,6 +31,38 @@ pub fn write(x: f64, y: f64) -> String {
 /// A lease set anew: in the party's lane, and on the entry's bar.
 pub fn renewed(x: f64, y: f64) -> String {
     hourglass(x, y, "#fff", INK)
+}
+
+/// A bell, hollow: a registration begins.
+pub fn notified(x: f64, y: f64, party: u8) -> String {
+    bell(x, y, "#fff", &hue(party, 1.0))
+}
+
+/// A bell that rings, with how many are new.
+pub fn rung(x: f64, y: f64, party: u8, new: u32) -> String {
+    let colour = hue(party, 1.0);
+    let size = if new > 9 { 9.0 } else { 11.0 };
+    bell(x, y, &colour, &colour) + &letter(x, y + 3.6, size, "#fff", "", &new.to_string())
+}
+
+fn bell(x: f64, y: f64, fill: &str, stroke: &str) -> String {
+    let rim = n(y + 7.0);
+    let body = format!("M{} {rim}l2.5 -3.5v-6.5a7.5 8 0 0 1 15 0v6.5l2.5 3.5Z", n(x - 10.0));
+    let clapper = format!("M{} {rim}a2.5 3.5 0 0 0 5 0Z", n(x - 2.5));
+    path(&clapper, &format!("fill=\"{stroke}\" stroke=\"{stroke}\" stroke-width=\"1\" {ROUND}"))
+        + &path(&body, &format!("fill=\"{fill}\" stroke=\"{stroke}\" stroke-width=\"1.6\" {ROUND}"))
+}
+
+/// Where a registration ends, at this point of its bar.
+pub fn unregistered(x: f64, y: f64, party: u8) -> String {
+    let colour = hue(party, 1.0);
+    line(x, y - 8.0, x, y + 8.0, &format!("stroke=\"{colour}\" stroke-width=\"2.4\""))
+        + &hourglass(x + 9.0, y, &colour, &colour)
+}
+
+/// A registration's bar: slim, in its party's hue.
+pub fn registration(left: f64, right: f64, y: f64, party: u8) -> String {
+    rect(left, y - 3.0, right - left, 6.0, &format!("fill=\"{}\"", hue(party, 0.45)))
 }
 
 /// A look-up: a circle reads, a square takes; filled it has found, slashed it has nothing, hollow it waits.

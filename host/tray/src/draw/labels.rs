@@ -9,8 +9,8 @@ use crate::history::History;
 use crate::oracle::{Matcher, Sought, Standing};
 use crate::prose::{bars_renewal, lease_words, withdraws};
 use crate::record::{
-    kind_of, refusal_label, Record, ABORTED, COMMITTED, CREATED, EXCEPTION, FOUND, NOTHING, REFUSED, RENEWED, WAITING,
-    WRITTEN,
+    kind_of, refusal_label, Record, ABORTED, COMMITTED, CREATED, EXCEPTION, FOUND, NOTHING, NOTIFIED, REFUSED, RENEWED,
+    RUNG, WAITING, WRITTEN,
 };
 use crate::words::{End, Tables, Template, Values};
 
@@ -184,6 +184,8 @@ fn word(mark: &Mark, history: &History) -> String {
     match record.kind {
         WRITTEN | FOUND | RENEWED => format!("{name} E{}", record.entry),
         CREATED => format!("{name} T{}", record.transaction),
+        NOTIFIED => format!("{name} R{}", record.entry),
+        RUNG => format!("{name}: {} new", record.bell().0),
         REFUSED => format!("{name} {}", record.refusal),
         WAITING => {
             let look_up = history.steps[mark.at.frame].after.look_up(record.party);
@@ -217,6 +219,11 @@ pub fn labels(history: &History, lives: &Lives, mark: &Mark, matcher: &mut Match
         RENEWED if history.steps[mark.at.frame].after.entry(mark.record.entry).is_none() => {
             (format!("E{} removed", mark.record.entry), Vec::new())
         }
+        NOTIFIED => {
+            let registration = history.steps[mark.at.frame].after.registration(mark.record.entry);
+            (registration.map_or(String::new(), |registration| lease_words(registration.end)), Vec::new())
+        }
+        RUNG => (format!("{} so far", mark.record.bell().1), Vec::new()),
         FOUND => (oldest_of(history, mark, matcher), Vec::new()),
         _ => (String::new(), Vec::new()),
     };

@@ -1,13 +1,13 @@
 //! Where everything stands: columns, lanes and their lines, rows of entries, and the cut into rows as of printed music.
 
 use super::labels::{labels, Labels};
-use super::lives::{EntryLife, Gone, Lives, Mark, Moment, TransactionLife};
+use super::lives::{EntryLife, Gone, Lives, Mark, Moment, RegistrationLife, TransactionLife};
 use super::metrics::{bold_width, width, AHEAD, COLUMN, GUTTER, MARK, PAD, SLOT};
 use crate::frame::short_fields;
 use crate::history::History;
 use crate::oracle::Matcher;
 use crate::prose::lease_words;
-use crate::record::{NOTHING, REFUSED, TICKED, WRITTEN};
+use crate::record::{FOUND, NOTHING, NOTIFIED, REFUSED, RUNG, TICKED, WRITTEN};
 use crate::words::End;
 use std::collections::HashMap;
 use std::ops::RangeInclusive;
@@ -28,6 +28,9 @@ const CLOCK_ROOM: f64 = 12.0;
 const NAMES_AGAIN: f64 = 20.0;
 /// No label reaches farther to the left of its mark.
 const FARTHEST_LEFT: f64 = 400.0;
+/// Behind the end of a registration, with the sign between.
+pub const REGISTRATION_ENDED: &str = "expired";
+pub const REGISTRATION_ENDED_AT: f64 = 18.0;
 /// A row with more of its width empty than this looks lost.
 const SCANTY: f64 = 0.55;
 
@@ -74,6 +77,14 @@ pub struct Track {
     pub line: usize,
 }
 
+/// A registration, on a line of its lane below what the party does meanwhile.
+#[derive(Clone, Debug)]
+pub struct Registered {
+    pub life: RegistrationLife,
+    pub lane: usize,
+    pub line: usize,
+}
+
 #[derive(Clone, Debug)]
 pub struct Lane {
     pub party: u8,
@@ -88,6 +99,7 @@ pub struct Layout {
     pub placed: Vec<Placed>,
     pub bars: Vec<Bar>,
     pub tracks: Vec<Track>,
+    pub registered: Vec<Registered>,
     pub lanes: Vec<Lane>,
     pub rows: usize,
     pub compact: bool,
@@ -113,7 +125,8 @@ fn quiet_tick(history: &History, lives: &Lives, frame: usize) -> bool {
     let (before, after) = (history.before(frame), &history.steps[frame].after);
     let same = before.entries == after.entries
         && before.transactions == after.transactions
-        && before.look_ups == after.look_ups;
+        && before.look_ups == after.look_ups
+        && before.registrations == after.registrations;
     let left_over = |lease: End| lease == End::At(after.clock);
     same && !lives.entries.iter().any(|life| left_over(life.last_lease()))
         && !lives.transactions.iter().any(|life| left_over(life.lease))
@@ -214,12 +227,14 @@ impl Layout {
             placed: vec![],
             bars: vec![],
             tracks: vec![],
+            registered: vec![],
             lanes: vec![],
             rows: 0,
             compact: false,
         };
         layout.make_lanes();
         layout.make_tracks();
+        layout.make_registered();
         layout.place_marks(history);
         layout.make_bars();
         layout.place_columns();
@@ -268,7 +283,9 @@ impl Layout {
     /// The columns in which something of the party happens outside its transactions.
     fn outside(&self, party: u8) -> Vec<(usize, usize)> {
         let mine = |transaction: u32| self.lives.transaction(transaction).is_some_and(|life| life.party == party);
+        let listens = |mark: &Mark| matches!(mark.record.kind, NOTIFIED | RUNG);
         let marks = self.lives.marks.iter().filter(|mark| mark.record.party == party && !mine(mark.transaction));
+        let marks = marks.filter(|mark| !listens(mark));
         let mut spans: Vec<(usize, usize)> = marks.map(|mark| (self.column(mark.at), self.column(mark.at))).collect();
         let waits = self.lives.waits.iter().filter(|wait| wait.look_up.party == party && wait.look_up.transaction == 0);
         spans.extend(waits.map(|wait| {
@@ -297,6 +314,30 @@ impl Layout {
         }
     }
 
+    /// Each on the first line, below those of transactions, on which none has its bar, or its end just before.
+    fn make_registered(&mut self) {
+        let first: Vec<usize> = self.lanes.iter().map(|lane| lane.lines).collect();
+        for life in self.lives.registrations.clone() {
+            let (lane, begin) = (self.lane(life.registration.party), self.column(life.begin));
+            let reaches = |other: &Registered| other.life.end.is_none_or(|end| self.column(end) + 1 >= begin);
+            let taken = |line: usize| {
+                self.registered.iter().any(|other| other.lane == lane && other.line == line && reaches(other))
+            };
+            let line = (first[lane]..).find(|&line| !taken(line)).unwrap_or(first[lane]);
+            self.lanes[lane].lines = self.lanes[lane].lines.max(line + 1);
+            self.registered.push(Registered { life, lane, line });
+        }
+    }
+
+    /// The line on which a mark stands.
+    fn mark_line(&self, mark: &Mark) -> usize {
+        let its = |other: &&Registered| other.life.registration.number == mark.record.entry;
+        match mark.record.kind {
+            NOTIFIED | RUNG => self.registered.iter().find(its).map_or(0, |registered| registered.line),
+            _ => self.line(mark.transaction, mark.record.party),
+        }
+    }
+
     /// The line of a lane on which something in this transaction of the party stands.
     pub fn line(&self, transaction: u32, party: u8) -> usize {
         let its = |track: &&Track| track.life.number == transaction && track.life.party == party;
@@ -320,9 +361,10 @@ impl Layout {
                 }
                 labels.above[0] = format!("{times} x {}", labels.above[0]);
             }
-            let lane = self.lane(mark.record.party);
-            let line = self.line(mark.transaction, mark.record.party);
-            let ends_here = mark.at.slot == 0 && (of.slots > 1 || of.tick);
+            let (lane, line) = (self.lane(mark.record.party), self.mark_line(&mark));
+            let mut later = history.steps[mark.at.frame].records.iter().skip(1);
+            let hands_out = later.any(|record| matches!(record.kind, FOUND | NOTHING));
+            let ends_here = mark.at.slot == 0 && (hands_out || of.tick);
             self.placed.push(Placed { mark, labels, column, lane, line, ends_here });
         }
     }
@@ -371,7 +413,10 @@ impl Layout {
 
     fn words_at(&self, column: usize) -> impl Iterator<Item = f64> + '_ {
         let ended = self.bars.iter().filter(move |bar| bar.life.end.is_some_and(|(end, _)| self.column(end) == column));
-        ended.map(|bar| bar.life.end.map_or(0.0, |(end, _)| SLOT * end.slot as f64) + bar.end_width())
+        let ended = ended.map(|bar| bar.life.end.map_or(0.0, |(end, _)| SLOT * end.slot as f64) + bar.end_width());
+        let lapses = move |registered: &&Registered| registered.life.end.is_some_and(|end| self.column(end) == column);
+        let word = REGISTRATION_ENDED_AT + bold_width(REGISTRATION_ENDED);
+        ended.chain(self.registered.iter().filter(lapses).map(move |_| word))
     }
 
     /// From left to right, each column as near as its labels allow.
@@ -459,7 +504,9 @@ impl Layout {
         let entries = self.lives.entries.iter().filter(|life| life.is_stored() && life.end.is_none());
         let transactions = self.lives.transactions.iter().filter(|life| life.end.is_none());
         let waits = self.lives.waits.iter().filter(|wait| wait.end.is_none());
+        let registrations = self.lives.registrations.iter().filter(|life| life.end.is_none());
         let leases = entries.map(EntryLife::last_lease).chain(transactions.map(|life| life.lease));
+        let leases = leases.chain(registrations.map(|life| life.registration.end));
         leases.chain(waits.map(|wait| wait.look_up.deadline))
     }
 
@@ -491,8 +538,10 @@ impl Layout {
             .filter(|bar| bar.life.is_stored() && divides(bar.life.begin, bar.life.end.map(|(end, _)| end)));
         let tracks = self.tracks.iter().filter(|track| divides(track.life.begin, track.life.end.map(|(end, _)| end)));
         let waits = self.lives.waits.iter().filter(|wait| divides(wait.begin, wait.end.map(|(end, _)| end)));
+        let registered =
+            self.registered.iter().filter(|registered| divides(registered.life.begin, registered.life.end));
         // Where many are divided anyway, a few more do not matter.
-        let divided = (entries.count() + tracks.count() + waits.count()).min(MOST_DIVIDED);
+        let divided = (entries.count() + tracks.count() + waits.count() + registered.count()).min(MOST_DIVIDED);
         0.12 * divided as f64 + if self.columns[column].tick { 0.0 } else { 0.03 }
     }
 

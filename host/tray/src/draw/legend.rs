@@ -90,6 +90,19 @@ fn transactions() -> String {
     .concat()
 }
 
+fn registrations() -> String {
+    let listens = glyphs::registration(12.0, 60.0, 13.0, 2) + &glyphs::notified(12.0, 13.0, 2);
+    let rings = glyphs::registration(1.0, 60.0, 13.0, 2) + &glyphs::rung(30.0, 13.0, 2, 3);
+    let ends = glyphs::registration(1.0, 24.0, 13.0, 2) + &glyphs::unregistered(24.0, 13.0, 2);
+    [
+        head("Registrations, below what their party does meanwhile"),
+        item(&sign(62, 26, &listens), "notify: from here on its bell rings"),
+        item(&sign(62, 26, &rings), "rung: this step has made so many matching entries public"),
+        item(&sign(40, 26, &ends), "ends: its lease has ended (expired)"),
+    ]
+    .concat()
+}
+
 fn requests() -> String {
     let look_up = |takes, if_exists, filled, slashed| {
         sign(22, 22, &glyphs::look_up(11.0, 11.0, takes, if_exists, filled, slashed))
@@ -120,10 +133,11 @@ fn requests() -> String {
 
 pub fn legend() -> String {
     format!(
-        "<svg xmlns=\"http://www.w3.org/2000/svg\" width=\"0\" height=\"0\" style=\"position:absolute\" aria-hidden=\"true\">{}</svg><div class=\"legend\" role=\"note\" aria-label=\"Legend\">{}{}{}</div>\n",
+        "<svg xmlns=\"http://www.w3.org/2000/svg\" width=\"0\" height=\"0\" style=\"position:absolute\" aria-hidden=\"true\">{}</svg><div class=\"legend\" role=\"note\" aria-label=\"Legend\">{}{}{}{}</div>\n",
         hatches("l"),
         entries(),
         transactions(),
+        registrations(),
         requests()
     )
 }

@@ -1,16 +1,18 @@
-//! What a history is made of, for drawing: entries, transactions, waits and marks, each from a moment to a moment.
+//! What a history is made of, for drawing: entries, transactions, waits, registrations and marks, each from a moment to
+//! a moment.
 //!
 //! All of it is read off the tables before and after each frame and its records; nothing is decided here.
 
 use crate::frame::Class;
 use crate::history::{History, Step};
 use crate::record::{
-    Record, ABORTED, COMMITTED, CREATED, EXCEPTION, FOUND, NOTHING, REFUSED, RENEWED, TICKED, WAITING, WRITTEN,
+    Record, ABORTED, COMMITTED, CREATED, EXCEPTION, FOUND, NOTHING, NOTIFIED, REFUSED, RENEWED, RUNG, TICKED, WAITING,
+    WRITTEN,
 };
-use crate::words::{End, Entry, LookUp, Tables, Values};
+use crate::words::{End, Entry, LookUp, Registration, Tables, Values};
 
 /// A frame, counted from 0, and a slot in it: slot 0 is the frame's own record, its exceptions and what expires; each
-/// later found or nothing of the step is one slot further.
+/// later found or nothing of the step is one slot further, and all its bells together are one behind these.
 #[derive(Clone, Copy, PartialEq, Eq, PartialOrd, Ord, Hash, Debug)]
 pub struct Moment {
     pub frame: usize,
@@ -89,6 +91,17 @@ pub struct Wait {
     pub end: Option<(Moment, u8)>,
 }
 
+#[derive(Clone, PartialEq, Eq, Debug)]
+pub struct RegistrationLife {
+    /// As it was made.
+    pub registration: Registration,
+    pub begin: Moment,
+    /// Its bells.
+    pub bells: Vec<Moment>,
+    /// The tick that ended it.
+    pub end: Option<Moment>,
+}
+
 /// A record in its party's lane.
 #[derive(Clone, PartialEq, Eq, Debug)]
 pub struct Mark {
@@ -109,6 +122,7 @@ pub struct Lives {
     pub entries: Vec<EntryLife>,
     pub transactions: Vec<TransactionLife>,
     pub waits: Vec<Wait>,
+    pub registrations: Vec<RegistrationLife>,
     pub marks: Vec<Mark>,
     /// Slots of each frame.
     pub slots: Vec<usize>,
@@ -117,12 +131,13 @@ pub struct Lives {
 /// The slot of each record of a step.
 pub fn slots(step: &Step) -> Vec<usize> {
     let mut last = 0;
-    let slot = |(place, record): (usize, &Record)| {
-        if place > 0 && matches!(record.kind, FOUND | NOTHING) {
+    let slot = |(place, record): (usize, &Record)| match record.kind {
+        FOUND | NOTHING if place > 0 => {
             last += 1;
-            return last;
+            last
         }
-        0
+        RUNG => last + 1,
+        _ => 0,
     };
     step.records.iter().enumerate().map(slot).collect()
 }
@@ -140,11 +155,14 @@ fn takes(class: Option<Class>) -> bool {
     matches!(class, Some(Class::LookUp { takes: true, .. }))
 }
 
-/// The class of the look-up (or frame) that a record answers.
+/// The class of the look-up (or frame) that a record answers; a bell answers none.
 fn class_of(history: &History, frame: usize, place: usize) -> Option<Class> {
     let step = &history.steps[frame];
     if place == 0 {
         return step.request().map(|request| request.operation.class);
+    }
+    if step.records[place].kind == RUNG {
+        return None;
     }
     let look_up = history.before(frame).look_up(step.records[place].party)?;
     crate::frame::operation_of(look_up.operation).map(|operation| operation.class)
@@ -215,7 +233,8 @@ pub fn entries_by_slot(history: &History, frame: usize) -> Vec<Vec<Entry>> {
     let mut entries = after_slot_0(history, frame);
     let mut by_slot = vec![entries.clone()];
     for (place, slot) in slots(step).into_iter().enumerate() {
-        if slot > 0 {
+        // Bells share a slot.
+        if slot == by_slot.len() {
             let record = &step.records[place];
             if record.kind == FOUND {
                 apply_found(&mut entries, record, takes(class_of(history, frame, place)));
@@ -254,6 +273,7 @@ impl Lives {
                 lives.hold(history, Moment { frame, slot }, &entries);
             }
             lives.records(history, frame);
+            lives.unregister(history, frame);
         }
         lives
     }
@@ -313,6 +333,8 @@ impl Lives {
                 COMMITTED | ABORTED | EXCEPTION => self.end(at, &record),
                 WAITING => self.wait(step, at, &record),
                 RENEWED => self.renew(history, at, &record),
+                NOTIFIED => self.register(step, at, &record),
+                RUNG => self.ring(at, &record),
                 FOUND | NOTHING if slot > 0 => self.close(at, &record),
                 _ => {}
             }
@@ -362,6 +384,29 @@ impl Lives {
         let open = |wait: &&mut Wait| wait.end.is_none() && wait.look_up.party == record.party;
         if let Some(wait) = self.waits.iter_mut().find(open) {
             wait.end = Some((at, record.kind));
+        }
+    }
+
+    fn register(&mut self, step: &Step, at: Moment, record: &Record) {
+        if let Some(&registration) = step.after.registration(record.entry) {
+            self.registrations.push(RegistrationLife { registration, begin: at, bells: vec![], end: None });
+        }
+    }
+
+    fn ring(&mut self, at: Moment, record: &Record) {
+        let rings = |life: &&mut RegistrationLife| life.registration.number == record.entry;
+        if let Some(life) = self.registrations.iter_mut().find(rings) {
+            life.bells.push(at);
+        }
+    }
+
+    /// Registrations end without a record.
+    fn unregister(&mut self, history: &History, frame: usize) {
+        let after = &history.steps[frame].after;
+        for life in self.registrations.iter_mut().filter(|life| life.end.is_none()) {
+            if after.registration(life.registration.number).is_none() {
+                life.end = Some(Moment { frame, slot: 0 });
+            }
         }
     }
 

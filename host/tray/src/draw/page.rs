@@ -4,12 +4,12 @@ use super::legend::legend;
 use super::metrics::{NARROW, WIDE};
 use super::svg::escape;
 use super::{rows_html, Style, CSS};
-use crate::frame::plain_fields;
+use crate::frame::{plain_fields, template_text};
 use crate::history::History;
 use crate::oracle::Matcher;
 use crate::prose::{holds_words, lease_words, look_up_words, told, why_record};
 use crate::waiting::Account;
-use crate::words::{Entry, Tables};
+use crate::words::{Entry, Registration, Tables};
 
 pub const PAGE_CSS: &str = include_str!("page.css");
 
@@ -24,7 +24,7 @@ pub fn html(title: &str, more_css: &str, body: &str) -> String {
 /// A line of the tables: what it is of, how that is held in short, and all about it.
 #[derive(Clone, PartialEq, Eq)]
 struct Row {
-    /// "E", "T" or "party "
+    /// "E", "T", "party " or "R"
     of: &'static str,
     number: u32,
     short: String,
@@ -61,6 +61,12 @@ fn entry_row(entry: &Entry, tables: &Tables) -> Row {
     Row { of: "E", number: entry.number, short: holds, full }
 }
 
+fn registration_row(registration: &Registration) -> Row {
+    let Registration { number, party, template, end, total } = registration;
+    let full = format!("of party {party}, {}, {}, {total} so far", template_text(template), lease_words(*end));
+    Row { of: "R", number: *number, short: String::new(), full }
+}
+
 fn state_rows(tables: &Tables) -> Vec<Row> {
     let mut rows: Vec<Row> = tables.entries.iter().map(|entry| entry_row(entry, tables)).collect();
     rows.extend(tables.transactions.iter().map(|transaction| Row {
@@ -75,6 +81,7 @@ fn state_rows(tables: &Tables) -> Vec<Row> {
         short: "waiting".to_string(),
         full: look_up_words(look_up).replacen(&format!("party {} ", look_up.party), "", 1),
     }));
+    rows.extend(tables.registrations.iter().map(registration_row));
     rows
 }
 

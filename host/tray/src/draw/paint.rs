@@ -2,15 +2,15 @@
 
 use super::glyphs;
 use super::labels::look_up;
-use super::layout::{clock_label, Bar, Layout, Placed, System};
-use super::lives::{Gone, Hold, Moment, TransactionLife, Wait};
+use super::layout::{clock_label, Bar, Layout, Placed, Registered, System, REGISTRATION_ENDED, REGISTRATION_ENDED_AT};
+use super::lives::{Gone, Hold, Moment, RegistrationLife, TransactionLife, Wait};
 use super::metrics::*;
 use super::svg::{attributes, group, line, n, path, rect, text};
 use crate::frame::{end_text, named_fields, operation_of, short_fields, template_text};
 use crate::history::History;
 use crate::prose::{lease_words, told};
-use crate::record::{ABORTED, COMMITTED, EXCEPTION, FOUND, NOTHING, REFUSED, RENEWED, WRITTEN};
-use crate::words::End;
+use crate::record::{ABORTED, COMMITTED, EXCEPTION, FOUND, NOTHING, NOTIFIED, REFUSED, RENEWED, RUNG, WRITTEN};
+use crate::words::{End, Registration};
 
 /// A column that is pointed at, and the caption below it.
 #[derive(Clone, Debug)]
@@ -125,6 +125,17 @@ fn track_title(life: &TransactionLife) -> String {
         format!("; {word} in frame {}", at.frame + 1)
     });
     format!("T{}, transaction of party {}, {}{ended}", life.number, life.party, lease_words(life.lease))
+}
+
+fn registration_title(life: &RegistrationLife) -> String {
+    let Registration { number, party, template, end, .. } = &life.registration;
+    let ended = life.end.map_or(String::new(), |at| format!("; {REGISTRATION_ENDED} in frame {}", at.frame + 1));
+    let bells = match life.bells.len() {
+        1 => "1 bell".to_string(),
+        bells => format!("{bells} bells"),
+    };
+    let (template, lease) = (template_text(template), lease_words(*end));
+    format!("R{number}, registration of party {party}: {template}; {lease}; {bells}{ended}")
 }
 
 impl<'a> Painter<'a> {
@@ -249,6 +260,9 @@ impl<'a> Painter<'a> {
                 .is_some_and(|column| column >= self.first() && self.layout.column(track.life.begin) <= self.last());
             lines[track.line].used |= self.reach(track.life.begin, end).is_some() || left_over;
         }
+        for Registered { life, line, .. } in self.layout.registered.iter().filter(|other| other.lane == place) {
+            lines[*line].used |= self.reach(life.begin, life.end).is_some();
+        }
         lines
     }
 
@@ -298,7 +312,10 @@ impl<'a> Painter<'a> {
     fn record_title(&self, placed: &Placed) -> String {
         let step = &self.history.steps[placed.mark.at.frame];
         let record = told(self.history, placed.mark.at.frame, &placed.mark.record);
-        let reason = placed.labels.below.get(1).map_or(String::new(), |reason| format!(" ({reason})"));
+        // What stands under a registration or a bell is in the record's words already.
+        let told = matches!(placed.mark.record.kind, NOTIFIED | RUNG);
+        let reason = placed.labels.below.get(1).filter(|_| !told);
+        let reason = reason.map_or(String::new(), |reason| format!(" ({reason})"));
         format!("frame {}: {}\n{record}{reason}", placed.mark.at.frame + 1, step.asked.text)
     }
 
@@ -424,6 +441,49 @@ impl<'a> Painter<'a> {
                 self.add(TEXT, &rect(at - 2.0, zone + 4.0, bold_width(&name) + 4.0, 18.0, &ground));
                 self.add(TEXT, &text(at, zone + 17.5, "b", &format!("style=\"fill:{colour}\""), &name));
             }
+        }
+    }
+
+    fn registrations(&mut self) {
+        for Registered { life, lane, line } in &self.layout.registered {
+            let Some((left, right, begins, ends)) = self.reach(life.begin, life.end) else { continue };
+            let Registration { number, party, end: lease, .. } = life.registration;
+            let (y, colour, title) = (self.line_box(*lane, *line).middle(), hue(party, 1.0), registration_title(life));
+            let mut bar = glyphs::registration(left, right, y, party);
+            if !ends {
+                bar += &glyphs::chevron(right, y, &colour);
+            }
+            let about = attributes(&[
+                ("class", &"registration"),
+                ("data-registration", &number),
+                ("data-party", &party),
+                ("data-from", &moment_words(life.begin)),
+                ("data-to", &life.end.map_or("open".to_string(), moment_words)),
+            ]);
+            self.add(BARS, &group(&about, &title, &bar));
+            if !begins {
+                self.registration_name(life, y);
+            }
+            if life.end.is_none() {
+                self.ahead("registration", number, lease, y, &colour);
+            }
+            if life.end.is_some_and(|end| self.has(end)) {
+                let about = attributes(&[("class", &"unregistered"), ("data-registration", &number)]);
+                self.add(MARKS, &group(&about, &title, &glyphs::unregistered(right, y, party)));
+                self.add(TEXT, &text(right + REGISTRATION_ENDED_AT, y + 4.0, "h b", "", REGISTRATION_ENDED));
+            }
+        }
+    }
+
+    /// Where a row begins, and its own beginning is in another: number and template, or the number, if there is room.
+    fn registration_name(&mut self, life: &RegistrationLife, y: f64) {
+        let (left, party) = (GUTTER + 4.0, life.registration.party);
+        let next = life.bells.iter().copied().chain(life.end).find(|&at| self.has(at));
+        let room = next.map_or(self.right, |next| self.x(next) - MARK) - left;
+        let number = format!("R{}", life.registration.number);
+        let full = format!("{number} {}", template_text(&life.registration.template));
+        if let Some(name) = [full, number].iter().find(|name| bold_width(name) <= room) {
+            self.add(TEXT, &text(left, y + 4.0, "h b", &format!("style=\"fill:{}\"", hue(party, 1.0)), name));
         }
     }
 
@@ -658,14 +718,23 @@ impl<'a> Painter<'a> {
             self.add(TEXT, &text(left + 4.0, y + height - 3.0, "h", "style=\"font-size:9px\"", &told));
             return;
         }
-        let name = format!(
-            "<text x=\"{}\" y=\"{}\" class=\"h\"><tspan class=\"b\">{}</tspan><tspan dx=\"6\">{fields}</tspan><tspan dx=\"8\" class=\"dim\">{}</tspan></text>",
-            n(left),
-            n(y - 4.0),
-            bar.name(),
-            lease_words(lease)
-        );
-        self.add(TEXT, &name);
+        let room = if begins { f64::INFINITY } else { self.name_room(bar) - left };
+        let (mut spans, mut wide) = (String::new(), 0.0);
+        let parts = [("class=\"b\"", bar.name()), ("dx=\"6\"", fields), ("dx=\"8\" class=\"dim\"", lease_words(lease))];
+        for (about, words) in parts {
+            wide += bold_width(&words) + 8.0;
+            if spans.is_empty() || wide <= room {
+                spans += &format!("<tspan {about}>{words}</tspan>");
+            }
+        }
+        self.add(TEXT, &format!("<text x=\"{}\" y=\"{}\" class=\"h\">{spans}</text>", n(left), n(y - 4.0)));
+    }
+
+    /// How far the name of a bar from another row may reach: to the next that begins in its row of entries.
+    fn name_room(&self, bar: &Bar) -> f64 {
+        let others = self.layout.bars.iter().filter(|other| other.row == bar.row && other.life.begin > bar.life.begin);
+        let begin = others.map(|other| other.life.begin).filter(|&begin| self.has(begin)).min();
+        begin.map_or(f64::INFINITY, |begin| self.x(begin))
     }
 
     fn waits(&mut self) {
@@ -787,6 +856,8 @@ impl<'a> Painter<'a> {
             (REFUSED, _) => glyphs::refused(x, y, record.refusal),
             (WRITTEN, _) => glyphs::write(x, y),
             (RENEWED, _) => glyphs::renewed(x, y),
+            (NOTIFIED, _) => glyphs::notified(x, y, record.party),
+            (RUNG, _) => glyphs::rung(x, y, record.party, record.bell().0),
             (COMMITTED, _) => glyphs::committed(x, y, record.party),
             (ABORTED, _) => glyphs::aborted(x, y, record.party),
             (EXCEPTION, _) => {
@@ -864,6 +935,7 @@ impl<'a> Painter<'a> {
         self.bands();
         self.lane_grounds();
         self.tracks();
+        self.registrations();
         self.entries();
         self.waits();
         self.marks();

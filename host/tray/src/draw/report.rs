@@ -30,7 +30,7 @@ fn fill(answer: Answer) -> &'static str {
     match answer {
         Answer::Done(_) => "#37474f",
         Answer::WaitsThenFound => "#8699a3",
-        Answer::StillWaits => "url(#rdots)",
+        Answer::StillWaits | Answer::StillListens => "url(#rdots)",
         Answer::WaitsThenNothing | Answer::WaitsThenException => "#dbe2e6",
         Answer::NothingStored => "#fff",
         Answer::NothingThoughStored => "url(#rhatch)",

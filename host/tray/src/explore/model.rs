@@ -1,18 +1,19 @@
 //! One step of the panes: what is sent, what each pane gets, and what the claims make of it.
 
 use super::monitor::Monitors;
-use super::situation::{place, Situation, NAMES, PLACE, ROUND};
+use super::situation::{place, Doing, Situation, NAMES, PLACE, RANG, ROUND};
 use super::store::TICK;
 use crate::boundary::{self, Space, Stepped};
 use crate::frame::tick_frame;
-use crate::panes::{Action, Pane, Script};
-use crate::record::{Record, CREATED, EXCEPTION, FOUND, RECORD_BYTES, REFUSED, STEP_BYTES, WAITING, WRITTEN};
+use crate::panes::{Action, Pane, Script, EVENTS};
+use crate::record::{Record, CREATED, EXCEPTION, FOUND, RECORD_BYTES, REFUSED, RUNG, STEP_BYTES, WAITING, WRITTEN};
 use crate::words::FOREVER;
 
 /// In place of a pane, for the records of a party that is none.
 const NOBODY: usize = usize::MAX;
 
-/// A record that a pane gets: the pane, the line that it answers, the record.
+/// A record that a pane gets: the pane, the line that it answers, the record. A bell that comes while the pane does not
+/// listen answers none.
 #[derive(Clone, Copy, Debug)]
 pub struct Got {
     pub pane: usize,
@@ -77,7 +78,7 @@ impl<'a> Model<'a> {
     }
 
     /// After the starting frames.
-    pub fn beginning(&self) -> Situation {
+    pub fn beginning(&mut self) -> Situation {
         let mut space = Space::default();
         for asked in &self.script.start {
             space.step(&asked.frame);
@@ -86,7 +87,7 @@ impl<'a> Model<'a> {
         situation.words = space.words;
         for (at, pane) in self.script.panes.iter().enumerate() {
             if !pane.sent.is_empty() {
-                situation.pane_mut(at)[PLACE] = place(0, false);
+                self.arrive(&mut situation, at, 0);
             }
         }
         situation
@@ -115,9 +116,25 @@ impl<'a> Model<'a> {
         &self.frames[sender][line]
     }
 
-    fn go_to(&self, situation: &mut Situation, pane: usize, line: usize) {
+    /// The pane comes to a line, which it sends next; or it listens there, and hears at once a bell that has come since
+    /// it last listened.
+    fn arrive(&mut self, situation: &mut Situation, pane: usize, line: usize) {
+        let script = &self.script.panes[pane];
+        let state = situation.pane_mut(pane);
+        if !script.sent[line].awaits_bell {
+            state[PLACE] = place(line, Doing::Sends);
+        } else if std::mem::take(&mut state[RANG]) == 0 {
+            state[PLACE] = place(line, Doing::Listens);
+        } else {
+            let record = Record { kind: RUNG, party: script.party, ..Record::default() };
+            self.got.push(Got { pane, line: Some(line), record });
+            self.react(situation, pane, line, script.reaction(&script.sent[line], RUNG));
+        }
+    }
+
+    fn go_to(&mut self, situation: &mut Situation, pane: usize, line: usize) {
         if line < self.script.panes[pane].sent.len() {
-            situation.pane_mut(pane)[PLACE] = place(line, false);
+            self.arrive(situation, pane, line);
         } else if self.script.panes[pane].rounds.is_some() {
             self.start_over(situation, pane);
         } else {
@@ -125,19 +142,19 @@ impl<'a> Model<'a> {
         }
     }
 
-    fn start_over(&self, situation: &mut Situation, pane: usize) {
+    fn start_over(&mut self, situation: &mut Situation, pane: usize) {
         let state = situation.pane_mut(pane);
         match self.script.panes[pane].rounds {
             Some(rounds) if state[ROUND] + 1 >= rounds => situation.stop(pane),
             Some(_) => {
                 state[ROUND] += 1;
-                state[PLACE] = place(0, false);
+                self.arrive(situation, pane, 0);
             }
-            None => state[PLACE] = place(0, false),
+            None => self.arrive(situation, pane, 0),
         }
     }
 
-    fn react(&self, situation: &mut Situation, pane: usize, line: usize, action: Action) {
+    fn react(&mut self, situation: &mut Situation, pane: usize, line: usize, action: Action) {
         match action {
             Action::Stop => situation.stop(pane),
             Action::StartOver => self.start_over(situation, pane),
@@ -146,30 +163,46 @@ impl<'a> Model<'a> {
         }
     }
 
-    /// A pane gets a record: its own frame's, or a later one.
-    fn deliver(&self, situation: &mut Situation, pane: usize, record: &Record, own: bool) {
-        let Some(line) = situation.line(pane) else { return };
+    /// An exception that comes later than the pane's own frame.
+    fn except(&mut self, situation: &mut Situation, pane: usize, line: usize, transaction: u32) {
         let script = &self.script.panes[pane];
-        let sent = &script.sent[line];
-        if record.kind == EXCEPTION && !own {
-            let closes = situation.waits(pane) && self.number(situation, pane, line) == record.transaction;
-            if closes {
-                self.react(situation, pane, line, script.reaction(sent, EXCEPTION));
-            } else if !situation.waits(pane) {
-                // It comes between two frames: only what holds for the whole pane applies.
-                let between = script.reactions[crate::panes::EVENTS.iter().position(|e| e.1 == EXCEPTION).unwrap_or(0)];
-                if let Some(action) = between {
-                    // "Go on" leaves the pane where it is: nothing of its own was answered.
-                    if action != Action::GoOn {
-                        self.react(situation, pane, line, action);
-                    }
-                }
+        if situation.waits(pane) {
+            if self.number(situation, pane, line) == transaction {
+                self.react(situation, pane, line, script.reaction(&script.sent[line], EXCEPTION));
             }
             return;
         }
+        // It comes between two frames: only what holds for the whole pane applies.
+        let between = script.reactions[EVENTS.iter().position(|event| event.1 == EXCEPTION).unwrap_or(0)];
+        // "Go on" leaves the pane where it is: nothing of its own was answered.
+        if let Some(action) = between.filter(|&action| action != Action::GoOn) {
+            self.react(situation, pane, line, action);
+        }
+    }
+
+    /// A bell: the pane goes on if it listens, else it is kept for when it does.
+    fn ring(&mut self, situation: &mut Situation, pane: usize, line: usize) {
+        let script = &self.script.panes[pane];
+        match situation.listens(pane) {
+            true => self.react(situation, pane, line, script.reaction(&script.sent[line], RUNG)),
+            // Of a pane that never listens nothing is kept, so that situations fold.
+            false => situation.pane_mut(pane)[RANG] = u32::from(script.listens()),
+        }
+    }
+
+    /// A pane gets a record: its own frame's, or a later one.
+    fn deliver(&mut self, situation: &mut Situation, pane: usize, record: &Record, own: bool) {
+        let Some(line) = situation.line(pane) else { return };
+        match record.kind {
+            EXCEPTION if !own => return self.except(situation, pane, line, record.transaction),
+            RUNG => return self.ring(situation, pane, line),
+            _ => {}
+        }
+        let script = &self.script.panes[pane];
+        let sent = &script.sent[line];
         // Bytes may name another party, whose look-up then waits.
         if record.kind == WAITING && record.party == script.party {
-            situation.pane_mut(pane)[PLACE] = place(line, true);
+            situation.pane_mut(pane)[PLACE] = place(line, Doing::Waits);
             return;
         }
         if let (Some(number), Some(name)) = (brought(record), sent.names) {
@@ -193,10 +226,15 @@ impl<'a> Model<'a> {
                 self.got.push(Got { pane: NOBODY, line: None, record });
                 continue;
             };
-            // An answer to a look-up of the starting frames is none to a line of the pane.
-            let answers = own || record.kind == EXCEPTION || situation.waits(pane);
+            let answers = match record.kind {
+                _ if own => true,
+                EXCEPTION => true,
+                RUNG => situation.listens(pane),
+                // An answer to a look-up of the starting frames is none to a line of the pane.
+                _ => situation.waits(pane),
+            };
             self.got.push(Got { pane, line: situation.line(pane).filter(|_| answers), record });
-            if answers {
+            if answers || record.kind == RUNG {
                 self.deliver(situation, pane, &record, own);
             }
         }

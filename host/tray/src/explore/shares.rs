@@ -6,10 +6,11 @@ use super::model::{Got, Model};
 use super::situation::Situation;
 use super::store::{Store, TICK};
 use crate::big::Natural;
+use crate::claim::Form;
 use crate::frame::Request;
 use crate::oracle::Sought;
 use crate::panes::Script;
-use crate::record::{kind_of, EXCEPTION, FOUND, NOTHING, REFUSED, WAITING};
+use crate::record::{kind_of, EXCEPTION, FOUND, NOTHING, REFUSED, RUNG, WAITING};
 use crate::words::tables;
 use std::collections::BTreeMap;
 
@@ -19,10 +20,11 @@ const MOST_STEPS: usize = 20_000_000;
 /// How a request is answered.
 #[derive(Clone, Copy, PartialEq, Eq, PartialOrd, Ord, Debug)]
 pub enum Answer {
-    /// Found, written, created, committed, ..: the record's kind.
+    /// Found, written, created, committed, ..: the record's kind. Of a line that listens: rung.
     Done(u8),
     WaitsThenFound,
     StillWaits,
+    StillListens,
     WaitsThenNothing,
     WaitsThenException,
     NothingStored,
@@ -36,6 +38,7 @@ impl Answer {
             Answer::Done(kind) => kind_of(kind).map_or("", |kind| kind.name).to_string(),
             Answer::WaitsThenFound => "waits, then found".to_string(),
             Answer::StillWaits => "still waits at the end".to_string(),
+            Answer::StillListens => "still listens at the end".to_string(),
             Answer::WaitsThenNothing => "waits, then nothing".to_string(),
             Answer::WaitsThenException => "waits, then exception".to_string(),
             Answer::NothingStored => "nothing, none stored".to_string(),
@@ -114,7 +117,8 @@ pub fn shares(script: &Script, analysis: &Analysis) -> Option<Shares> {
             let times = ways.times(&on.of(edge.to as usize));
             for (place, got) in got.iter().enumerate().filter(|(_, got)| got.pane < script.panes.len()) {
                 let own = place == 0 && edge.sender() != TICK;
-                let closes = own || here.waits(got.pane) && !next.waits(got.pane);
+                // A bell has a line only where the pane listens.
+                let closes = own || got.record.kind == RUNG || here.waits(got.pane) && !next.waits(got.pane);
                 let Some(answer) = counter.answer(got, own, &next).filter(|_| closes) else { continue };
                 let frames = || script.start.len() + distance(store, situation) + 1;
                 counter.add(got.pane, got.line.unwrap_or(0), answer, times.clone(), frames);
@@ -123,10 +127,14 @@ pub fn shares(script: &Script, analysis: &Analysis) -> Option<Shares> {
     }
     for &(end, _) in &analysis.explored.ends {
         here.decode(store.bytes(end as usize));
-        for pane in (0..script.panes.len()).filter(|&pane| here.waits(pane)) {
+        for pane in 0..script.panes.len() {
+            let answer = match (here.waits(pane), here.listens(pane)) {
+                (true, _) => Answer::StillWaits,
+                (_, true) => Answer::StillListens,
+                _ => continue,
+            };
             let frames = || script.start.len() + distance(counter.store, end as usize);
-            let line = here.line(pane).unwrap_or(0);
-            counter.add(pane, line, Answer::StillWaits, to.of(end as usize), frames);
+            counter.add(pane, here.line(pane).unwrap_or(0), answer, to.of(end as usize), frames);
         }
     }
     Some(counter.shares)
@@ -178,11 +186,16 @@ fn refuted_without(store: &Store, lines: &[Option<usize>], claim: usize, without
 pub fn needed(script: &Script, analysis: &Analysis, claim: usize) -> Option<Needed> {
     let store = &analysis.explored.store;
     let steps = store.edges.len();
+    // Steps concern such a claim when they give what it wants.
+    if matches!(script.claims[claim].form, Form::Always { .. }) {
+        return None;
+    }
     if analysis.explored.cut.is_some() || steps > MOST_STEPS / 20 || !store.edges.iter().any(|e| e.concerns(claim)) {
         return None;
     }
     let (lines, ticks) = senders_lines(script, store);
     let all = script.panes.iter().enumerate().flat_map(|(pane, of)| (0..of.sent.len()).map(move |line| (pane, line)));
+    let all = all.filter(|&(pane, line)| !script.panes[pane].sent[line].awaits_bell);
     let (not_needed, needed): (Vec<_>, Vec<_>) = all.partition(|&line| refuted_without(store, &lines, claim, line));
     let refuting = (0..store.looked_at()).flat_map(|from| store.steps(from).iter().map(move |edge| (from, edge)));
     let refuting = refuting.filter(|(_, edge)| edge.concerns(claim));

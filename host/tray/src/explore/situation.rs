@@ -2,10 +2,12 @@
 
 use crate::words::{Words, HEAD_WORDS, TABLES, WORDS};
 
-/// Where a pane is: the line that it sends next or waits on, the round, the transactions and entries it has names for.
+/// Where a pane is: the line that it sends next, waits or listens on, the round, whether a bell has come since it last
+/// listened, the transactions and entries it has names for.
 pub const PLACE: usize = 0;
 pub const ROUND: usize = 1;
-pub const NAMES: usize = 2;
+pub const RANG: usize = 2;
+pub const NAMES: usize = 3;
 
 /// A pane that has stopped.
 pub const STOPPED: u32 = 0;
@@ -14,7 +16,7 @@ pub const STOPPED: u32 = 0;
 pub struct Situation {
     pub words: Words,
     pub ticks: u32,
-    /// For each pane, one behind the other: place, round, transactions and entries by name.
+    /// For each pane, one behind the other: place, round, bell, transactions and entries by name.
     states: Vec<u32>,
     /// Words of a pane's state.
     stride: usize,
@@ -22,9 +24,19 @@ pub struct Situation {
     pub memory: Vec<Vec<u32>>,
 }
 
-/// A place's word: the line counted from 1, and whether the pane waits there.
-pub fn place(line: usize, waits: bool) -> u32 {
-    (line as u32 + 1) << 1 | u32::from(waits)
+/// What a pane does at its line: it sends it next, its look-up waits, or it listens for a bell.
+#[derive(Clone, Copy, PartialEq, Eq, Debug)]
+pub enum Doing {
+    Sends = 0,
+    Waits = 1,
+    Listens = 2,
+}
+
+const DOING_BITS: u32 = 2;
+
+/// A place's word: the line counted from 1, and what the pane does there.
+pub fn place(line: usize, doing: Doing) -> u32 {
+    (line as u32 + 1) << DOING_BITS | doing as u32
 }
 
 impl Situation {
@@ -57,20 +69,29 @@ impl Situation {
         self.memory.clone_from(&other.memory);
     }
 
-    /// The line that the pane sends next or waits on; none if it has stopped.
+    /// The line that the pane sends next, waits or listens on; none if it has stopped.
     pub fn line(&self, pane: usize) -> Option<usize> {
         match self.pane(pane)[PLACE] {
             STOPPED => None,
-            place => Some((place >> 1) as usize - 1),
+            place => Some((place >> DOING_BITS) as usize - 1),
         }
     }
 
+    fn does(&self, pane: usize, doing: Doing) -> bool {
+        let place = self.pane(pane)[PLACE];
+        place != STOPPED && place % (1 << DOING_BITS) == doing as u32
+    }
+
     pub fn waits(&self, pane: usize) -> bool {
-        self.pane(pane)[PLACE] & 1 == 1
+        self.does(pane, Doing::Waits)
+    }
+
+    pub fn listens(&self, pane: usize) -> bool {
+        self.does(pane, Doing::Listens)
     }
 
     pub fn can_send(&self, pane: usize) -> bool {
-        self.pane(pane)[PLACE] != STOPPED && !self.waits(pane)
+        self.does(pane, Doing::Sends)
     }
 
     pub fn waiting(&self) -> u16 {

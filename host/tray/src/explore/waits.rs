@@ -7,8 +7,8 @@ use super::Explored;
 use crate::panes::Script;
 use crate::tell::{tell, Progress};
 use crate::words::{
-    Table, Words, ENTRIES, ENTRY_END, FOREVER, LOOK_UPS, TRANSACTIONS, TRANSACTION_END, TRANSACTION_NUMBER,
-    WAITING_DEADLINE, WAITING_PARTY, WAITING_TRANSACTION, WORD_CLOCK,
+    Table, Words, ENTRIES, ENTRY_END, FOREVER, LOOK_UPS, REGISTRATIONS, REGISTRATION_END, TRANSACTIONS,
+    TRANSACTION_END, TRANSACTION_NUMBER, WAITING_DEADLINE, WAITING_PARTY, WAITING_TRANSACTION, WORD_CLOCK,
 };
 
 /// How many situations are looked at beyond the last tick: for one end of a history, and for all together.
@@ -19,7 +19,10 @@ const BEYOND_ALL: usize = 20_000_000;
 fn time_matters(words: &Words) -> bool {
     let ahead =
         |table: Table, at: usize| table.rows(words).any(|row| row[at] != FOREVER && row[at] > words[WORD_CLOCK]);
-    ahead(ENTRIES, ENTRY_END) || ahead(TRANSACTIONS, TRANSACTION_END) || ahead(LOOK_UPS, WAITING_DEADLINE)
+    ahead(ENTRIES, ENTRY_END)
+        || ahead(TRANSACTIONS, TRANSACTION_END)
+        || ahead(LOOK_UPS, WAITING_DEADLINE)
+        || ahead(REGISTRATIONS, REGISTRATION_END)
 }
 
 /// Whether the party's look-up is closed by time alone: by its deadline, or its transaction's lease.

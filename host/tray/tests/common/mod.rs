@@ -75,6 +75,8 @@ fn random_renewal(random: &mut Random, tables: &Tables) -> String {
     format!("party {party} renew {number} lease {lease}")
 }
 
+const TEMPLATES: [&str; 6] = ["any", "kind 1", "kind 2", "kind 1 side 1", "side 2", "place 0"];
+
 /// A line of a history in which much happens: few kinds, some blanks, short leases, and mostly the transactions' own
 /// parties and the entries' own writers.
 fn random_line(random: &mut Random, created: &mut Vec<u64>, tables: &Tables) -> String {
@@ -95,8 +97,7 @@ fn random_line(random: &mut Random, created: &mut Vec<u64>, tables: &Tables) -> 
         4..=8 => {
             let look_up = random.pick(&["read", "take", "readIfExists", "takeIfExists"]);
             let timeout = random.pick(&["0", "0", "1", "2", "4", "forever"]);
-            let template = random.pick(&["any", "kind 1", "kind 2", "kind 1 side 1", "side 2", "place 0"]);
-            format!("party {party} {look_up} {template} timeout {timeout}{inside}")
+            format!("party {party} {look_up} {} timeout {timeout}{inside}", random.pick(&TEMPLATES))
         }
         9..=10 => {
             created.push(party);
@@ -108,13 +109,22 @@ fn random_line(random: &mut Random, created: &mut Vec<u64>, tables: &Tables) -> 
     }
 }
 
+fn random_notify(random: &mut Random) -> String {
+    let (party, lease) = (1 + random.below(6), random.pick(&["1", "2", "3", "4", "0", "forever", "4294967294"]));
+    format!("party {party} notify {} lease {lease}", random.pick(&TEMPLATES))
+}
+
+/// So many frames, and now and then a notify besides.
 pub fn random_text(seed: u64, frames: usize) -> String {
     let (mut random, mut created, mut space) = (Random(seed), Vec::new(), Space::default());
-    let mut text = String::new();
+    let (mut text, mut listening) = (String::new(), Random(!seed));
     for _ in 0..frames {
+        let listens = (listening.below(8) == 0).then(|| random_notify(&mut listening));
         let line = random_line(&mut random, &mut created, &tables(&space.words));
-        parse(&line).unwrap().frames().for_each(|asked| _ = space.step(&asked.frame));
-        text += &(line + "\n");
+        for line in listens.into_iter().chain([line]) {
+            parse(&line).unwrap().frames().for_each(|asked| _ = space.step(&asked.frame));
+            text += &(line + "\n");
+        }
     }
     text
 }

@@ -7,7 +7,7 @@ use Rattle.hints.proofs.known.know_empty.Statement.{statement}
 returns : tie.Need-returns
 returns c =
     record {
-      ends = record { entries = all-none _; txns = all-none _; waits = all-none _ };
+      ends = record { entries = all-none _; txns = all-none _; waits = all-none _; registrations = all-none _ };
       flagged = all-none _;
       idle = λ _. all-none _;
     }

@@ -2,10 +2,10 @@
 use mathlib.Core.Path.{_≡_, sym, _∙_}
 use native.Mathlib.Omega.{arith}
 use borrow.Author.Needs.{needs}
+use Rattle.hints.proofs.known.know_nothing.Tie as tie
 use Rattle.rules.specs.Numbers.{forever}
 use Rattle.hints.proofs.HintLaws.{all-flagged}
 use Rattle.hints.proofs.known.know_nothing.Statement.{statement}
-use Rattle.hints.proofs.known.know_nothing.Tie as tie
 
 returns : tie.Need-returns
 returns c = λ m.
@@ -14,6 +14,7 @@ returns c = λ m.
         entries = λ e i c l. absurd (omega arith);
         txns = λ t i c l. absurd (omega arith);
         waits = λ w i c l. absurd (omega arith);
+        registrations = λ g i c l. absurd (omega arith);
       };
       flagged = λ w i e.
           let zero : forever ≡ 0 = sym (all-flagged (w .party)) ∙ e in

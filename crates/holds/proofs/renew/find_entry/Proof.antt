@@ -4,13 +4,13 @@ use mathlib.Core.Path.{refl, sym, ap, _∙_}
 use native.Mathlib.Omega.{arith}
 use borrow.Author.Needs.{needs}
 use borrow.Author.Tests.{eq-eqb, ne-eqb}
+use Rattle.holds.proofs.renew.find_entry.Tie as tie
 use Rattle.rules.specs.declared.Entry.{Entry}
 use Rattle.rules.specs.Renew.{hasNumber, storedEntry}
 use Rattle.words.specs.Rows.{entryRow}
 use Rattle.words.proofs.SearchLaws.{Searching, search-start, search-more, search-found, search-none}
 use Rattle.words.proofs.Tables.{entries-read}
 use Rattle.holds.proofs.renew.find_entry.Statement.{statement}
-use Rattle.holds.proofs.renew.find_entry.Tie as tie
 
 abbrev Inv-loop : tie.InvT-loop
 Inv-loop space id n i₀ i = (i ≤ n) × Searching (hasNumber (id .0)) (entryRow space) i

@@ -2,14 +2,14 @@
 use mathlib.Core.Bool.{or-true}
 use mathlib.Core.Path.{refl, _∙_}
 use borrow.Author.Needs.{needs}
+use Rattle.step.proofs.judge.abort_refusal.Tie as tie
 use Rattle.rules.specs.Frame.{layoutOf}
-use Rattle.rules.specs.Refusals.{noLease, tooLate, entriesFull, txnsFull, noNumber}
+use Rattle.rules.specs.Refusals.{noLease, tooLate, entriesFull, txnsFull, registrationsFull, noNumber}
 use Rattle.step.proofs.RefusalParts.{admission-parts, by-admission-alone}
 use Rattle.step.proofs.judge.abort_refusal.Statement.{statement}
-use Rattle.step.proofs.judge.abort_refusal.Tie as tie
 
 returns : tie.Need-returns
-unfolding layoutOf noLease tooLate entriesFull txnsFull noNumber
+unfolding layoutOf noLease tooLate entriesFull txnsFull registrationsFull noNumber
 returns c = by-admission-alone _ _ (c .party-refusal .ensures ∙ admission-parts _ _ _ _ refl (simp or-true) refl) refl
 
 pub abort-refusal-spec : {M : Type 1} → statement M

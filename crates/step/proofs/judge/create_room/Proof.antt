@@ -1,19 +1,19 @@
 -- `step::judge::create_room` meets its contract. Assumes nothing.
-use mathlib.Core.Bool.{cond}
+use mathlib.Core.Bool.{cond, or-false}
 use mathlib.Core.Path.{_≡_, sym, _∙_}
 use borrow.Author.Needs.{needs}
 use borrow.Author.Tests.{eq-eqb, ne-eqb, le-leb, lt-leb}
 use lib.Dec.{leb}
+use Rattle.step.proofs.judge.create_room.Tie as tie
 use Rattle.rules.specs.declared.Request.the-variants.{Create}
 use Rattle.rules.specs.Frame.{layoutOf}
 use Rattle.rules.specs.Numbers.{forever, numberRefused}
-use Rattle.rules.specs.Refusals.{noLease, tooLate, entriesFull, txnsFull, noNumber}
+use Rattle.rules.specs.Refusals.{noLease, tooLate, entriesFull, txnsFull, registrationsFull, noNumber}
 use Rattle.rules.specs.Requests.{frameOf}
 use Rattle.rules.specs.Words.{view}
 use Rattle.words.proofs.Tables.{length-txns}
 use Rattle.step.specs.Judge.{roomRefusal}
 use Rattle.step.proofs.judge.create_room.Statement.{statement}
-use Rattle.step.proofs.judge.create_room.Tie as tie
 
 returns : tie.Need-returns
 unfolding noLease
@@ -35,12 +35,18 @@ last : (c : tie.After-next-txn)
     → let a = c .before .before .before .before .before .before .args in
     cond (leb forever (c .next-txn .result)) numberRefused 0
     ≡ roomRefusal (view (a .space .now)) (frameOf (Create (a .party) (a .lease)))
-unfolding noLease tooLate entriesFull txnsFull noNumber layoutOf
+unfolding noLease tooLate entriesFull txnsFull registrationsFull noNumber layoutOf
 last c =
     let counted = c .before .before in
     let late = counted .before .before in
     rw (ne-eqb _ _ (late .before .if1 .left), sym (late .too-late .ensures) ∙ counted .before .if2 .left)
-    (rw (length-txns, sym (counted .txn-count .ensures .0), lt-leb _ _ (c .before .if3 .left), c .next-txn .ensures))
+    (rw (
+      length-txns,
+      sym (counted .txn-count .ensures .0),
+      lt-leb _ _ (c .before .if3 .left),
+      or-false,
+      c .next-txn .ensures,
+    ))
 
 returns-4 : tie.Need-returns-4
 returns-4 c = rw (le-leb _ _ (c .if4 .taken)) at (last (c .before))

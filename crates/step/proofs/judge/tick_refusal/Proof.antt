@@ -2,11 +2,11 @@
 use mathlib.Core.Path.{refl, sym, _∙_}
 use borrow.Author.Needs.{needs}
 use borrow.Author.Tests.{le-leb, lt-leb}
+use Rattle.step.proofs.judge.tick_refusal.Tie as tie
 use Rattle.rules.specs.Frame.{layoutOf}
-use Rattle.rules.specs.Refusals.{noLease, tooLate, entriesFull, txnsFull, noNumber}
+use Rattle.rules.specs.Refusals.{noLease, tooLate, entriesFull, txnsFull, registrationsFull, noNumber}
 use Rattle.step.proofs.RefusalParts.{admission-parts, by-admission, by-room}
 use Rattle.step.proofs.judge.tick_refusal.Statement.{statement}
-use Rattle.step.proofs.judge.tick_refusal.Tie as tie
 
 returns : tie.Need-returns
 unfolding layoutOf
@@ -20,7 +20,7 @@ returns-2 c =
     (c .before .before .if1 .left) (rw (sym (c .before .clock .ensures), le-leb _ _ (c .if2 .taken)))
 
 returns-3 : tie.Need-returns-3
-unfolding noLease tooLate entriesFull txnsFull noNumber layoutOf
+unfolding noLease tooLate entriesFull txnsFull registrationsFull noNumber layoutOf
 returns-3 c =
     by-room _ _ (c .before .before .before .party-refusal .ensures ∙ admission-parts _ _ _ _ refl refl refl)
     (c .before .before .if1 .left) (rw (sym (c .before .clock .ensures), lt-leb _ _ (c .if2 .left)))

@@ -4,15 +4,15 @@ use mathlib.Core.Path.{_≡_, sym, _∙_}
 use borrow.Author.Needs.{needs}
 use borrow.Author.Tests.{le-leb, lt-leb}
 use lib.Dec.{leb}
+use Rattle.step.proofs.judge.write_room.Tie as tie
 use Rattle.rules.specs.declared.Request.the-variants.{Write}
 use Rattle.rules.specs.Frame.{layoutOf}
 use Rattle.rules.specs.Numbers.{forever, numberRefused}
-use Rattle.rules.specs.Refusals.{noLease, tooLate, entriesFull, txnsFull, noNumber}
+use Rattle.rules.specs.Refusals.{noLease, tooLate, entriesFull, txnsFull, registrationsFull, noNumber}
 use Rattle.rules.specs.Requests.{frameOf}
 use Rattle.rules.specs.Words.{view}
 use Rattle.step.specs.Judge.{roomRefusal}
 use Rattle.step.proofs.judge.write_room.Statement.{statement}
-use Rattle.step.proofs.judge.write_room.Tie as tie
 
 returns : tie.Need-returns
 unfolding noLease tooLate layoutOf
@@ -29,12 +29,12 @@ last : (c : tie.After-next-entry)
     → let a = c .before .before .before .before .before .args in
     cond (leb forever (c .next-entry .result)) numberRefused 0
     ≡ roomRefusal (view (a .space .now)) (frameOf (Write (a .w)))
-unfolding noLease tooLate entriesFull txnsFull noNumber layoutOf
+unfolding noLease tooLate entriesFull txnsFull registrationsFull noNumber layoutOf
 last c =
     let room = c .before .before in
     let late = room .before in
     rw (sym (late .before .too-late .ensures) ∙ late .if1 .left, sym (room .lacks-room .ensures) ∙ c .before .if2 .left)
-    (rw (or-false, c .next-entry .ensures))
+    (rw (or-false, or-false, c .next-entry .ensures))
 
 returns-3 : tie.Need-returns-3
 returns-3 c = rw (le-leb _ _ (c .if3 .taken)) at (last (c .before))

@@ -1,11 +1,11 @@
 -- `step::kinds::commit_frame` meets its contract. Assumes nothing.
 use mathlib.Core.Path.{refl}
 use borrow.Author.Needs.{needs}
+use Rattle.step.proofs.kinds.commit_frame.Tie as tie
 use Rattle.rules.specs.Requests.{frameOf}
 use Rattle.rules.specs.declared.Request.the-variants.{Commit}
 use Rattle.step.proofs.FollowLaws.{stays-reliable, follows-same}
 use Rattle.step.proofs.kinds.commit_frame.Statement.{statement}
-use Rattle.step.proofs.kinds.commit_frame.Tie as tie
 
 returns : tie.Need-returns
 returns c =
@@ -14,7 +14,7 @@ returns c =
     let q = Commit (start .args .party) (start .args .id) in (
       taken .take-commit .ensures,
       stays-reliable (start .pre .0) (taken .take-commit .ensures) (start .pre .2)
-          (follows-same (frameOf q) refl refl refl),
+          (follows-same (frameOf q) refl refl refl refl),
     )
 
 pub commit-frame-spec : {M : Type 1} → statement M

@@ -1,7 +1,7 @@
 -- `step::kinds::take_up` meets its contract. Assumes nothing.
 use borrow.Author.Needs.{needs}
-use Rattle.step.proofs.kinds.take_up.Statement.{statement}
 use Rattle.step.proofs.kinds.take_up.Tie as tie
+use Rattle.step.proofs.kinds.take_up.Statement.{statement}
 
 write-frame-requires : tie.Need-write-frame-requires
 write-frame-requires c κs =
@@ -33,6 +33,11 @@ renew-frame-requires c κs =
     let told = c .before .before .before .before in rw (told .q6 .given .1) at
     (told .before .before .before .before .pre)
 
+notify-frame-requires : tie.Need-notify-frame-requires
+notify-frame-requires c κs =
+    let told = c .before .before .before .before in rw (told .q7 .given .1) at
+    (told .before .before .before .before .pre)
+
 tick-frame-requires : tie.Need-tick-frame-requires
 tick-frame-requires c κs =
     let told = c .before .before .before in rw (told .enum-told .given .1) at
@@ -44,8 +49,9 @@ take-up-spec =
     (tie.spec
     (λ c. search needs) write-frame-requires (λ c. search needs) find-frame-requires (λ c. search needs)
     create-frame-requires (λ c. search needs) commit-frame-requires (λ c. search needs) abort-frame-requires
-    (λ c. search needs) renew-frame-requires (λ c. search needs) tick-frame-requires (λ c. search needs)
+    (λ c. search needs) renew-frame-requires (λ c. search needs) notify-frame-requires (λ c. search needs)
+    tick-frame-requires (λ c. search needs)
     (λ c. search needs) (λ c. search needs)
     (λ c. search needs) (λ c. search needs) (λ c. search needs) (λ c. search needs) (λ c. search needs)
     (λ c. search needs) (λ c. search needs) (λ c. search needs) (λ c. search needs) (λ c. search needs)
-    (λ c. search needs))
+    (λ c. search needs) (λ c. search needs) (λ c. search needs))

@@ -1,15 +1,14 @@
 -- `step::own::commit` meets its contract. Assumes nothing.
 use borrow.Author.Needs.{needs}
-use Rattle.rules.specs.Records.{committed}
-use Rattle.rules.specs.Step.{commitFrame}
-use Rattle.step.proofs.own.commit.Statement.{statement}
 use Rattle.step.proofs.own.commit.Tie as tie
+use Rattle.rules.specs.Records.{committed}
+use Rattle.step.proofs.own.commit.Statement.{statement}
 
 returns : tie.Need-returns
-unfolding commitFrame committed
+unfolding committed
 returns c =
     let done = c .before .commit-txn .ensures in
-    (record { model = done .0; own = c .plain-record .ensures }, done .1)
+    (done .0, c .plain-record .ensures, done .1)
 
 pub commit-spec : {M : Type 1} → statement M
 commit-spec = tie.close (tie.spec (λ c κs. search needs) (λ c κs. search needs) returns)

@@ -1,12 +1,13 @@
 -- `step::step::take_abort` meets its contract. Assumes nothing.
 use mathlib.Core.Path.{refl, sym, _∙_}
 use borrow.Author.Needs.{needs}
+use Rattle.step.proofs.step.take_abort.Tie as tie
 use Rattle.rules.specs.Step.{ownPart}
+use Rattle.rules.proofs.NotifyLaws.{none-rung}
 use Rattle.step.proofs.IdleStepped.{stepped-abort}
 use Rattle.step.proofs.KindLaws.{abort-ends}
 use Rattle.step.proofs.SteppedLaws.{stepped-judged, stepped-done}
 use Rattle.step.proofs.step.take_abort.Statement.{statement}
-use Rattle.step.proofs.step.take_abort.Tie as tie
 
 returns : tie.Need-returns
 returns c =
@@ -36,6 +37,7 @@ returns-3 c =
     let start = test .before .before .before .before .before in
     stepped-done (start .pre .1) (start .pre .0) _ (sym (test .before .abort-refusal .ensures) ∙ test .if1 .left)
     (λ _. carried .abort .ensures .0, carried .abort .ensures .1) (own .add-record2 .ensures) _ (abort-ends _ _)
+    (λ _. none-rung _ _ refl refl)
     (c .before .before .serve-and-close .ensures)
 
 pub take-abort-spec : {M : Type 1} → statement M

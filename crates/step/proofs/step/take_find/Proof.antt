@@ -2,7 +2,9 @@
 use mathlib.Core.Path.{refl, sym, _∙_}
 use native.Mathlib.Omega.{arith}
 use borrow.Author.Needs.{needs}
+use Rattle.step.proofs.step.take_find.Tie as tie
 use Rattle.rules.specs.Words.{view}
+use Rattle.rules.proofs.NotifyLaws.{lookUp-silent}
 use Rattle.rules.proofs.ViewLaws.{view-bounded}
 use Rattle.step.specs.Ending.{Nothings, Quiet}
 use Rattle.step.proofs.AddsLaws.{does-nothing, does-as}
@@ -11,7 +13,6 @@ use Rattle.step.proofs.KindLaws.{find-ends, own-find, looks-up}
 use Rattle.step.proofs.LookUpAnswers.{carries-as}
 use Rattle.step.proofs.SteppedLaws.{ready-for, stepped-judged, stepped-done}
 use Rattle.step.proofs.step.take_find.Statement.{statement}
-use Rattle.step.proofs.step.take_find.Tie as tie
 
 returns : tie.Need-returns
 returns c =
@@ -50,6 +51,7 @@ returns-2 c =
       refl,
     )
     (own .add-record .ensures) Nothings (find-ends l Nothings refl refl (sym (inside .if2 .taken)))
+    (λ _. lookUp-silent _ _ (looks-up (l .takes) (l .«if_exists»)))
     (does-as (sym (nothings-end 0 (view ws) (view-bounded ws .entries-fit))) (closed .close-in-vain .ensures))
 
 returns-3 : tie.Need-returns-3
@@ -67,6 +69,7 @@ returns-3 c =
       refl,
     )
     (own .add-record .ensures) Quiet (find-ends l Quiet refl refl (sym (c .if2 .left)))
+    (λ _. lookUp-silent _ _ (looks-up (l .takes) (l .«if_exists»)))
     (does-as (sym (quiet-ends 0 (view ws) (view-bounded ws .entries-fit))) (does-nothing _ _ _))
 
 pub take-find-spec : {M : Type 1} → statement M

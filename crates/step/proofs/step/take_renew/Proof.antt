@@ -4,11 +4,13 @@ use mathlib.Core.Option.{some}
 use mathlib.Core.Path.{_≡_, refl, sym, ap, _∙_, subst}
 use native.Mathlib.Omega.{arith}
 use borrow.Author.Needs.{needs}
+use Rattle.step.proofs.step.take_renew.Tie as tie
 use Rattle.rules.specs.declared.Request.the-variants.{Renew}
 use Rattle.rules.specs.Renew.{storedEntry, renew}
 use Rattle.rules.specs.Requests.{frameOf, spaceRefusal}
 use Rattle.rules.specs.Step.{ownPart}
 use Rattle.rules.specs.Words.{view, entryCount}
+use Rattle.rules.proofs.NotifyLaws.{none-rung}
 use Rattle.rules.proofs.ViewLaws.{view-bounded}
 use Rattle.words.specs.Rows.{entryRow}
 use Rattle.words.proofs.Tables.{length-entries, entry-in}
@@ -19,7 +21,6 @@ use Rattle.step.proofs.KindLaws.{renew-quiet}
 use Rattle.step.proofs.RenewLaws.{renew-waits, renew-none, renew-some, renew-in-time, renew-row}
 use Rattle.step.proofs.SteppedLaws.{stepped-judged, stepped-done}
 use Rattle.step.proofs.step.take_renew.Statement.{statement}
-use Rattle.step.proofs.step.take_renew.Tie as tie
 
 returns : tie.Need-returns
 returns c =
@@ -108,6 +109,7 @@ returns-4 c =
       },
       refl,
     ) (own .add-record .ensures) _ (renew-quiet _ _ _)
+    (λ _. none-rung _ _ refl refl)
     (does-as (sym (quiet-ends 0 (view ws) (view-bounded ws .entries-fit))) (does-nothing _ _ _))
 
 pub take-renew-spec : {M : Type 1} → statement M
