@@ -1,6 +1,5 @@
 -- `hints::renew::registrations_end` meets its contract. The loop's invariant: no row passed ends before the tick.
--- Assumes
--- nothing.
+-- Assumes nothing.
 use Prim.Native.Nat.{_≤_, _-_}
 use mathlib.Core.Path.{refl}
 use native.Mathlib.Omega.{arith}

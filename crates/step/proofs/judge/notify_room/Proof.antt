@@ -44,8 +44,7 @@ last c =
       length-registrations,
       sym (counted .registration-count .ensures .0),
       lt-leb _ _ (c .before .if3 .left),
-      c
-          .next-registration .ensures,
+      c .next-registration .ensures,
     ))
 
 returns-4 : tie.Need-returns-4
