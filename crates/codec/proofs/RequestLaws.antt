@@ -15,7 +15,7 @@ use Rattle.rules.specs.declared.Request.the-variants.{Write, Find, Create, Comm
 use Rattle.rules.specs.declared.Decoded.the-variants.{Asks, Refused}
 use Rattle.rules.specs.Frame.{Frame, decode, byteAt, numberAt, fieldsAt, layoutOf, frameLength, hasTemplate, namesNoTxn}
 use Rattle.rules.specs.Frame.{hasBlanks, Layout, layouts, isOperation, isTake, isIfExists}
-use Rattle.rules.specs.Refusals.{formRows, noOperation, wrongLength, badTemplate, badBlanks, malformed, wrongParty}
+use Rattle.rules.specs.Refusals.{formRows, noOperation, wrongLength, highest, badTemplate, badBlanks, malformed, wrongParty}
 use Rattle.rules.specs.Requests.{plainFrame, frameOf, formRefusal, Decodes}
 use Rattle.rules.proofs.BoolLaws.{or-left, or-right, and-false-right}
 use Rattle.rules.proofs.LayoutLaws.{lookUp-op}
@@ -51,7 +51,7 @@ of-form : (f : Frame) → malformed f ≡ false → Formed f
 unfolding malformed
 of-form f e =
     let filled = not (eqb (f .byte3) 0) in
-    let high = ltb 15 (f .mask) in
+    let high = ltb (highest (f .op)) (f .mask) in
     let masked = not (hasTemplate (f .op) || hasBlanks (f .op)) && not (eqb (f .mask) 0) in
     let bad = hasTemplate (f .op) && badTemplate (f .mask) (f .fields) in
     let blank = hasBlanks (f .op) && badBlanks (f .mask) (f .fields) in
@@ -70,7 +70,7 @@ module _ (bs : List ℕ) (clear : formRefusal bs ≡ 0) where
   asks : (q : Request) → decode bs ≡ frameOf q → Decodes bs (Asks q)
   asks q e = record { number = sym clear; frame = rw (eq-eqb (formRefusal bs) 0 clear) (ap some (sym e)) }
 
-  -- none of the rows 2 to 5 applies: their number, counted from 2
+  -- none of the rows 2 to 5 and 21 applies: their number, counted from 2
   row : (k : ℕ) → testAt (formRows bs (decode bs)) k ≡ false
   unfolding formRefusal
   row = none-applies (formRows bs (decode bs)) refl clear

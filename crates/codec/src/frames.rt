@@ -1,13 +1,13 @@
-// A frame's bytes, decoded into a request or one of the refusals 2 to 5.
+// A frame's bytes, decoded into a request or one of the refusals 2 to 5 and 21.
 ghost use mathlib.Core.Path.{_≡_};
 ghost use Prim.Native.Nat.{_≤_};
 ghost use lib.ListN.{length};
 ghost use Rattle.rules.specs.Numbers.{opWrite, opRead, opTakeIfExists, opCreate, opCommit, opAbort, opTick, opNotify};
 ghost use Rattle.rules.specs.Numbers.{opRenew};
 ghost use Rattle.rules.specs.Frame.{byteAt, frameLength};
-ghost use Rattle.rules.specs.Refusals.{someFilled, badTemplate, badBlanks};
+ghost use Rattle.rules.specs.Refusals.{someFilled, badTemplate, badBlanks, badArc};
 ghost use Rattle.rules.specs.Requests.{Decodes};
-ghost use Rattle.codec.specs.Head.{noParty, headRefusal};
+ghost use Rattle.codec.specs.Head.{noParty, headRefusal, templateRefusal};
 use crate::bytes::byte_at;
 use crate::bytes::whole_fields;
 use crate::bytes::whole_number;
@@ -43,6 +43,17 @@ use rules::numbers::OP_TICK;
 use rules::numbers::OP_WRITE;
 use rules::numbers::OPERATION_REFUSED;
 use rules::numbers::PARTY_REFUSED;
+use rules::numbers::PLACE_REFUSED;
+use rules::numbers::PLACES;
+
+// The mask of a write at most: four fields may be blank.
+const MAX_BLANKS: u8 = 15;
+
+// That of a template: bit 4 without bit 3, and the three below.
+const MAX_TEMPLATE_MASK: u8 = 23;
+
+// An arc's length is told by the bits from the 17th on.
+const ARC_LENGTH: u32 = 65536;
 
 // The party that a frame names; 0 if it has none.
 pub(crate) fn party_of(frame: &[u8]) -> u8
@@ -70,7 +81,7 @@ fn is_bad_template(mask: u8, fields: Fields) -> bool
         mask / 1 % 2 != 1,
         mask / 2 % 2 != 1,
         mask / 4 % 2 != 1,
-        mask / 8 % 2 != 1,
+        !((mask / 8 % 2 == 1) | (mask / 16 % 2 == 1)),
         fields,
     )
 }
@@ -113,6 +124,34 @@ fn head_refusal(frame: &[u8], op: u8, bad: bool) -> u8
     0
 }
 
+// Refusal 21: an arc that starts off the face, or is longer than it.
+fn is_bad_arc(mask: u8, arc: u32) -> bool
+    ensures { λ r. ⌜ r ≡ badArc mask arc ⌝ }
+{
+    (mask / 16 % 2 == 1) & ((PLACES <= arc % ARC_LENGTH) | (PLACES <= arc / ARC_LENGTH))
+}
+
+// The refusals 4, 5 and 21 of a frame with a template, `bad` being what 4 finds wrong besides byte 3, mask and template.
+fn template_refusal(frame: &[u8], op: u8, fields: Fields, bad: bool) -> u8
+    requires { ⌜ 4 ≤ length (now frame) ⌝ }
+    ensures { λ r. ⌜ r ≡ templateRefusal (now (frame .entry)) op fields bad ⌝ }
+{
+    let mask = frame[MASK_AT];
+    let n = head_refusal(
+        frame,
+        op,
+        (MAX_TEMPLATE_MASK < mask) | is_bad_template(mask, fields) | bad,
+    );
+    if n != 0 {
+        return n;
+    }
+    if is_bad_arc(mask, fields.place) {
+        PLACE_REFUSED
+    } else {
+        0
+    }
+}
+
 // The length of an operation's frames, worked out from the operation: a frame ends where the first part would begin
 // that its operation's frames do not have (fields, lease or timeout, transaction); 0 if it is no operation.
 pub(crate) fn length_of(op: u8) -> usize
@@ -142,7 +181,11 @@ fn decode_write(frame: &[u8]) -> Decoded
     }
     let mask = frame[MASK_AT];
     let fields = whole_fields(frame, FIELDS_AT);
-    let n = head_refusal(frame, OP_WRITE, (15 < mask) | is_bad_blanks(mask, fields));
+    let n = head_refusal(
+        frame,
+        OP_WRITE,
+        (MAX_BLANKS < mask) | is_bad_blanks(mask, fields),
+    );
     if n != 0 {
         return Decoded::Refused(n);
     }
@@ -166,7 +209,7 @@ fn decode_find(frame: &[u8], op: u8) -> Decoded
     }
     let mask = frame[MASK_AT];
     let fields = whole_fields(frame, FIELDS_AT);
-    let n = head_refusal(frame, op, (15 < mask) | is_bad_template(mask, fields));
+    let n = template_refusal(frame, op, fields, false);
     if n != 0 {
         return Decoded::Refused(n);
     }
@@ -245,8 +288,7 @@ fn decode_notify(frame: &[u8]) -> Decoded
     }
     let mask = frame[MASK_AT];
     let fields = whole_fields(frame, FIELDS_AT);
-    let bad = (15 < mask) | is_bad_template(mask, fields);
-    let n = head_refusal(frame, OP_NOTIFY, bad | (whole_number(frame, TXN_AT) != 0));
+    let n = template_refusal(frame, OP_NOTIFY, fields, whole_number(frame, TXN_AT) != 0);
     if n != 0 {
         return Decoded::Refused(n);
     }
@@ -273,7 +315,7 @@ fn decode_renew(frame: &[u8]) -> Decoded
     Decoded::Asks(Request::Renew(frame[PARTY_AT], entry, whole_number(frame, LEASE_AT)))
 }
 
-// What a frame asks for, or the first of the refusals 2 to 5 that applies.
+// What a frame asks for, or the first of the refusals 2 to 5 and 21 that applies.
 pub fn decode(frame: &[u8]) -> Decoded
     ensures { λ r. ⌜ Decodes (now (frame .entry)) r ⌝ }
 {

@@ -1,5 +1,5 @@
 -- Every frame is answered: each model that a step gives is that of some words.
-use Prim.Native.Nat.{ℕ, zero, suc, _/_, _^_, _<_}
+use Prim.Native.Nat.{ℕ, zero, suc, _/_, _^_, _≤_, _<_}
 use mathlib.Core.Bool.{Bool, true, false, not, _&&_, _||_}
 use mathlib.Core.Logic.{_⊎_, inl, inr}
 use mathlib.Core.Path.{_≡_, refl, sym, _∙_, subst, subst⁻¹}
@@ -21,7 +21,7 @@ use Rattle.rules.specs.Template.{bit}
 use Rattle.rules.specs.Frame.{Frame, decode, isTick, hasTemplate, hasBlanks, namesNoTxn}
 use Rattle.rules.specs.LookUp.{lookUpOf}
 use Rattle.rules.specs.Transactions.{orZero, freeSlot}
-use Rattle.rules.specs.Refusals.{badTemplate, badBlanks, malformed, wrongParty, refusal}
+use Rattle.rules.specs.Refusals.{highest, badTemplate, badBlanks, malformed, wrongParty, refusal}
 use Rattle.rules.specs.Step.{Outcome, step}
 use Rattle.rules.specs.Words.{view}
 use Rattle.rules.specs.Allowed.{Answered, Allowed}
@@ -74,7 +74,9 @@ mask-fits f e =
     let second =
     or-left _ (not (hasTemplate (f .op) || hasBlanks (f .op)) && not (eqb (f .mask) 0))
     (or-left _ (hasTemplate (f .op) && badTemplate (f .mask) (f .fields)) first) in
-    let l = ltb-false 15 (f .mask) (or-right (not (eqb (f .byte3) 0)) _ second) in
+    let l = ltb-false (highest (f .op)) (f .mask) (or-right (not (eqb (f .byte3) 0)) _ second) in
+    let most : highest (f .op) ≤ 23 =
+    cond-cases (λ n. n ≤ 23) (hasTemplate (f .op)) (λ _. omega arith) (λ _. omega arith) in
     omega arith
 
 slot-fits : (ts : List Txn) → freeSlot ts < 8

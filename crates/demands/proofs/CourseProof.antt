@@ -16,7 +16,7 @@ use Rattle.rules.specs.Step.{step}
 use Rattle.rules.specs.Tray.{runTray, hostNumber}
 use Rattle.rules.specs.Print.{digits, line, recordLine, doneLine, printed}
 use Rattle.demands.specs.Frames.{write-blank, Found-blank, renew-by, Renewed, notify-by, Notified, Rung, F, E}
-use Rattle.demands.specs.Frames.{long, write-by, read-by, take-by, create-by, commit-by, abort-by, a-tick, times}
+use Rattle.demands.specs.Frames.{long, write-by, read-by, read-arc, take-by, create-by, commit-by, abort-by, a-tick, times}
 use Rattle.demands.specs.Frames.{Written, Found, Nothing, Created, Committed, Aborted, Exception, Ticked, Refused}
 use Rattle.demands.specs.Course.{answersFrom, answers, Starred}
 use Rattle.demands.proofs.Computed.{all-rules, all-trays}
@@ -138,9 +138,12 @@ refusals : Refused-with
     ∷ (empty, 12 ∷ 5 ∷ [], 2)
     ∷ (empty, take 11 (renew-by 1 1 9), 3)
     ∷ (empty, 9 ∷ 0 ∷ 0 ∷ [], 3)
-    -- byte 3, a mask above 15, a blank that is not 0, a template's field without its bit, a transaction in a create
+    -- byte 3, a mask above 15, bit 4 with bit 3, bits above, a blank that is not 0, a template's field without its bit, a
+    -- transaction in a create
     ∷ (empty, 9 ∷ 0 ∷ 0 ∷ 1 ∷ [], 4)
-    ∷ (empty, long 2 1 0 9 16 noFields, 4)
+    ∷ (empty, long 2 1 0 9 24 noFields, 4)
+    ∷ (empty, long 2 1 0 9 32 noFields, 4)
+    ∷ (empty, long 2 1 0 9 17 (F 7 0 1 0), 4)
     ∷ (empty, write-blank 1 0 0 16 noFields, 4)
     ∷ (empty, write-blank 1 0 9 1 E, 4)
     ∷ (empty, long 2 1 0 9 1 E, 4)
@@ -150,6 +153,12 @@ refusals : Refused-with
     ∷ (empty, create-by 0 9, 5)
     ∷ (empty, create-by 17 9, 5)
     ∷ (empty, 9 ∷ 1 ∷ 0 ∷ 0 ∷ [], 5)
+    -- an arc that starts off the face, or is too long
+    ∷ (empty, read-arc 1 0 9 720 0, 21)
+    ∷ (empty, read-arc 1 0 9 0 720, 21)
+    ∷ (empty, read-arc 17 0 9 720 0, 5)
+    ∷ (one-waits, read-arc 1 0 9 0 720, 21)
+    ∷ (one-waits, read-arc 1 0 9 719 719, 6)
     ∷ (one-waits, create-by 1 9, 6)
     ∷ (one-waits, renew-by 1 1 9, 6)
     ∷ (one-waits, notify-by 1 9 7, 6)

@@ -8,7 +8,7 @@ use native.Mathlib.Omega.{arith}
 use borrow.Author.Tests.{eqb-true, eqb-false, eq-eqb, ne-eqb, ltb-true, ltb-false, leb-true}
 use lib.Dec.{eqb, leb, ltb}
 use Rattle.rules.specs.Lists.{firstRow}
-use Rattle.rules.specs.Numbers.{stepArea, areaRefused, heldRefused}
+use Rattle.rules.specs.Numbers.{stepArea, areaRefused, placeRefused}
 use Rattle.rules.specs.State.{Model}
 use Rattle.rules.specs.Records.{refused}
 use Rattle.rules.specs.Frame.{decode}
@@ -32,9 +32,9 @@ first-up-to k (r ∷ rs) e =
     cond-cases (λ n. n ≤ k) (r .0) (λ _. leb-true (r .1) k (and-left (leb (r .1) k) (upTo k rs) e))
     (λ _. first-up-to k rs (and-right (leb (r .1) k) (upTo k rs) e))
 
-pub refusal-fits : (m : Model) (bs : List ℕ) (area : ℕ) → refusal m bs area ≤ heldRefused
+pub refusal-fits : (m : Model) (bs : List ℕ) (area : ℕ) → refusal m bs area ≤ placeRefused
 unfolding refusal
-refusal-fits m bs area = first-up-to heldRefused ((ltb area stepArea, areaRefused) ∷ laterRows m bs) refl
+refusal-fits m bs area = first-up-to placeRefused ((ltb area stepArea, areaRefused) ∷ laterRows m bs) refl
 
 -- 1 exactly when the area is under 700 bytes: no other row has that number
 pub one-is : (m : Model) (bs : List ℕ) (area : ℕ) → (refusal m bs area ≡ areaRefused) ↔ (area < stepArea)

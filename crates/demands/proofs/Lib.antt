@@ -39,6 +39,7 @@ pub mod WaitingListProof
 pub mod TraysProof
 pub mod Computed
 pub mod CourseProof
+pub mod ClockFaceProof
 pub mod TidiedProof
 pub mod WithdrawnProof
 pub mod RuledOutProof

@@ -32,12 +32,13 @@ use Rattle.demands.specs.Book.{writerOf, enters, entersAll, arrives, kee
 use Rattle.demands.specs.Told.{Told, readsNumber, whoTakes, whoReads, committedTold, privateTold, told}
 use Rattle.demands.specs.Demands.{Demand1, Demand2, Demand3}
 use Rattle.demands.specs.Frames.{E, write-by, read-by, take-by, readIfExists-by, create-by, commit-by, abort-by}
-use Rattle.demands.specs.Frames.{F, a-tick, write-blank, renew-by, notify-by}
+use Rattle.demands.specs.Frames.{F, a-tick, write-blank, read-arc, renew-by, notify-by}
 use Rattle.demands.specs.RuledOut.{saysNothing, saysWaiting, refusesAll, sameRecord, storesNothing}
 use Rattle.demands.specs.RuledOut.{firstFrameOnly, oneMore, losesCommit, putsBackLate, ownReadBars, nothingFirst}
 use Rattle.demands.specs.RuledOut.{showsPrivate, ignoresWrites, writesTwice, ticksAtWrites, neverExpires}
 use Rattle.demands.specs.RuledOut.{lastExceptionFirst, lastServedFirst, servesEnded, newestFirst, waitsInVain}
 use Rattle.demands.specs.RuledOut.{givesUpFirst, byParty, nothingsByParty, newestInService, takesLongCommits}
+use Rattle.demands.specs.RuledOut.{stopsAtTwelve, arcsMatchBlanks, arcsGoRound}
 use Rattle.demands.specs.RuledOut.{ringsPutBacks, ringsForEach, ringsFirst, startsOver, ringsOn}
 use Rattle.demands.specs.RuledOut.{renewsFromTheWrite, renewsHeld, renewsAnothers, leavesLease0, forgetsWriter}
 use Rattle.demands.specs.RuledOut.{matchesBlanks, losesBlanks, leavesByte3, takesFilledBlanks, refusesBlanks}
@@ -171,7 +172,7 @@ unfolding all-rules all-told lastOf logOf answeredBy orderedb saysNothing saysWa
     matchesBlanks losesBlanks leavesByte3 takesFilledBlanks refusesBlanks
     renewsFromTheWrite renewsHeld renewsAnothers leavesLease0 forgetsWriter writerOf byParty enters entersAll arrives
     keepBook bookOf ringsPutBacks ringsForEach ringsFirst startsOver ringsOn published registers registersAll notes
-    keepRegistry registryOf
+    keepRegistry registryOf stopsAtTwelve arcsMatchBlanks arcsGoRound
 each-ruled-out =
     record {
       says-nothing = λ d.
@@ -335,5 +336,16 @@ each-ruled-out =
           let fs = notify-by 2 1 7 ∷ a-tick ∷ [] in
           let b = d .registered (logOf ringsOn empty fs) (lastOf ringsOn empty fs) (from-empty ringsOn fs) in
           let q : _≡_ {A = ℕ} 1 0 = ap length (b .live) in omega arith;
+      -- a mark at 12:20, looked for from 11:40 on
+      stops-at-twelve = λ d.
+          by-said stopsAtTwelve d (write-by 1 0 9 (F 7 1 40 20) ∷ []) (read-arc 2 0 0 700 40) refl refl (kindAt 0)
+          (λ (q : 2 ≡ 3). omega arith);
+      -- a mark without a place, and one off the face, looked for at 12:00
+      arcs-match-blanks = λ d.
+          by-said arcsMatchBlanks d (write-blank 1 0 9 8 (F 7 1 40 0) ∷ []) (read-arc 2 0 0 0 0) refl refl (kindAt 0)
+          (λ (q : 3 ≡ 2). omega arith);
+      arcs-go-round = λ d.
+          by-said arcsGoRound d (write-by 1 0 9 (F 7 1 40 720) ∷ []) (read-arc 2 0 0 0 0) refl refl (kindAt 0)
+          (λ (q : 3 ≡ 2). omega arith);
       answers-none = λ d. d .answers [] empty (empty, refl, begun empty) (handIn a-tick) .2;
     }

@@ -1,4 +1,5 @@
 -- The theorems. They assume nothing.
+use Rattle.demands.specs.ClockFace.{ClockFace}
 use Rattle.demands.specs.Machine.{theSpace, theRules}
 use Rattle.demands.specs.Demands.{Demand1, Demand2, Demand3}
 use Rattle.demands.specs.Determined.{Determined, ThirdFollows}
@@ -9,6 +10,7 @@ use Rattle.demands.specs.Bounds.{Bounds}
 use Rattle.demands.specs.RuledOut.{RuledOut}
 use Rattle.demands.specs.Tidied.{Tidied}
 use Rattle.demands.specs.Withdrawn.{Withdrawn}
+use Rattle.demands.proofs.ClockFaceProof.{clock-face-holds}
 use Rattle.demands.proofs.ByRule.{space-follows, rules-follow}
 use Rattle.demands.proofs.Follows.{follows-1, follows-2, follows-3, follows-bounds}
 use Rattle.demands.proofs.Answering.{space-begins, space-answers, rules-begin, rules-answer}
@@ -84,6 +86,10 @@ tidied = the-number-is-tidied
 -- What an abort out of a wait changes, and what it leaves.
 pub withdrawn : Withdrawn
 withdrawn = escape-is-carried-out
+
+-- Positions on the clock face.
+pub clock-face : ClockFace
+clock-face = clock-face-holds
 
 -- Wrong spaces.
 pub ruled-out : RuledOut

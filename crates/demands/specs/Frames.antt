@@ -9,6 +9,7 @@ use Rattle.rules.specs.Numbers.{opTick, opNotify, opRenew, kindWritten, kindFou
 use Rattle.rules.specs.Numbers.{kindCreated, kindCommitted, kindAborted, kindException, kindTicked, kindNotified}
 use Rattle.rules.specs.Numbers.{kindRung, kindRenewed, kindRefused}
 use Rattle.rules.specs.Records.{noMark, plain}
+use Rattle.rules.specs.Places.{arcOf}
 use Rattle.rules.specs.Template.{markOf}
 use Rattle.rules.specs.Frame.{fourBytes}
 
@@ -44,6 +45,10 @@ readIfExists-by party t timeout k = long opReadIfExists party t timeout 1 (F k 0
 
 abbrev pub takeIfExists-by : ℕ → ℕ → ℕ → ℕ → List ℕ
 takeIfExists-by party t timeout k = long opTakeIfExists party t timeout 1 (F k 0 0 0)
+
+-- by party: the transaction, the timeout, and the start and the length of an arc, the one thing that is asked for
+abbrev pub read-arc : ℕ → ℕ → ℕ → ℕ → ℕ → List ℕ
+read-arc party t timeout start size = long opRead party t timeout 16 (F 0 0 0 (arcOf start size))
 
 -- by party: the lease, and a kind, the one field that is asked for
 abbrev pub notify-by : ℕ → ℕ → ℕ → List ℕ

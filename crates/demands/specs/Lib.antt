@@ -18,6 +18,7 @@ pub mod Bounds
 pub mod Trays
 pub mod Frames
 pub mod Course
+pub mod ClockFace
 pub mod RuledOut
 -- the rules as they were before a request, beside the rules as they are
 pub mod Tidied

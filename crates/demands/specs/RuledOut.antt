@@ -1,9 +1,9 @@
 -- What the demands rule out: a small wrong space for each of document 01's Contracts c, for each mistake that students
 -- make, for silence, order and time, for the newest mark first, for frames of another length, for number 14, for
--- aborts out of a wait, for waits in vain, for blanks, for renewals and for bells; and the statement that the demand
--- named for it fails.
+-- aborts out of a wait, for waits in vain, for blanks, for renewals, for bells and for arcs; and the statement that the
+-- demand named for it fails.
 -- (`Determined` says that no wrong space is left.)
-use Prim.Native.Nat.{ℕ, suc, _+_}
+use Prim.Native.Nat.{ℕ, suc, _+_, _%_}
 use mathlib.Core.Bool.{Bool, true, not, cond, _&&_, _||_}
 use mathlib.Core.Path.{_≡_}
 use mathlib.Core.List.{List, [], _∷_, _++_, map, foldr, reverse}
@@ -16,11 +16,12 @@ use Rattle.rules.specs.declared.Registration.{Registration}
 use Rattle.rules.specs.declared.Until.{Until}
 use Rattle.rules.specs.declared.Until.the-variants.{Tick, Forever}
 use Rattle.rules.specs.Numbers.{notWriterRefused, heldRefused, maxWaits, opCreate, opCommit, operationRefused}
-use Rattle.rules.specs.Numbers.{formRefused, waitingRefused}
+use Rattle.rules.specs.Numbers.{formRefused, waitingRefused, places}
 use Rattle.rules.specs.Lists.{filterb, findb, joined}
 use Rattle.rules.specs.Time.{until, reached}
 use Rattle.rules.specs.State.{Model, withEntries, withWaits, withClock, withNextEntry, withRegistrations}
-use Rattle.rules.specs.Template.{matches, markOf, bare}
+use Rattle.rules.specs.Places.{startOf}
+use Rattle.rules.specs.Template.{asksArc, matches, fourFields, markOf, bare}
 use Rattle.rules.specs.Holds.{visible, available, oldest}
 use Rattle.rules.specs.Frame.{Frame, byteAt, decode, frameLength, isWrite, isLookUp, isCommit, isAbort, isTick, isRenew}
 use Rattle.rules.specs.Frame.{entryNamed, serves}
@@ -455,6 +456,40 @@ ringsOn =
 abbrev pub mute : Machine
 mute = record { State = Model; view = λ m. m; Empty = theRules .Empty; Steps = λ m h n a. ⊥ }
 
+-- "Positions on the clock face" (document 02, T-09)
+
+-- a look-up finds the first entry that passes a test
+abbrev finding : (Model → LookUp → Entry → Bool) → Stepper
+finding passes =
+    carrying lookUps
+    (λ m f. let w = lookUpOf m f in alone (answer m w (f .leaseOrTimeout) (findb (passes m w) (m .entries))))
+
+-- an arc does not cross 12:00
+unfoldable pub stopsAtTwelve : Stepper
+stopsAtTwelve =
+    finding (λ m w e. available (m .txns) w e && leb (startOf (w .fields .place)) (e .fields .place))
+
+-- it matches a blank
+unfoldable pub arcsMatchBlanks : Stepper
+arcsMatchBlanks = finding (λ m w e. available (m .txns) w (cond (asksArc (w .mask)) (unblanked e) e))
+
+-- it matches a place of 720 and more, by its remainder
+abbrev pub turned : Entry → Entry
+turned e =
+    record {
+      id = e .id;
+      fields = markOf (e .fields .blanks)
+          (fourFields (e .fields .kind) (e .fields .side) (e .fields .image) (e .fields .place % places));
+      end = e .end;
+      «private_to» = e .«private_to»;
+      «taken_by» = e .«taken_by»;
+      readers = e .readers;
+      writer = e .writer;
+    }
+
+unfoldable pub arcsGoRound : Stepper
+arcsGoRound = finding (λ m w e. available (m .txns) w (cond (asksArc (w .mask)) (turned e) e))
+
 -- Each of them fails the demand named for it.
 pub record RuledOut : Type 0 where
   pub says-nothing : Demand2 (spaceOf saysNothing) → ⊥
@@ -501,4 +536,7 @@ pub record RuledOut : Type 0 where
   pub rings-first : Demand2 (spaceOf ringsFirst) → ⊥
   pub starts-over : Demand2 (spaceOf startsOver) → ⊥
   pub rings-on : Demand2 (spaceOf ringsOn) → ⊥
+  pub stops-at-twelve : Demand2 (spaceOf stopsAtTwelve) → ⊥
+  pub arcs-match-blanks : Demand2 (spaceOf arcsMatchBlanks) → ⊥
+  pub arcs-go-round : Demand2 (spaceOf arcsGoRound) → ⊥
   pub answers-none : Demand1 mute → ⊥

@@ -1,11 +1,11 @@
--- An entry matches where no blank is asked for and every field that is asked for is equal.
+-- What a template asks for is equal where no blank is asked for and every field that is asked for is equal.
 use Prim.Native.Nat.{ℕ}
 use mathlib.Core.Bool.{Bool, true, false, not, cond, _&&_, _||_, and-assoc, or-assoc}
 use mathlib.Core.Path.{_≡_, refl, sym, ap, ap₂, _∙_}
 use lib.Dec.{eqb}
 use Rattle.rules.specs.declared.Fields.{Fields}
 use Rattle.rules.specs.declared.Mark.{Mark}
-use Rattle.rules.specs.Template.{bit, agrees, matches}
+use Rattle.rules.specs.Template.{bit, agrees, askedEqual}
 use Rattle.holds.specs.Find.{blankAsked}
 
 -- one field, and the rest: r says that those agree, s that a blank is asked for among them
@@ -46,12 +46,12 @@ four a0 b0 e0 a1 b1 e1 a2 b2 e2 a3 b3 e3 =
     (and-last (not a0 || e0) (not a1 || e1) (not a2 || e2) (not a3 || e3)))
 
 pub match-is : (mask : ℕ) (want : Fields) (have : Mark)
-    → matches mask want have
+    → askedEqual mask want have
     ≡ cond (blankAsked mask (have .blanks)) false
     (agrees (bit 0 mask) false (want .kind) (have .kind) && agrees (bit 1 mask) false (want .side) (have .side)
     && agrees (bit 2 mask) false (want .image) (have .image)
     && agrees (bit 3 mask) false (want .place) (have .place))
-unfolding matches
+unfolding askedEqual
 match-is mask want have =
     let blanks = have .blanks in
     four (bit 0 mask) (bit 0 blanks) (eqb (want .kind) (have .kind)) (bit 1 mask) (bit 1 blanks)

@@ -1,7 +1,9 @@
 // Who holds what: templates, read holders, availability.
 ghost use mathlib.Core.Path.{_≡_};
-ghost use Prim.Native.Nat.{_^_, _≤_};
-ghost use Rattle.rules.specs.Template.{bit, agrees, matches};
+ghost use Prim.Native.Nat.{_+_, _-_, _%_, _^_, _≤_, _<_};
+ghost use Rattle.rules.specs.Numbers.{places};
+ghost use Rattle.rules.specs.Places.{inArc};
+ghost use Rattle.rules.specs.Template.{bit, agrees, askedEqual, asksArc, lies, matches};
 ghost use Rattle.rules.specs.Holds.{isOther, othersIf, readByOther, available, conflicts};
 ghost use Rattle.rules.specs.Words.{view};
 ghost use Rattle.holds.specs.Live.{noSlot};
@@ -17,6 +19,7 @@ use rules::Fields;
 use rules::LookUp;
 use rules::Mark;
 use rules::TxnId;
+use rules::numbers::PLACES;
 use words::rows::Words;
 
 // Two to the p, for a bit of a byte or the first above it.
@@ -90,8 +93,9 @@ pub(crate) fn is_blank_asked(mask: u8, blanks: u8) -> bool
     kind | side | image | place
 }
 
-pub(crate) fn fields_match(mask: u8, want: Fields, have: Mark) -> bool
-    ensures { λ r. ⌜ r ≡ matches mask want have ⌝ }
+// Whether every field that the template asks for is equal.
+pub(crate) fn is_equal(mask: u8, want: Fields, have: Mark) -> bool
+    ensures { λ r. ⌜ r ≡ askedEqual mask want have ⌝ }
 {
     if is_blank_asked(mask, have.blanks) {
         return false;
@@ -102,6 +106,61 @@ pub(crate) fn fields_match(mask: u8, want: Fields, have: Mark) -> bool
     let d = field_agrees(mask, 3, want.place, have.place);
     if a {
         if b { if c { d } else { false } } else { false }
+    } else {
+        false
+    }
+}
+
+// Whether the template asks for an arc.
+pub(crate) fn asks_arc(mask: u8) -> bool
+    ensures { λ r. ⌜ r ≡ asksArc mask ⌝ }
+{
+    has_bit(mask, 4) & !has_bit(mask, 3)
+}
+
+// An arc's length is told by the bits from the 17th on.
+const ARC_LENGTH: u32 = 65536;
+
+// How far a place lies behind a start, round the face.
+pub(crate) fn distance(place: u32, start: u32) -> u32
+    requires { ⌜ place < places ⌝ }
+    ensures { λ r. ⌜ r ≡ (place + places - start) % places ⌝ }
+{
+    let round = place + PLACES;
+    if round < start {
+        return 0;
+    }
+    (round - start) % PLACES
+}
+
+// Whether a place lies in the arc.
+pub(crate) fn in_arc(arc: u32, place: u32) -> bool
+    ensures { λ r. ⌜ r ≡ inArc arc place ⌝ }
+{
+    if PLACES <= place {
+        return false;
+    }
+    distance(place, arc % ARC_LENGTH) <= arc / ARC_LENGTH
+}
+
+// Whether a place is no blank and lies in the arc, where the template asks for one.
+pub(crate) fn is_placed(mask: u8, arc: u32, have: Mark) -> bool
+    ensures { λ r. ⌜ r ≡ lies (asksArc mask) (bit 3 (have .blanks)) arc (have .place) ⌝ }
+{
+    if !asks_arc(mask) {
+        return true;
+    }
+    if has_bit(have.blanks, 3) {
+        return false;
+    }
+    in_arc(arc, have.place)
+}
+
+pub(crate) fn fields_match(mask: u8, want: Fields, have: Mark) -> bool
+    ensures { λ r. ⌜ r ≡ matches mask want have ⌝ }
+{
+    if is_equal(mask, want, have) {
+        is_placed(mask, want.place, have)
     } else {
         false
     }

@@ -11,7 +11,7 @@ use Rattle.rules.specs.Numbers.{stepArea, areaRefused}
 use Rattle.rules.specs.State.{Model}
 use Rattle.rules.specs.declared.LookUp.{LookUp}
 use Rattle.rules.specs.Frame.{Frame, decode, isOperation, isAbort}
-use Rattle.rules.specs.Refusals.{noOperation, wrongLength, malformed, wrongParty, withdraws, partyWaits, notLive}
+use Rattle.rules.specs.Refusals.{noOperation, wrongLength, malformed, wrongParty, wrongArc, withdraws, partyWaits, notLive}
 use Rattle.rules.specs.Refusals.{notOwn, noEntry, notWriter, notFree, noLease, tooLate, entriesFull, txnsFull}
 use Rattle.rules.specs.Refusals.{registrationsFull, noNumber, rows, refusal, formRows, admissionRows, roomRows}
 use Rattle.rules.specs.Requests.{formRefusal, spaceRefusal}
@@ -49,6 +49,7 @@ pub record Clear (m : Model) (bs : List ℕ) (area : ℕ) : Type 0 where
   pub size : wrongLength bs (decode bs) ≡ false
   pub form : malformed (decode bs) ≡ false
   pub party : wrongParty (decode bs) ≡ false
+  pub arc : wrongArc (decode bs) ≡ false
   pub free : partyWaits m (decode bs) ≡ false
   pub entry : noEntry m (decode bs) ≡ false
   pub writer : notWriter m (decode bs) ≡ false
@@ -72,18 +73,19 @@ clear m bs area e =
       size = r 2;
       form = r 3;
       party = r 4;
-      free = r 5;
-      entry = r 6;
-      writer = r 7;
-      unheld = r 8;
-      live = r 9;
-      own = r 10;
-      lease = r 11;
-      time = r 12;
-      entry-room = r 13;
-      txn-room = r 14;
-      registration-room = r 15;
-      numbers = r 16;
+      arc = r 5;
+      free = r 6;
+      entry = r 7;
+      writer = r 8;
+      unheld = r 9;
+      live = r 10;
+      own = r 11;
+      lease = r 12;
+      time = r 13;
+      entry-room = r 14;
+      txn-room = r 15;
+      registration-room = r 16;
+      numbers = r 17;
     }
 
 -- who waits not, of the party of a frame that is no abort

@@ -6,6 +6,7 @@ pub mod Lists
 -- Entries, templates, time
 pub mod Time
 pub mod State
+pub mod Places
 pub mod Template
 -- Who holds what
 pub mod Holds

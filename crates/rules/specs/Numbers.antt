@@ -23,6 +23,10 @@ maxWaits = 16
 abbrev pub maxRegistrations : ℕ
 maxRegistrations = 8
 
+-- "0 to 719": the places of a clock face (document 02, T-09)
+abbrev pub places : ℕ
+places = 720
+
 -- "28 bytes", "A step writes at most 25 records (700 bytes)"
 abbrev pub recordSize : ℕ
 recordSize = 28
@@ -189,6 +193,11 @@ notWriterRefused = 19
 -- it is private or held
 abbrev pub heldRefused : ℕ
 heldRefused = 20
+
+-- a start, a length, a position to convert or mirror exceeds 719, or an hour or minute is out of range (document 02,
+-- T-09)
+abbrev pub placeRefused : ℕ
+placeRefused = 21
 
 -- Refusals of a tray. (14 is never given out: document 02, T-04.)
 

@@ -15,7 +15,8 @@ use Rattle.rules.specs.Numbers.{forever, lastClock, maxParty, maxEntries
 use Rattle.rules.specs.Numbers.{areaRefused, operationRefused, lengthRefused, formRefused, partyRefused}
 use Rattle.rules.specs.Numbers.{waitingRefused, notLiveRefused, notOwnRefused, leaseRefused, clockRefused}
 use Rattle.rules.specs.Numbers.{entriesRefused, txnsRefused, numberRefused, noEntryRefused, notWriterRefused}
-use Rattle.rules.specs.Numbers.{heldRefused, registrationsRefused}
+use Rattle.rules.specs.Numbers.{heldRefused, registrationsRefused, places, placeRefused}
+use Rattle.rules.specs.Places.{startOf, lengthOf}
 use Rattle.rules.specs.State.{Model}
 use Rattle.rules.specs.Template.{bit}
 use Rattle.rules.specs.Holds.{liveTxn}
@@ -46,18 +47,22 @@ someFilled kind side image place fields =
 -- "a template field not 0 where its bit is 0"
 abbrev pub badTemplate : ℕ → Fields → Bool
 badTemplate mask fields =
-    someFilled (not (bit 0 mask)) (not (bit 1 mask)) (not (bit 2 mask)) (not (bit 3 mask)) fields
+    someFilled (not (bit 0 mask)) (not (bit 1 mask)) (not (bit 2 mask)) (not (bit 3 mask || bit 4 mask)) fields
+
+-- the highest mask: in a template 16 to 23 have bit 4 without bit 3, "but not with bit 3" (document 02, T-09)
+abbrev pub highest : ℕ → ℕ
+highest op = cond (hasTemplate op) 23 15
 
 -- "a bit of 1 is blank, and the field must be 0" (document 02, T-08)
 abbrev pub badBlanks : ℕ → Fields → Bool
 badBlanks mask fields = someFilled (bit 0 mask) (bit 1 mask) (bit 2 mask) (bit 3 mask) fields
 
--- 4: byte 3 not 0; mask above 15; mask not 0 outside look-ups, notifies and writes; a bad template; a blank that is not
+-- 4: byte 3 not 0; mask above 15, in a template above 23; mask not 0 outside look-ups, notifies and writes; a bad template; a blank that is not
 -- 0; create or notify naming a transaction
 unfoldable pub malformed : Frame → Bool
 malformed f =
     not (eqb (f .byte3) 0)
-    || ltb 15 (f .mask)
+    || ltb (highest (f .op)) (f .mask)
     || not (hasTemplate (f .op) || hasBlanks (f .op)) && not (eqb (f .mask) 0)
     || hasTemplate (f .op) && badTemplate (f .mask) (f .fields)
     || hasBlanks (f .op) && badBlanks (f .mask) (f .fields)
@@ -66,6 +71,13 @@ malformed f =
 -- 5: party not 1-16, or not 0 for tick
 unfoldable pub wrongParty : Frame → Bool
 wrongParty f = cond (isTick (f .op)) (not (eqb (f .party) 0)) (eqb (f .party) 0 || ltb maxParty (f .party))
+
+-- 21: "when a start, a length .. exceeds 719, .. after 5": of an arc (document 02, T-09)
+abbrev pub badArc : ℕ → ℕ → Bool
+badArc mask arc = bit 4 mask && (leb places (startOf arc) || leb places (lengthOf arc))
+
+unfoldable pub wrongArc : Frame → Bool
+wrongArc f = hasTemplate (f .op) && badArc (f .mask) (f .fields .place)
 
 -- "An abort of the transaction in which the party's own look-up waits is now carried out. The look-up is withdrawn"
 -- (document 02, T-01). One that waits outside transactions is not.
@@ -149,13 +161,14 @@ noNumber m f =
 
 -- The table. Each row: whether it applies, and its number.
 
--- 2 to 5, of the frame's bytes alone
+-- 2 to 5 and 21, of the frame's bytes alone
 abbrev pub formRows : List ℕ → Frame → List (Bool × ℕ)
 formRows bs f =
     (noOperation bs f, operationRefused)
     ∷ (wrongLength bs f, lengthRefused)
     ∷ (malformed f, formRefused)
     ∷ (wrongParty f, partyRefused)
+    ∷ (wrongArc f, placeRefused)
     ∷ []
 
 -- 6 to 8, of the party, the entry that it renews and its transaction

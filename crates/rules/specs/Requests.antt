@@ -55,11 +55,11 @@ abbrev pub numberOf : Decoded → ℕ
 numberOf (Asks q) = 0
 numberOf (Refused n) = n
 
--- the rows of the table that judge a frame's bytes alone: the first of 2 to 5 that applies, or 0
+-- the rows of the table that judge a frame's bytes alone: the first of 2 to 5 and 21 that applies, or 0
 unfoldable pub formRefusal : List ℕ → ℕ
 formRefusal bs = firstRow (formRows bs (decode bs))
 
--- and those that judge it against the space: the first of those behind 5 that applies, or 0
+-- and those that judge it against the space: the first of those behind 21 that applies, or 0
 unfoldable pub spaceRefusal : Model → Frame → ℕ
 spaceRefusal m f = firstRow (admissionRows m f ++ roomRows m f)
 

@@ -12,6 +12,9 @@ pub const MAX_TXNS: usize = 8;
 
 pub const MAX_WAITS: usize = 16;
 
+// The places of a clock face.
+pub const PLACES: u32 = 720;
+
 pub const MAX_REGISTRATIONS: usize = 8;
 
 pub const MAX_PARTY: u8 = 16;
@@ -115,3 +118,5 @@ pub const NO_ENTRY_REFUSED: u8 = 18;
 pub const NOT_WRITER_REFUSED: u8 = 19;
 
 pub const HELD_REFUSED: u8 = 20;
+
+pub const PLACE_REFUSED: u8 = 21;

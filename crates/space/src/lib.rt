@@ -1,17 +1,21 @@
 // Every function that a host may call: `rt staticlib space` gives libspace.a, and host/space.h declares them.
 ghost use mathlib.Core.Path.{_≡_};
 ghost use Rattle.rules.specs.Allowed.{Stepped, TrayRan};
+ghost use Rattle.rules.specs.Places.{placeOfTime, timeOfPlace, mirroredPlace};
 ghost use Rattle.rules.specs.State.{empty};
 ghost use Rattle.rules.specs.Words.{view};
 ghost use Rattle.words.specs.Rows.{emptyWords};
 ghost use Rattle.space.specs.Version.{version};
+use places::mirror_of;
+use places::place_of;
+use places::time_of;
 use step::step_frame;
 use tray::run_tray;
 use words::rows::Words;
 use words::rows::set_empty;
 
 // SPACE_VERSION of host/space.h. It goes up by one with each change that a host can see.
-pub const VERSION: u32 = 8;
+pub const VERSION: u32 = 9;
 
 #[no_mangle]
 pub extern "C" fn space_version() -> u32
@@ -35,6 +39,28 @@ pub extern "C" fn space_step(space: &mut Words, frame: &[u8], answers: &mut [u8]
         (now (space .exit)) r (now (answers .exit)) ⌝ }
 {
     step_frame(space, frame, answers)
+}
+
+// Positions on the clock face (the crate `places`).
+#[no_mangle]
+pub extern "C" fn place_of_time(hour: u32, minute: u32) -> u64
+    ensures { λ r. ⌜ r ≡ placeOfTime hour minute ⌝ }
+{
+    place_of(hour, minute)
+}
+
+#[no_mangle]
+pub extern "C" fn time_of_place(place: u32) -> u64
+    ensures { λ r. ⌜ r ≡ timeOfPlace place ⌝ }
+{
+    time_of(place)
+}
+
+#[no_mangle]
+pub extern "C" fn mirrored_place(place: u32) -> u64
+    ensures { λ r. ⌜ r ≡ mirroredPlace place ⌝ }
+{
+    mirror_of(place)
 }
 
 // The host hands in a tray and an answers area, and gets frames done, records and a number in one.

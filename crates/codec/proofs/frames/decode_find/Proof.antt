@@ -16,23 +16,23 @@ returns c =
 
 returns-2 : tie.Need-returns-2
 returns-2 c =
-    let n = c .before .before .before .before .before in
+    let n = c .before .before .before .before in
     let p = n .before .before .before .pre in
-    refused _ _ (c .before .head-refusal .ensures
-    ∙ rw (c .before .before .is-bad-template .ensures, c .before .before .before .whole-fields .ensures)
+    refused _ _ (c .before .template-refusal .ensures
+    ∙ rw (c .before .before .whole-fields .ensures)
     (sym (find-head _ _ (p .0, looks-up _ (p .1) (p .2)) (p .1) (p .2)
     (n .if1 .left ∙ n .before .length-of .ensures ∙ sym (find-length _ (p .1) (p .2)))))) (c .if2 .taken)
 
 returns-3 : tie.Need-returns-3
 returns-3 c =
     let head = c .before .before .before .before in
-    let n = head .before .before .before .before in
+    let n = head .before .before .before in
     let p = n .before .before .before .pre in
-    let fields = head .before .before .whole-fields .ensures in
+    let fields = head .before .whole-fields .ensures in
     rw (c .before .before .whole-number .ensures, c .whole-number2 .ensures, fields)
     (find-asks _ (find-head _ _ (p .0, looks-up _ (p .1) (p .2)) (p .1) (p .2)
     (n .if1 .left ∙ n .before .length-of .ensures ∙ sym (find-length _ (p .1) (p .2)))
-    ∙ sym (rw (head .before .is-bad-template .ensures, fields) at (head .head-refusal .ensures))
+    ∙ sym (rw (fields) at (head .template-refusal .ensures))
     ∙ c .before .before .before .if2 .left) _ (p .0) (p .1) (p .2))
 
 pub decode-find-spec : {M : Type 1} → statement M
@@ -43,7 +43,6 @@ decode-find-spec =
     (λ c κs. search needs)
     returns
     (λ c. search needs)
-    (λ c κs. search needs)
     (λ c κs. search needs)
     (λ c κs. search needs)
     returns-2

@@ -19,15 +19,11 @@ returns c =
 returns-2 : tie.Need-returns-2
 unfolding layoutOf
 returns-2 c =
-    let fields = c .before .before .before .before in
+    let fields = c .before .before .before in
     let n = fields .before .before in
     let e = n .before .before .before .pre in
-    refused _ _ (c .before .head-refusal .ensures
-    ∙ rw (
-      c .before .before .whole-number .ensures,
-      c .before .before .before .is-bad-template .ensures,
-      fields .whole-fields .ensures,
-    )
+    refused _ _ (c .before .template-refusal .ensures
+    ∙ rw (c .before .before .whole-number .ensures, fields .whole-fields .ensures)
     (sym (notify-head _ opNotify (sym e, refl) refl (n .if1 .left ∙ n .before .length-of .ensures))))
     (c .if2 .taken)
 
@@ -36,13 +32,12 @@ unfolding layoutOf
 returns-3 c =
     let head = c .before .before .before in
     let txn = head .before .whole-number .ensures in
-    let bad = head .before .before .is-bad-template .ensures in
-    let fields = head .before .before .before .whole-fields .ensures in
-    let n = head .before .before .before .before .before in
+    let fields = head .before .before .whole-fields .ensures in
+    let n = head .before .before .before .before in
     let e = n .before .before .before .pre in
     rw (c .whole-number2 .ensures, fields)
     (notify-asks _ (notify-head _ opNotify (sym e, refl) refl (n .if1 .left ∙ n .before .length-of .ensures)
-    ∙ sym (rw (txn, bad, fields) at (head .head-refusal .ensures))
+    ∙ sym (rw (txn, fields) at (head .template-refusal .ensures))
     ∙ c .before .before .if2 .left) e)
 
 pub decode-notify-spec : {M : Type 1} → statement M
@@ -53,7 +48,6 @@ decode-notify-spec =
     (λ c κs. search needs)
     returns
     (λ c. search needs)
-    (λ c κs. search needs)
     (λ c κs. search needs)
     (λ c κs. search needs)
     (λ c κs. search needs)

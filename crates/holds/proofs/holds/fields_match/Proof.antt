@@ -1,51 +1,17 @@
 -- `holds::holds::fields_match` meets its contract. Assumes nothing.
 use borrow.Author.Needs.{needs}
-use mathlib.Core.Bool.{_&&_}
-use mathlib.Core.Path.{_≡_, sym, _∙_}
+use mathlib.Core.Path.{sym, _∙_}
 use Rattle.rules.specs.Template.{matches}
-use Rattle.holds.proofs.MatchLaws.{match-is}
 use Rattle.holds.proofs.holds.fields_match.Statement.{statement}
 use Rattle.holds.proofs.holds.fields_match.Tie as tie
 
 returns : tie.Need-returns
-returns c =
-    let a = c .before .before .args in
-    rw (match-is (a .mask) (a .want) (a .have), sym (c .before .is-blank-asked .ensures) ∙ c .if1 .taken)
-
--- no blank is asked for: the four tests tell
-tested : (s : tie.After-field-agrees4)
-    → let b = s .before .before .before in let a = b .before .before .before .args in
-    matches (a .mask) (a .want) (a .have)
-    ≡ (b .field-agrees .result && s .before .before .field-agrees2 .result && s .before .field-agrees3 .result
-    && s .field-agrees4 .result)
-tested s =
-    let b = s .before .before .before in
-    let a = b .before .before .before .args in
-    rw (
-      match-is (a .mask) (a .want) (a .have),
-      sym (b .before .before .is-blank-asked .ensures) ∙ b .before .if1 .left,
-      sym (b .field-agrees .ensures),
-      sym (s .before .before .field-agrees2 .ensures),
-      sym (s .before .field-agrees3 .ensures),
-      sym (s .field-agrees4 .ensures),
-    )
+unfolding matches
+returns c = rw (sym (c .before .before .is-equal .ensures) ∙ c .before .if1 .taken, c .is-placed .ensures)
 
 returns-2 : tie.Need-returns-2
-returns-2 c =
-    rw (tested (c .before .before .before), c .before .before .if2 .taken, c .before .if3 .taken, c .if4 .taken)
-
-returns-3 : tie.Need-returns-3
-returns-3 c =
-    rw (tested (c .before .before .before), c .before .before .if2 .taken, c .before .if3 .taken, c .if4 .left)
-
-returns-4 : tie.Need-returns-4
-returns-4 c = rw (tested (c .before .before), c .before .if2 .taken, c .if3 .left)
-
-returns-5 : tie.Need-returns-5
-returns-5 c = rw (tested (c .before), c .if2 .left)
+unfolding matches
+returns-2 c = rw (sym (c .before .is-equal .ensures) ∙ c .if1 .left)
 
 pub fields-match-spec : {M : Type 1} → statement M
-fields-match-spec =
-    tie.close
-    (tie.spec (λ c κs. search needs) returns (λ c κs. search needs) (λ c κs. search needs) (λ c κs. search needs)
-    (λ c κs. search needs) returns-2 returns-3 returns-4 returns-5)
+fields-match-spec = tie.close (tie.spec (λ c κs. search needs) (λ c κs. search needs) returns returns-2)
