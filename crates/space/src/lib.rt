@@ -6,9 +6,9 @@ ghost use Rattle.rules.specs.State.{empty};
 ghost use Rattle.rules.specs.Words.{view};
 ghost use Rattle.words.specs.Rows.{emptyWords};
 ghost use Rattle.space.specs.Version.{version};
-use places::mirror_of;
-use places::place_of;
-use places::time_of;
+use clock_face::mirror_of;
+use clock_face::place_of;
+use clock_face::time_of;
 use step::step_frame;
 use tray::run_tray;
 use words::rows::Words;
@@ -41,7 +41,7 @@ pub extern "C" fn space_step(space: &mut Words, frame: &[u8], answers: &mut [u8]
     step_frame(space, frame, answers)
 }
 
-// Positions on the clock face (the crate `places`).
+// Positions on the clock face (the crate `clock_face`).
 #[no_mangle]
 pub extern "C" fn place_of_time(hour: u32, minute: u32) -> u64
     ensures { λ r. ⌜ r ≡ placeOfTime hour minute ⌝ }

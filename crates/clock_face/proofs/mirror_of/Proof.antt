@@ -1,11 +1,11 @@
--- `places::mirror_of` meets its contract. Assumes nothing.
+-- `clock_face::mirror_of` meets its contract. Assumes nothing.
 use mathlib.Core.Path.{refl}
 use borrow.Author.Needs.{needs}
 use borrow.Author.Tests.{lt-ltb, le-ltb}
 use Rattle.rules.specs.Numbers.{places}
 use Rattle.rules.specs.Places.{mirrorOf, mirroredPlace}
-use Rattle.places.proofs.mirror_of.Statement.{statement}
-use Rattle.places.proofs.mirror_of.Tie as tie
+use Rattle.clock_face.proofs.mirror_of.Statement.{statement}
+use Rattle.clock_face.proofs.mirror_of.Tie as tie
 
 returns : tie.Need-returns
 unfolding mirroredPlace

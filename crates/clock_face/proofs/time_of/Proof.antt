@@ -1,11 +1,11 @@
--- `places::time_of` meets its contract. Assumes nothing.
+-- `clock_face::time_of` meets its contract. Assumes nothing.
 use native.Mathlib.Omega.{arith}
 use borrow.Author.Needs.{needs}
 use borrow.Author.Tests.{lt-ltb, le-ltb}
 use Rattle.rules.specs.Numbers.{places}
 use Rattle.rules.specs.Places.{hourOf, minuteOf, timeOfPlace}
-use Rattle.places.proofs.time_of.Statement.{statement}
-use Rattle.places.proofs.time_of.Tie as tie
+use Rattle.clock_face.proofs.time_of.Statement.{statement}
+use Rattle.clock_face.proofs.time_of.Tie as tie
 
 returns : tie.Need-returns
 unfolding timeOfPlace

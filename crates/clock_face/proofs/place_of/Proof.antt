@@ -1,4 +1,4 @@
--- `places::place_of` meets its contract. Assumes nothing.
+-- `clock_face::place_of` meets its contract. Assumes nothing.
 use mathlib.Core.Bool.{_&&_}
 use mathlib.Core.Path.{sym, _∙_}
 use native.Mathlib.Omega.{arith}
@@ -7,8 +7,8 @@ use borrow.Author.Tests.{leb-true, not-true, not-false}
 use lib.Dec.{leb}
 use Rattle.rules.proofs.BoolLaws.{and-right}
 use Rattle.rules.specs.Places.{placeOf, placeOfTime}
-use Rattle.places.proofs.place_of.Statement.{statement}
-use Rattle.places.proofs.place_of.Tie as tie
+use Rattle.clock_face.proofs.place_of.Statement.{statement}
+use Rattle.clock_face.proofs.place_of.Tie as tie
 
 returns : tie.Need-returns
 unfolding placeOfTime
