@@ -57,8 +57,8 @@ highest op = cond (hasTemplate op) 23 15
 abbrev pub badBlanks : ℕ → Fields → Bool
 badBlanks mask fields = someFilled (bit 0 mask) (bit 1 mask) (bit 2 mask) (bit 3 mask) fields
 
--- 4: byte 3 not 0; mask above 15, in a template above 23; mask not 0 outside look-ups, notifies and writes; a bad template; a blank that is not
--- 0; create or notify naming a transaction
+-- 4: byte 3 not 0; mask above 15, in a template above 23; mask not 0 outside look-ups, notifies and writes; a bad
+-- template; a blank that is not 0; create or notify naming a transaction
 unfoldable pub malformed : Frame → Bool
 malformed f =
     not (eqb (f .byte3) 0)
