@@ -7,6 +7,9 @@ extern "C" {
     fn space_empty(space: *mut u32);
     fn space_step(space: *mut u32, frame: *const u8, frame_len: usize, answers: *mut u8, answers_len: usize) -> u64;
     fn space_run_tray(tray: *const u8, tray_len: usize, answers: *mut u8, answers_len: usize) -> u64;
+    fn place_of_time(hour: u32, minute: u32) -> u64;
+    fn time_of_place(place: u32) -> u64;
+    fn mirrored_place(place: u32) -> u64;
 }
 
 /// The program's answers area.
@@ -24,6 +27,21 @@ pub fn step(words: &mut Words, frame: &[u8], area: &mut [u8]) -> u64 {
 /// Frames + 65,536 × records + 4,294,967,296 × number.
 pub fn run_tray(tray: &[u8], area: &mut [u8]) -> u64 {
     unsafe { space_run_tray(tray.as_ptr(), tray.len(), area.as_mut_ptr(), area.len()) }
+}
+
+/// The place, or 65,536 × number.
+pub fn place_of(hour: u32, minute: u32) -> u64 {
+    unsafe { place_of_time(hour, minute) }
+}
+
+/// 256 × hour + minute, or 65,536 × number.
+pub fn time_of(place: u32) -> u64 {
+    unsafe { time_of_place(place) }
+}
+
+/// The place, or 65,536 × number.
+pub fn mirror_of(place: u32) -> u64 {
+    unsafe { mirrored_place(place) }
 }
 
 /// The parts of what `run_tray` returns.

@@ -1,7 +1,8 @@
 //! Operations as a table, and frames made of requests and shown as text. Nothing here judges a frame.
 
 use crate::bytes::word;
-use crate::words::{End, Fields, Template, Values, FOREVER};
+use crate::face::{arc_slot, arc_text};
+use crate::words::{End, Fields, Template, Values, FOREVER, MASK_ARC, PLACE};
 
 /// Document 01's frame layout, in bytes.
 /// Of a transaction, or of the entry that is renewed.
@@ -21,7 +22,7 @@ const SHORT_BLANK: &str = "_";
 pub enum Part {
     /// Four numbers, or `blank` in place of any.
     Fields,
-    /// `any`, or fields by name.
+    /// `any`, or fields by name, and `arc A to B` for the place.
     Template,
     /// `lease D`
     Lease,
@@ -182,12 +183,14 @@ impl Request {
     fn has_unsaid(&self) -> bool {
         let has = |part: Part| self.operation.parts.contains(&part);
         let (template, fields) = (has(Part::Template), has(Part::Fields));
+        let arc = template && self.template().arc().is_some();
         let bit = |i: usize| self.mask >> i & 1 == 1;
-        let hidden = |i: usize| if bit(i) { fields } else { template };
+        let hidden = |i: usize| if bit(i) { fields } else { template && !(arc && i == PLACE) };
         let field = (0..FIELD_NAMES.len()).any(|i| hidden(i) && self.fields[i] != 0);
         let party = self.operation.class == Class::Tick && self.party != 0;
         let transaction = self.transaction != 0 && !has(Part::Inside) && !has(Part::Transaction);
-        let mask = self.mask > 15 || (self.mask != 0 && !template && !fields);
+        let bits = if arc { self.mask & !MASK_ARC } else { self.mask };
+        let mask = bits > 15 || (bits != 0 && !template && !fields);
         field || party || transaction || mask
     }
 
@@ -248,20 +251,22 @@ pub fn named_fields(values: &Values) -> String {
     named.join(", ")
 }
 
-/// "kind 7 side 1", "any"
+/// "kind 7 side 1", "kind 7 arc 11:00 to 1:00", "any"
 pub fn template_text(template: &Template) -> String {
     let wanted = (0..FIELD_NAMES.len()).filter(|i| template.mask >> i & 1 == 1);
-    let named: Vec<String> = wanted.map(|i| format!("{} {}", FIELD_NAMES[i], template.fields[i])).collect();
+    let fields = wanted.map(|i| format!("{} {}", FIELD_NAMES[i], template.fields[i]));
+    let named: Vec<String> = fields.chain(template.arc().map(arc_text)).collect();
     if named.is_empty() {
         return "any".to_string();
     }
     named.join(" ")
 }
 
-/// "7 2 40 *": short, a place for each field.
+/// "7 2 40 *", "7 2 * 11:00-1:00": short, a place for each field.
 pub fn template_slots(template: &Template) -> String {
-    let slot = |i: usize| match template.mask >> i & 1 {
-        1 => template.fields[i].to_string(),
+    let slot = |i: usize| match (template.mask >> i & 1, template.arc().filter(|_| i == PLACE)) {
+        (1, _) => template.fields[i].to_string(),
+        (_, Some(arc)) => arc_slot(arc),
         _ => "*".to_string(),
     };
     (0..FIELD_NAMES.len()).map(slot).collect::<Vec<_>>().join(" ")

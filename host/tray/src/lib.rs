@@ -8,6 +8,7 @@ pub mod bytes;
 pub mod claim;
 pub mod draw;
 pub mod explore;
+pub mod face;
 pub mod frame;
 pub mod history;
 pub mod line;

@@ -1,7 +1,8 @@
 //! A line of text as words, read one after the other; what is wrong names the line and what was expected.
 
+use crate::face::place_at;
 use crate::frame::{operation_named, Class, Operation, Part, Request, BLANK, FIELD_NAMES, OPERATIONS};
-use crate::words::{Template, Values, FOREVER};
+use crate::words::{Arc, Template, Values, FOREVER, MASK_ARC, MASK_PLACE, PLACE, PLACES};
 
 /// What is wrong with a text. Line 0 stands for the text as a whole.
 #[derive(Clone, PartialEq, Eq, Debug)]
@@ -22,6 +23,10 @@ impl Fault {
         }
     }
 }
+
+const TEMPLATE: &str =
+    "a template: `any`, or `kind K side S image I place L`, each may be left out, and `arc A to B` for the last";
+const TIME: &str = "a time of the clock face: hour 1 to 12, minutes 00 to 59 in two digits, as in 2:05";
 
 /// The words of a line, without its comment.
 #[derive(Clone, Debug)]
@@ -115,17 +120,61 @@ impl<'a> Line<'a> {
         }
     }
 
+    /// A number, or a time of the clock face.
+    fn place(&mut self, what: &str) -> Result<u32, Fault> {
+        let Some(time) = self.peek().filter(|word| word.contains(':')) else { return self.number(what) };
+        let place = place_at(time).ok_or_else(|| self.expected(TIME))?;
+        self.next += 1;
+        Ok(place)
+    }
+
+    /// A field's number; that of the place may be a time. Some could be blank.
+    fn field(&mut self, field: usize, blank: bool) -> Result<u32, Fault> {
+        let name = FIELD_NAMES[field];
+        match (field == PLACE, blank) {
+            (true, true) => self.place(&format!("`{BLANK}`, a number or a time (2:30) for {name}")),
+            (true, false) => self.place(&format!("a number or a time (2:30) for {name}")),
+            (false, true) => self.number(&format!("`{BLANK}` or a number for {name}")),
+            (false, false) => self.number(&format!("a number for {name}")),
+        }
+    }
+
     /// What is written: four numbers, or `blank` in place of any.
     fn values(&mut self) -> Result<Values, Fault> {
         let mut values = Values::default();
-        for (i, name) in FIELD_NAMES.iter().enumerate() {
+        for i in 0..FIELD_NAMES.len() {
             if self.passes(BLANK) {
                 values.blanks |= 1 << i;
             } else {
-                values.fields[i] = self.number(&format!("`{BLANK}` or a number for {name}"))?;
+                values.fields[i] = self.field(i, true)?;
             }
         }
         Ok(values)
+    }
+
+    /// A place of the clock face.
+    pub fn on_the_face(&mut self, what: &str) -> Result<u32, Fault> {
+        let what = format!("{what}: a time (2:30) or a number from 0 to {}", PLACES - 1);
+        let at = self.clone();
+        match self.place(&what)? {
+            place if place < PLACES => Ok(place),
+            _ => Err(at.expected(&what)),
+        }
+    }
+
+    /// `A to B`, or `start S length L`, which may be one that is refused.
+    pub fn arc(&mut self) -> Result<Arc, Fault> {
+        if self.passes("start") {
+            let start = self.number::<u16>("the arc's start, a number up to 65535")?;
+            self.want("length")?;
+            let length = self.number::<u16>("the arc's length, a number up to 65535")?;
+            return Ok(Arc { start: start.into(), length: length.into() });
+        }
+        let start = self.on_the_face("where the arc begins")?;
+        if !self.passes("to") {
+            return Err(self.expected("`to` and where the arc ends"));
+        }
+        Ok(Arc::between(start, self.on_the_face("where the arc ends")?))
     }
 
     pub fn template(&mut self) -> Result<Template, Fault> {
@@ -136,11 +185,16 @@ impl<'a> Line<'a> {
         for (i, name) in FIELD_NAMES.iter().enumerate() {
             if self.passes(name) {
                 template.mask |= 1 << i;
-                template.fields[i] = self.number(&format!("a number for {name}"))?;
+                template.fields[i] = self.field(i, false)?;
             }
         }
-        match template.mask {
-            0 => Err(self.expected("a template: `any`, or `kind K side S image I place L`, each may be left out")),
+        if template.mask & MASK_PLACE == 0 && self.passes("arc") {
+            template.mask |= MASK_ARC;
+            template.fields[PLACE] = self.arc()?.field();
+        }
+        match (template.mask, self.peek()) {
+            (0, _) => Err(self.expected(TEMPLATE)),
+            (_, Some("arc" | "place")) => Err(self.expected("`place` or `arc` only once")),
             _ => Ok(template),
         }
     }

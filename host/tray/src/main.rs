@@ -4,6 +4,7 @@ use std::io::{IsTerminal, Read, Write};
 use std::process::ExitCode;
 use tray::explore::analysis::analyse;
 use tray::explore::{report, Bounds, Explored};
+use tray::face;
 use tray::history::Outcome;
 use tray::line::Fault;
 use tray::tell::tell;
@@ -100,6 +101,15 @@ const VERBS: &[Verb] = &[
         about: "type frames, see answers and tables at once",
         help: include_str!("help/try.txt"),
         act: try_verb,
+    },
+    Verb {
+        name: "place",
+        usage: "tray place PLACE [to PLACE] [-o FILE.svg]",
+        flags: &[],
+        values: &["-o"],
+        about: "a place of the clock face as time and number, and its mirror",
+        help: include_str!("help/place.txt"),
+        act: place_verb,
     },
     Verb {
         name: "assemble",
@@ -320,12 +330,19 @@ fn script(arguments: &Arguments) -> Result<panes::Script, Failed> {
     Ok(script)
 }
 
+/// The file to write, if there is one; it must end so.
+fn file_ending<'a>(arguments: &'a Arguments, ending: &str) -> Result<Option<&'a str>, Failed> {
+    match arguments.value("-o") {
+        Some(to) if !to.ends_with(ending) => {
+            Err(Failed::usage(format!("expected a file that ends with {ending}, found `{to}`")))
+        }
+        to => Ok(to),
+    }
+}
+
 /// The file for the report. What cannot be written is told before a long run, not after it.
 fn report_file(arguments: &Arguments) -> Result<Option<&str>, Failed> {
-    let Some(to) = arguments.value("-o") else { return Ok(None) };
-    if !to.ends_with(".html") {
-        return Err(Failed::usage(format!("expected a file that ends with .html, found `{to}`")));
-    }
+    let Some(to) = file_ending(arguments, ".html")? else { return Ok(None) };
     let opened = std::fs::OpenOptions::new().append(true).create(true).open(to);
     opened.map(|_| Some(to)).map_err(|error| Failed::io(to, error))
 }
@@ -365,6 +382,18 @@ fn try_verb(arguments: &Arguments) -> Ended {
     }
     let talked = typed::talk(&mut typed, stdin.lock(), &mut std::io::stdout().lock(), sign);
     talked.map_err(|error| Failed::io("standard input or output", error))?;
+    Ok(Status::Done)
+}
+
+fn place_verb(arguments: &Arguments) -> Ended {
+    if arguments.files.is_empty() {
+        return Err(Failed::usage(format!("expected {}", arguments.verb.usage)));
+    }
+    let asked = face::Mirrored::parse(&arguments.files.join(" ")).map_err(|fault| Failed::usage(fault.why))?;
+    if let Some(to) = file_ending(arguments, ".svg")? {
+        write(to, draw::faces::svg(&asked).as_bytes())?;
+    }
+    print(asked.words().as_bytes())?;
     Ok(Status::Done)
 }
 

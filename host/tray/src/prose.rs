@@ -1,13 +1,14 @@
 //! Records, refusals and tables in words.
 
+use crate::face::time_text;
 use crate::frame::{duration_text, end_text, named_fields, operation_of, plain_fields, template_text};
 use crate::history::History;
 use crate::oracle::{standing, Matcher, Sought, Standing};
 use crate::record::{
-    kind_of, refusal_meaning, Record, Tells, ABORTED, COMMITTED, NOTHING, NOTIFIED, REFUSED, RENEWED, RUNG, WAITING,
-    WRITTEN,
+    kind_of, refusal_meaning, Record, Tells, ABORTED, COMMITTED, FOUND, NOTHING, NOTIFIED, REFUSED, RENEWED, RUNG,
+    WAITING, WRITTEN,
 };
-use crate::words::{End, Entry, LookUp, Registration, Tables, Transaction, Values};
+use crate::words::{End, Entry, Fields, LookUp, Registration, Tables, Transaction, Values, PLACE};
 
 fn inside(record: &Record) -> String {
     match record.transaction {
@@ -53,11 +54,14 @@ pub fn record_words(record: &Record, clock: u32) -> String {
     }
 }
 
-/// A record of a frame in words, with what the tables tell besides: whether an abort withdraws a look-up, why a wait
-/// ends with nothing, when a renewed entry or a registration ends, why an entry cannot be renewed, what a bell rings for.
-pub fn told(history: &History, place: usize, record: &Record) -> String {
+/// A record of a frame, by its place, in words, with what the tables tell besides: whether an abort withdraws a
+/// look-up, why a wait ends with nothing, when a renewed entry or a registration ends, why an entry cannot be renewed,
+/// what a bell rings for, which time the place found by an arc is.
+pub fn told(history: &History, place: usize, record: usize) -> String {
     let (before, clock) = (history.before(place), history.steps[place].after.clock);
-    let words = record_words(record, clock);
+    let time = found_at(history, place, record);
+    let record = &history.steps[place].records[record];
+    let words = record_words(record, clock) + &time;
     let waited = before.look_up(record.party).filter(|_| record.kind == NOTHING);
     match waited.map(|look_up| look_up.deadline) {
         Some(End::At(deadline)) if deadline <= clock => words + "; its deadline is reached",
@@ -65,6 +69,18 @@ pub fn told(history: &History, place: usize, record: &Record) -> String {
         None if withdraws(record, before) => words + "; its look-up is withdrawn",
         None => words + &renewal_words(history, place, record) + &registration_words(history, place, record),
     }
+}
+
+/// The time of a place that matches what is sought, where that is an arc: "at 2:30" behind these words.
+fn at_time(sought: &Sought, fields: &Fields, behind: &str) -> String {
+    let time = sought.template.arc().and_then(|_| time_text(fields[PLACE]));
+    time.map_or(String::new(), |time| format!("{behind}at {time}"))
+}
+
+fn found_at(history: &History, place: usize, at: usize) -> String {
+    let record = &history.steps[place].records[at];
+    let sought = history.sought(place, at).filter(|_| record.kind == FOUND);
+    sought.map_or(String::new(), |sought| at_time(&sought, &record.fields, "; "))
 }
 
 /// How a transaction's holds, or that it is private, bar an entry's renewal.
@@ -208,7 +224,8 @@ pub fn why(sought: &Sought, tables: &Tables, matcher: &mut Matcher) -> Vec<Strin
         return vec!["no stored entry matches".to_string()];
     }
     let line = |(entry, standing): &(&Entry, Standing)| {
-        format!("entry {} ({}): {}", entry.number, plain_fields(&entry.values()), standing_words(standing, tables))
+        let (fields, time) = (plain_fields(&entry.values()), at_time(sought, &entry.fields, ", "));
+        format!("entry {} ({fields}{time}): {}", entry.number, standing_words(standing, tables))
     };
     standings.iter().map(line).collect()
 }

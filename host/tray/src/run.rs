@@ -46,7 +46,7 @@ pub fn step_words(history: &History, place: usize, states: bool, matcher: &mut M
     let step = &history.steps[place];
     let mut text = format!("{:>4}  clock {:<3} {}\n", place + 1, history.before(place).clock, step.asked.text);
     for (at, record) in step.records.iter().enumerate() {
-        let _ = writeln!(text, "        {}", told(history, place, record));
+        let _ = writeln!(text, "        {}", told(history, place, at));
         // A look-up that waits has its reasons in the tables.
         if states && record.kind == NOTHING {
             for reason in why_record(history, place, at, matcher) {

@@ -3,9 +3,10 @@
 //! One frame to a line; `#` begins a comment. D is a number of ticks or `forever`; `in T` may be left out.
 //!
 //! ```text
-//! party P write KIND SIDE IMAGE PLACE lease D in T      `blank` in place of any of the four
+//! party P write KIND SIDE IMAGE PLACE lease D in T      `blank` in place of any of the four; PLACE also 2:30
 //! party P read any timeout D in T                       also: take, readIfExists, takeIfExists
-//! party P take kind K side S image I place L timeout D  (any of the four fields)
+//! party P take kind K side S image I place L timeout D  (any of the four fields); L also 2:30
+//! party P take kind K arc 11:00 to 1:00 timeout D       an arc of the clock face in place of `place L`
 //! party P create lease D
 //! party P commit T                                      also: abort
 //! party P notify kind K lease D                         a template as a look-up's

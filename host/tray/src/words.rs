@@ -101,6 +101,15 @@ impl Table {
 
 /// kind, side, image, place
 pub type Fields = [u32; 4];
+pub const PLACE: usize = 3;
+
+// Bits of a template's mask: its place is a value, or an arc.
+pub const MASK_PLACE: u8 = 1 << PLACE;
+pub const MASK_ARC: u8 = 16;
+/// An arc's field is its start + LENGTH_UNIT * its length.
+pub const LENGTH_UNIT: u32 = 65536;
+/// Of the clock face.
+pub const PLACES: u32 = 720;
 
 /// An entry's fields, and a bit of 1 for each that is blank: bit 0 for kind, up to bit 3 for place.
 #[derive(Clone, Copy, Default, PartialEq, Eq, Hash, Debug)]
@@ -143,7 +152,48 @@ impl End {
 #[derive(Clone, Copy, PartialEq, Eq, Hash, Debug)]
 pub struct Template {
     pub mask: u8,
+    /// In the last the place, or the arc.
     pub fields: Fields,
+}
+
+impl Template {
+    /// The arc that it asks for, if it does.
+    pub fn arc(&self) -> Option<Arc> {
+        (self.mask & (MASK_PLACE | MASK_ARC) == MASK_ARC).then(|| Arc::of(self.fields[PLACE]))
+    }
+}
+
+/// A part of the clock face: the places from `start` on, `length` more, past the last to the first.
+#[derive(Clone, Copy, PartialEq, Eq, Debug)]
+pub struct Arc {
+    pub start: u32,
+    pub length: u32,
+}
+
+impl Arc {
+    /// As a template's field has it.
+    pub fn of(field: u32) -> Arc {
+        Arc { start: field % LENGTH_UNIT, length: field / LENGTH_UNIT }
+    }
+
+    pub fn field(self) -> u32 {
+        self.start + LENGTH_UNIT * self.length
+    }
+
+    /// From one place of the face on to another.
+    pub fn between(start: u32, end: u32) -> Arc {
+        Arc { start, length: (PLACES + end - start) % PLACES }
+    }
+
+    /// "start 660, length 120"
+    pub fn words(self) -> String {
+        format!("start {}, length {}", self.start, self.length)
+    }
+
+    /// The last place, if it is one of the face.
+    pub fn end(self) -> Option<u32> {
+        (self.start < PLACES && self.length < PLACES).then(|| (self.start + self.length) % PLACES)
+    }
 }
 
 #[derive(Clone, PartialEq, Eq, Debug)]

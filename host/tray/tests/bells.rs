@@ -1,13 +1,13 @@
 //! A bell for new images (document 02, T-03): operation 10 as text and bytes, number 17, records 10 and 11, what a bell
 //! counts, and registrations in words, in drawings and in scripts of panes.
 
-use crate::common::{random_text, tray, Random};
+use crate::arcs::in_arc;
+use crate::common::{assembled, random_text, tray, Random};
 use crate::draw::{columns, histories, history, near, svg, ONE_ROW, SLOT};
 use crate::explore::analysed;
 use crate::xml::Element;
 use std::collections::BTreeMap;
 use tray::boundary::Space;
-use tray::bytes::frames_of;
 use tray::claim::Verdict::{Kept, Open, Refuted};
 use tray::draw::lives::slots;
 use tray::draw::{page, svg_file};
@@ -20,12 +20,6 @@ use tray::record::{
 };
 use tray::text::parse;
 use tray::words::{tables, End, Fields, Registration, Template, Values, FOREVER};
-
-/// The frame that a line stands for.
-fn assembled(line: &str) -> Vec<u8> {
-    let tray = parse(line).unwrap().tray().unwrap();
-    frames_of(&tray)[0].to_vec()
-}
 
 fn notify(party: u8, mask: u8, fields: Fields, lease: u32) -> Vec<u8> {
     let operation = operation_named("notify").unwrap();
@@ -104,7 +98,7 @@ fn order_of_judgement() {
     parse(text).unwrap().frames().for_each(|asked| assert_eq!(space.step(&asked.frame), 0));
     let (before, too_long) = (space.words, FOREVER - 1);
     let judged = [
-        (notify(0, 16, [0; 4], too_long), 4),
+        (notify(0, 32, [0; 4], too_long), 4),
         (notify(0, 0, [0; 4], too_long), 5),
         (notify(17, 0, [0; 4], too_long), 5),
         (notify(3, 0, [0; 4], 0), 6),
@@ -130,7 +124,9 @@ fn order_of_judgement() {
 /// Document 02's rule of matching, once more.
 fn matches(template: &Template, values: &Values) -> bool {
     let asked = |field: &usize| template.mask >> field & 1 == 1;
+    let place = (!values.is_blank(3)).then_some(values.fields[3]);
     (0..4).filter(asked).all(|field| !values.is_blank(field) && values.fields[field] == template.fields[field])
+        && (template.mask & 16 == 0 || place.is_some_and(|place| in_arc(template.fields[3], place)))
 }
 
 /// By frames and answers alone: what is private, and what each registration has heard of.

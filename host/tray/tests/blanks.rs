@@ -1,10 +1,9 @@
 //! Marks without a place (document 02, T-08): blanks in texts, frames, records and words, the null rule, number 4, and how
 //! they are shown.
 
-use crate::common::{random_text, tray};
+use crate::common::{assembled, random_text, tray};
 use crate::draw::{history, ONE_ROW};
 use tray::boundary::Space;
-use tray::bytes::frames_of;
 use tray::draw::{page, svg_file};
 use tray::frame::{operation_named, show, Class, Part, Request, OPERATIONS};
 use tray::history::History;
@@ -14,12 +13,6 @@ use tray::text::parse;
 use tray::words::{Fields, Template, Values, FOREVER, WORDS};
 
 const PLACELESS: &str = "party 1 write 7 1 40 blank lease 5";
-
-/// The frame that a line stands for.
-fn assembled(line: &str) -> Vec<u8> {
-    let tray = parse(line).unwrap().tray().unwrap();
-    frames_of(&tray)[0].to_vec()
-}
 
 fn write(mask: u8, fields: Fields, lease: u32) -> Vec<u8> {
     let operation = operation_named("write").unwrap();
@@ -78,7 +71,7 @@ fn masks_of_other_frames() {
                 true => Request { fields: under(mask, [7, 1, 40, 9]), ..request },
                 false => request,
             };
-            let wrong = if has_template { mask > 15 } else { mask != 0 };
+            let wrong = if has_template { mask > 31 || mask & 24 == 24 } else { mask != 0 };
             let number = Space::default().step(&request.frame());
             assert_eq!(number == 4, wrong, "{} with mask {mask}", operation.name);
             let text = show(&request.frame());
@@ -91,13 +84,13 @@ fn masks_of_other_frames() {
 #[test]
 fn bad_blanks() {
     let bad = [
-        ("party 1 write 7 1 40 Blank lease 5", "`blank` or a number for place, found `Blank`"),
-        ("party 1 write 7 1 40 lease 5", "`blank` or a number for place, found `lease`"),
+        ("party 1 write 7 1 40 Blank lease 5", "`blank`, a number or a time (2:30) for place, found `Blank`"),
+        ("party 1 write 7 1 40 lease 5", "`blank`, a number or a time (2:30) for place, found `lease`"),
         ("party 1 write blank lease 5", "`blank` or a number for side, found `lease`"),
         ("party 1 write 7 1 40 9 blank lease 5", "`lease`, found `blank`"),
         ("party 1 write 7 1 40 blank lease blank", "a lease (a number of ticks"),
         // A template that asks for a blank there is none.
-        ("party 1 read place blank timeout 0", "a number for place, found `blank`"),
+        ("party 1 read place blank timeout 0", "a number or a time (2:30) for place, found `blank`"),
         ("party 1 read blank timeout 0", "a template: `any`, or"),
     ];
     for (line, expected) in bad {
@@ -106,7 +99,7 @@ fn bad_blanks() {
         assert!(answer.err.contains(&format!("tray: -:1: expected {expected}")), "{line}: {}", answer.err);
     }
     let pane = tray(&["explore", "-"], "pane A party 1\nread place blank timeout 0\n");
-    assert!(pane.status == 2 && pane.err.contains("-:2: expected a number for place, found `blank`"), "{}", pane.err);
+    assert!(pane.status == 2 && pane.err.contains("-:2: expected a number or a time (2:30) for place"), "{}", pane.err);
 }
 
 /// The null rule: a value never matches a blank, what is not asked for matches everything.

@@ -18,7 +18,7 @@ pub fn analysed(text: &str) -> (Script, Analysis) {
     (script, analysis)
 }
 
-fn verdicts(text: &str) -> Vec<Verdict> {
+pub fn verdicts(text: &str) -> Vec<Verdict> {
     analysed(text).1.findings.iter().map(|finding| finding.verdict).collect()
 }
 

@@ -43,6 +43,7 @@ fn the_header_says_the_same() {
     same!(header, WAITING_TRANSACTION WAITING_DEADLINE WAITING_WORDS BLANKS_UNIT WRITER_UNIT);
     same!(header, REGISTRATIONS_AT REGISTRATION_NUMBER REGISTRATION_PARTY REGISTRATION_MASK REGISTRATION_FIELDS);
     same!(header, REGISTRATION_END REGISTRATION_TOTAL REGISTRATION_WORDS);
+    same!(header, PLACES MASK_PLACE MASK_ARC);
     assert_eq!(words::WORDS, 832);
     assert_eq!(header["RECORD_BYTES"], tray::record::RECORD_BYTES);
     assert_eq!(header["STEP_BYTES"], tray::record::STEP_BYTES);

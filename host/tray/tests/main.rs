@@ -1,5 +1,6 @@
 //! The tool's own tests, in one program.
 
+mod arcs;
 mod bars;
 mod bells;
 mod blanks;

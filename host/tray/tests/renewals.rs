@@ -1,12 +1,11 @@
 //! Renewing a mark (document 02, T-05): operation 11 as text and bytes, numbers 18 to 20, record 12 and the writer in words,
 //! in drawings and in scripts of panes.
 
-use crate::common::{random_text, tray};
+use crate::common::{assembled, random_text, tray};
 use crate::draw::{columns, histories, history, near, svg, ONE_ROW};
 use crate::explore::analysed;
 use std::collections::BTreeMap;
 use tray::boundary::Space;
-use tray::bytes::frames_of;
 use tray::claim::Verdict::{Kept, Refuted};
 use tray::draw::{page, svg_file};
 use tray::frame::{operation_named, show, Request};
@@ -14,12 +13,6 @@ use tray::history::History;
 use tray::record::{Record, REFUSED, RENEWED, WRITTEN};
 use tray::text::parse;
 use tray::words::{tables, End, Entry, Values, FOREVER};
-
-/// The frame that a line stands for.
-fn assembled(line: &str) -> Vec<u8> {
-    let tray = parse(line).unwrap().tray().unwrap();
-    frames_of(&tray)[0].to_vec()
-}
 
 fn renew(party: u8, entry: u32, lease: u32) -> Vec<u8> {
     let operation = operation_named("renew").unwrap();

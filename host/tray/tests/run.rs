@@ -86,8 +86,8 @@ fn states_and_reasons() {
 #[test]
 fn reasons_are_those_of_the_space() {
     let mut matcher = Matcher::default();
-    let (mut found, mut several, mut barred) = (0, 0, 0);
-    for seed in 1..200 {
+    let (mut found, mut several, mut barred, mut by_arc) = (0, 0, 0, 0);
+    for seed in 1..220 {
         let text = parse(&random_text(seed, 80)).unwrap();
         let history = History::of(text.frames().cloned());
         for (place, step) in history.steps.iter().enumerate() {
@@ -105,6 +105,7 @@ fn reasons_are_those_of_the_space() {
                 _ => continue,
             }
             found += usize::from(!available.is_empty());
+            by_arc += usize::from(!available.is_empty() && sought.template.arc().is_some());
             several += usize::from(available.len() > 1);
             barred += usize::from(available.is_empty() && !standings.is_empty());
         }
@@ -116,6 +117,7 @@ fn reasons_are_those_of_the_space() {
         }
     }
     assert!(found > 500 && several > 300 && barred > 300, "{found} found, {several} of several, {barred} barred");
+    assert!(by_arc > 50, "{by_arc} by an arc");
 }
 
 #[test]
@@ -158,7 +160,7 @@ fn expectations() {
 #[test]
 fn bad_texts() {
     let bad = [
-        ("party 1 write 7 1 40 lease 5", 1, "a number for place, found `lease`"),
+        ("party 1 write 7 1 40 lease 5", 1, "a number or a time (2:30) for place, found `lease`"),
         ("tick\nparty x create lease 1", 2, "a party's number, 1 to 16, found `x`"),
         ("party 300 create lease 1", 1, "a party's number"),
         ("party +1 create lease 1", 1, "a party's number, 1 to 16, found `+1`"),

@@ -16,6 +16,8 @@ use crate::words::{End, Tables, Template, Values};
 
 /// A template longer than this is shown by slots; in fields longer than this a short sign stands for a blank.
 const LONG: f64 = 104.0;
+/// The same for a template that asks for an arc: there is room for one field beside it.
+const LONG_WITH_ARC: f64 = 150.0;
 
 /// The lines of a mark's labels; below, the first is bold.
 #[derive(Clone, Default, PartialEq, Debug)]
@@ -28,7 +30,8 @@ pub struct Labels {
 
 fn template_label(template: &Template) -> String {
     let text = template_text(template);
-    match width(&text) > LONG {
+    let long = if template.arc().is_some() { LONG_WITH_ARC } else { LONG };
+    match width(&text) > long {
         true => template_slots(template),
         false => text,
     }

@@ -1,5 +1,6 @@
 //! The drawing of a history: hue says who, shape what, solidity who can see it, left to right when.
 
+pub mod faces;
 mod glyphs;
 pub mod labels;
 pub mod layout;
@@ -82,12 +83,16 @@ pub fn svg_file(history: &History, room: f64) -> String {
         inner += &format!("<g transform=\"translate(0 {})\">\n{}</g>\n", n(y), row.inner);
         y += row.height + 26.0;
     }
-    let (w, h) = (n(wide), n((y - 26.0).max(1.0)));
-    format!(
-        "<svg xmlns=\"http://www.w3.org/2000/svg\" class=\"hist\" width=\"{w}\" height=\"{h}\" viewBox=\"0 0 {w} {h}\">\n<title>{}</title>\n<style>{CSS}</style>{}\n<rect width=\"{w}\" height=\"{h}\" fill=\"#fff\"/>\n{inner}</svg>\n",
-        escape(&history.title),
-        hatches("")
-    )
+    document(wide, (y - 26.0).max(1.0), &history.title, &hatches(""), &inner)
+}
+
+/// A picture as a file of its own, on white.
+fn document(width: f64, height: f64, title: &str, defs: &str, inner: &str) -> String {
+    let (w, h) = (n(width), n(height));
+    let size = format!("width=\"{w}\" height=\"{h}\"");
+    let root = format!("<svg xmlns=\"http://www.w3.org/2000/svg\" class=\"hist\" {size} viewBox=\"0 0 {w} {h}\">");
+    let head = format!("<title>{}</title>\n<style>{CSS}</style>{defs}", escape(title));
+    format!("{root}\n{head}\n<rect {size} fill=\"#fff\"/>\n{inner}</svg>\n")
 }
 
 /// What a file with this name is to have: a page or a picture, as it ends; or what was expected.

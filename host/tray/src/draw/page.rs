@@ -109,13 +109,13 @@ fn state_cell(before: &Tables, after: &Tables) -> String {
 fn answers_cell(history: &History, frame: usize, matcher: &mut Matcher) -> String {
     let step = &history.steps[frame];
     let mut cell = String::new();
-    for (place, record) in step.records.iter().enumerate() {
+    for place in 0..step.records.len() {
         let reasons = why_record(history, frame, place, matcher);
         let reason = match reasons.is_empty() {
             true => String::new(),
             false => format!(" <span class=\"rem\">{}</span>", escape(&reasons.join("; "))),
         };
-        cell += &format!("<li>{}{reason}</li>", escape(&told(history, frame, record)));
+        cell += &format!("<li>{}{reason}</li>", escape(&told(history, frame, place)));
     }
     format!("<ul>{cell}</ul>")
 }

@@ -303,7 +303,7 @@ impl<'a> Painter<'a> {
 
     fn frame_title(&self, frame: usize) -> String {
         let step = &self.history.steps[frame];
-        let records = step.records.iter().map(|record| told(self.history, frame, record));
+        let records = (0..step.records.len()).map(|record| told(self.history, frame, record));
         let lines: Vec<String> =
             std::iter::once(format!("frame {}: {}", frame + 1, step.asked.text)).chain(records).collect();
         lines.join("\n")
@@ -311,7 +311,7 @@ impl<'a> Painter<'a> {
 
     fn record_title(&self, placed: &Placed) -> String {
         let step = &self.history.steps[placed.mark.at.frame];
-        let record = told(self.history, placed.mark.at.frame, &placed.mark.record);
+        let record = told(self.history, placed.mark.at.frame, placed.mark.place);
         // What stands under a registration or a bell is in the record's words already.
         let told = matches!(placed.mark.record.kind, NOTIFIED | RUNG);
         let reason = placed.labels.below.get(1).filter(|_| !told);

@@ -4,6 +4,7 @@ use std::io::Write;
 use std::path::{Path, PathBuf};
 use std::process::{Command, Stdio};
 use tray::boundary::Space;
+use tray::bytes::frames_of;
 use tray::text::parse;
 use tray::words::{tables, Tables};
 
@@ -48,6 +49,12 @@ pub fn scratch(name: &str) -> PathBuf {
     folder
 }
 
+/// The frame that a line stands for.
+pub fn assembled(line: &str) -> Vec<u8> {
+    let tray = parse(line).unwrap().tray().unwrap();
+    frames_of(&tray)[0].to_vec()
+}
+
 /// Numbers that look random, the same for the same seed.
 pub struct Random(pub u64);
 
@@ -75,7 +82,11 @@ fn random_renewal(random: &mut Random, tables: &Tables) -> String {
     format!("party {party} renew {number} lease {lease}")
 }
 
-const TEMPLATES: [&str; 6] = ["any", "kind 1", "kind 2", "kind 1 side 1", "side 2", "place 0"];
+#[rustfmt::skip]
+const TEMPLATES: [&str; 12] = [
+    "any", "kind 1", "kind 2", "kind 1 side 1", "side 2", "place 0",
+    "any", "kind 1 arc 11:00 to 12:09", "kind 2", "kind 1 side 1", "side 2", "arc 12:00 to 12:08",
+];
 
 /// A line of a history in which much happens: few kinds, some blanks, short leases, and mostly the transactions' own
 /// parties and the entries' own writers.
