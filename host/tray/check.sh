@@ -56,13 +56,16 @@ for text in examples/*.txt examples/lessons/*.txt; do
         esac
     done
 done
-# The pictures in docs/ are what the tool draws of the texts that they are named after.
+# The pictures in docs/ are what the tool draws of the texts that they are named after; one is of an arc.
 for picture in docs/*.svg; do
     name=$(basename "$picture" .svg)
     text=examples/$name.txt
     [ -f "$text" ] || text=examples/lessons/$name.txt
-    "$tray" draw "$text" -o "$to/$name.svg"
-    cmp -s "$picture" "$to/$name.svg" || fail "$picture is not what the tool draws of $text"
+    case $name in
+        clock-face) "$tray" place 1:00 to 3:00 -o "$to/$name.svg" > "$to/$name.out" ;;
+        *) "$tray" draw "$text" -o "$to/$name.svg" ;;
+    esac
+    cmp -s "$picture" "$to/$name.svg" || fail "$picture is not what the tool draws"
 done
 PATH=$built:$PATH python3 host/tray/teaching.py docs/TEACHING.md . "$to/teaching" ||
     fail "docs/TEACHING.md"

@@ -394,3 +394,33 @@ fn faces_are_drawn() {
         assert_eq!(large, [long, long], "{words}");
     }
 }
+
+/// The manual's tables of times and of arcs say what the library and the tool say.
+#[test]
+fn tables_of_the_manual() {
+    let manual = std::fs::read_to_string("../../docs/MANUAL.md").unwrap();
+    let section = manual.split("\n## ").find(|section| section.starts_with("Positions on the clock face\n")).unwrap();
+    let (mut times, mut arcs) = (0, 0);
+    for row in section.lines().filter(|line| line.starts_with("| ")) {
+        let cells: Vec<&str> = row.trim_matches('|').split('|').map(str::trim).collect();
+        let asked = Mirrored::parse(cells[0]);
+        match (asked, &cells[1..]) {
+            (Ok(Mirrored { arc, mirror, is_place: true }), [place, mirrored]) => {
+                assert_eq!(arc.start.to_string(), *place, "{row}");
+                assert_eq!(format!("{}, {}", time_text(mirror.start).unwrap(), mirror.start), *mirrored, "{row}");
+                times += 1;
+            }
+            (Ok(Mirrored { arc, mirror, is_place: false }), [start, length, field, mirrored]) => {
+                assert_eq!(
+                    [arc.start, arc.length, arc.field()].map(|n| n.to_string()),
+                    [*start, *length, *field],
+                    "{row}"
+                );
+                assert_eq!(arc_text(mirror), format!("arc {mirrored}"), "{row}");
+                arcs += 1;
+            }
+            (asked, _) => assert!(asked.is_err() && ["time", "arc"].contains(&cells[0]), "{row}"),
+        }
+    }
+    assert_eq!((times, arcs), (8, 6));
+}
