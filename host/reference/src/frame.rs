@@ -1,5 +1,7 @@
 //! Entries, templates, the frame layout, and the refusals that a frame's bytes alone decide.
 
+use crate::clock_face::Arc;
+
 pub const FOREVER: u32 = 4294967295;
 /// The clock never passes this.
 pub const LAST_CLOCK: u32 = FOREVER - 1;
@@ -51,14 +53,24 @@ pub enum Refusal {
     NoEntry = 18,
     AnothersEntry = 19,
     EntryHeld = 20,
+    Place = 21,
+}
+
+/// Where the place stands among the fields.
+pub const PLACE: usize = 3;
+
+/// Document 02: "mask bit 4 without bit 3 makes the place an arc".
+#[inline]
+pub fn asks_arc(mask: u8) -> bool {
+    bit(mask, 4) && !bit(mask, PLACE)
 }
 
 #[derive(Clone, Copy, PartialEq, Eq, Debug)]
 pub struct Template {
-    mask: u8,
+    pub mask: u8,
     /// Whether the field's mask bit is 1.
     wanted: [bool; 4],
-    fields: Fields,
+    pub fields: Fields,
 }
 
 impl Template {
@@ -66,11 +78,17 @@ impl Template {
         Template { mask, wanted: std::array::from_fn(|i| bit(mask, i)), fields }
     }
 
+    #[inline]
+    pub fn arc(&self) -> Option<Arc> {
+        asks_arc(self.mask).then(|| Arc::of(self.fields[PLACE]))
+    }
+
     /// Every field whose bit is 1 is equal, and none of these is blank (document 02: "a template field that has a value
-    /// never matches a blank"). `&` and `|` make no branches, so that a search over all entries is fast.
+    /// never matches a blank"). `&` and `|` make no branches, so that a search over all entries is fast. Then the arc.
     pub fn matches(&self, entry: &Mark) -> bool {
         let agrees = |i: usize| (entry.fields[i] == self.fields[i]) | !self.wanted[i];
-        (entry.blanks & self.mask == 0) & agrees(0) & agrees(1) & agrees(2) & agrees(3)
+        let equal = (entry.blanks & self.mask == 0) & agrees(0) & agrees(1) & agrees(2) & agrees(3);
+        equal && self.arc().is_none_or(|arc| arc.matches(entry))
     }
 }
 
@@ -126,7 +144,7 @@ pub fn mark_of(frame: &[u8]) -> Mark {
     Mark { fields: fields_of(frame), blanks: frame[2] }
 }
 
-/// Refusals 2 to 5, in document 01's order.
+/// Refusals 2 to 5, in document 01's order, then 21 ("after 5").
 #[inline]
 pub fn decode(frame: &[u8]) -> Result<Request, Refusal> {
     let Some(&operation) = frame.first() else { return Err(Refusal::Operation) };
@@ -142,10 +160,13 @@ pub fn decode(frame: &[u8]) -> Result<Request, Refusal> {
 
     let (is_write, is_notify) = (operation == 1, operation == 10);
     let has_template = LOOK_UPS.contains(&operation) || is_notify;
+    // document 02: "Number 4 lets bit 4 and its arc through, but not with bit 3": such a template asks for the place
+    let has_arc = has_template && asks_arc(mask);
+    let asked = if has_arc { mask - 16 + 8 } else { mask };
     let ill_formed = frame[3] != 0
-        || mask > 15
+        || asked > 15
         || mask != 0 && !is_write && !has_template
-        || has_template && (0..4).any(|i| !bit(mask, i) && fields[i] != 0)
+        || has_template && (0..4).any(|i| !bit(asked, i) && fields[i] != 0)
         || is_write && (0..4).any(|i| bit(mask, i) && fields[i] != 0)
         || (operation == 6 || is_notify) && transaction != NONE;
     if ill_formed {
@@ -155,6 +176,9 @@ pub fn decode(frame: &[u8]) -> Result<Request, Refusal> {
     let party_fits = if operation == 9 { party == 0 } else { (1..=16).contains(&party) };
     if !party_fits {
         return Err(Refusal::Party);
+    }
+    if has_arc {
+        Arc::of(fields[PLACE]).judge()?;
     }
 
     Ok(match operation {

@@ -89,6 +89,7 @@ impl Entry {
         self.private_to != NONE && self.private_to != transaction
     }
 
+    #[inline]
     pub fn available(&self, look_up: &LookUp) -> bool {
         look_up.template.matches(&self.mark)
             && self.taken_by == NONE
@@ -491,7 +492,8 @@ impl Space {
 }
 
 /// A stored entry has become committed, "by a write or commit": each registration that matches counts it. "Put-backs do
-/// not count."
+/// not count." Not inlined, so that a commit's pass over the entries stays fast.
+#[inline(never)]
 fn made_public(registrations: &mut [Registration], mark: &Mark) {
     for registration in registrations.iter_mut().filter(|registration| registration.template.matches(mark)) {
         registration.count += 1;

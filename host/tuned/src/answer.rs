@@ -73,9 +73,11 @@ impl<'a> Answers<'a> {
         self.put([RENEWED, renewal.party, 0, 0], 0, renewal.entry, [0; 4]);
     }
 
+    /// The whole answer of a refused frame; gives what its step returns.
     #[inline(always)]
-    pub fn refused(&mut self, frame: &[u8], number: u8) {
+    pub fn refused(&mut self, frame: &[u8], number: u8) -> u64 {
         let party = frame.get(1).copied().unwrap_or(0);
         self.put([REFUSED, party, number, 0], 0, 0, [0; 4]);
+        1 + 65536 * u64::from(number)
     }
 }

@@ -1,6 +1,7 @@
 //! Registrations, which both layouts have. They are rare: while none lives, a step does not come here.
 
 use crate::answer::Answers;
+use crate::arcs::lies;
 use crate::frame::{asked, Fields, Long, FOREVER};
 
 const REGISTRATIONS: usize = 8;
@@ -16,6 +17,7 @@ struct Registration {
     fields: Fields,
     mask: u8,
     party: u8,
+    is_arc: bool,
 }
 
 #[derive(Clone, PartialEq)]
@@ -28,8 +30,8 @@ pub struct Bells {
 
 impl Bells {
     pub fn beginning(next: u32) -> Bells {
-        let (asks, fields) = ([0; 4], [0; 4]);
-        let row = Registration { number: 0, end: 0, total: 0, count: 0, asks, fields, mask: 0, party: 0 };
+        let (asks, fields, is_arc) = ([0; 4], [0; 4], false);
+        let row = Registration { number: 0, end: 0, total: 0, count: 0, asks, fields, mask: 0, party: 0, is_arc };
         Bells { next, live: 0, rows: [row; REGISTRATIONS] }
     }
 
@@ -39,7 +41,7 @@ impl Bells {
 
     /// The number of a new registration; 17 and 13.
     pub fn register(&mut self, long: &Long, end: u32) -> Result<u32, u8> {
-        let &Long { party, mask, fields, .. } = long;
+        let &Long { party, mask, fields, is_arc, .. } = long;
         let (number, row) = (self.next, self.live);
         if row >= REGISTRATIONS {
             return Err(17);
@@ -47,7 +49,8 @@ impl Bells {
         if number == FOREVER {
             return Err(13);
         }
-        self.rows[row] = Registration { number, end, total: 0, count: 0, asks: asked(mask), fields, mask, party };
+        let asks = asked(mask);
+        self.rows[row] = Registration { number, end, total: 0, count: 0, asks, fields, mask, party, is_arc };
         self.live = row + 1;
         self.next = number + 1;
         Ok(number)
@@ -57,7 +60,8 @@ impl Bells {
     pub fn count(&mut self, fields: &Fields, blanks: u8) {
         for row in &mut self.rows[..self.live] {
             let differs = (0..4).fold(0, |bits, i| bits | (row.fields[i] ^ fields[i]) & row.asks[i]);
-            row.count += u32::from(differs == 0 && blanks & row.mask == 0);
+            let placed = !row.is_arc || lies(row.fields[3], blanks, fields[3]);
+            row.count += u32::from(differs == 0 && blanks & row.mask == 0 && placed);
         }
     }
 

@@ -2,15 +2,17 @@
 //! makes it fast:
 //!
 //! - The first field asked for is compared with a whole column, further fields only in the rows that have it. A blank
-//!   is kept as 0; of the rows that have all that is asked for, those with blanks are looked at once more.
+//!   is kept as 0; of the rows that have all that is asked for, those with blanks are looked at once more; and all, if
+//!   an arc is asked for.
 //! - A commit, an abort and the end of a lease are a few operations on masks, and no row moves.
 //! - Service, ends and waiting parties as in `rows`.
 //!
 //! A write takes the first free row, so rows are not by number: of several available entries the numbers are compared.
 
 use crate::answer::{Answers, ABORTED, COMMITTED, EXCEPTION, NOTHING, WAITING};
+use crate::arcs::lies;
 use crate::common::{Common, BELLS, NO_SLOT, SLOTS};
-use crate::frame::{asked, decode, decode_notify, decode_renewal, is_notify, is_renewal};
+use crate::frame::{asked, decode, decode_arc, decode_notify, decode_renewal, is_notify, is_renewal};
 use crate::frame::{Fields, Long, Renewal, Request, FOREVER};
 use crate::tray;
 
@@ -31,6 +33,7 @@ struct LookUp {
     takes: bool,
     if_exists: bool,
     mask: u8,
+    is_arc: bool,
     slot: u8,
     transaction: u32,
     deadline: u32,
@@ -93,8 +96,9 @@ impl crate::Space for Space {
 
     fn beginning(clock: u32, next: [u32; 3]) -> Space {
         let (takes, if_exists) = (false, false);
-        let (mask, slot) = (0, NO_SLOT);
-        let wait = LookUp { party: 0, takes, if_exists, mask, slot, transaction: 0, deadline: 0, fields: [0; 4] };
+        let (mask, is_arc, slot) = (0, false, NO_SLOT);
+        let (transaction, deadline, fields) = (0, 0, [0; 4]);
+        let wait = LookUp { party: 0, takes, if_exists, mask, is_arc, slot, transaction, deadline, fields };
         Space {
             common: Common::beginning(clock, next),
             used: 0,
@@ -124,20 +128,10 @@ impl crate::Space for Space {
             return self.rare(frame, answers);
         }
         match decode(frame).and_then(|request| self.perform(request, &mut answers)) {
-            Ok(()) => {
-                if self.waiting & self.if_exists != 0 {
-                    self.close_waits(&mut answers);
-                    if self.waiting & BELLS != 0 {
-                        self.ring(&mut answers);
-                    }
-                }
-                answers.count as u64
-            }
+            Ok(()) => self.finish(&mut answers),
             Err(2) if is_notify(frame) => self.rare(frame, answers),
-            Err(number) => {
-                answers.refused(frame, number);
-                1 + 65536 * u64::from(number)
-            }
+            Err(4) => self.by_arc(frame, answers),
+            Err(number) => answers.refused(frame, number),
         }
     }
 
@@ -147,6 +141,27 @@ impl crate::Space for Space {
 }
 
 impl Space {
+    #[inline(always)]
+    fn finish(&mut self, answers: &mut Answers) -> u64 {
+        if self.waiting & self.if_exists != 0 {
+            self.close_waits(answers);
+            if self.waiting & BELLS != 0 {
+                self.ring(answers);
+            }
+        }
+        answers.count as u64
+    }
+
+    /// A step by a look-up that asks for an arc, or by a frame that 4 refuses.
+    #[cold]
+    #[inline(never)]
+    fn by_arc(&mut self, frame: &[u8], mut answers: Answers) -> u64 {
+        match decode_arc(frame).and_then(|long| self.look_up(frame[0], &long, &mut answers)) {
+            Ok(()) => self.finish(&mut answers),
+            Err(number) => answers.refused(frame, number),
+        }
+    }
+
     /// Carries out the request, or gives the first of refusals 6 to 13 that applies and changes nothing.
     #[inline(always)]
     fn perform(&mut self, request: Request, answers: &mut Answers) -> Result<(), u8> {
@@ -235,14 +250,11 @@ impl Space {
         let done = if is_notify(frame) { self.notify(frame, &mut answers) } else { self.renew(frame, &mut answers) };
         match done {
             Ok(()) => 1,
-            Err(number) => {
-                answers.refused(frame, number);
-                1 + 65536 * u64::from(number)
-            }
+            Err(number) => answers.refused(frame, number),
         }
     }
 
-    /// Registers, or gives the first of refusals 3 to 6, 9, 10, 17, 13 that applies and changes nothing.
+    /// Registers, or gives the first of refusals 3 to 5, 21, 6, 9, 10, 17, 13 that applies and changes nothing.
     fn notify(&mut self, frame: &[u8], answers: &mut Answers) -> Result<(), u8> {
         let long = decode_notify(frame)?;
         self.check_party(long.party)?;
@@ -290,23 +302,25 @@ impl Space {
 
     #[inline(always)]
     fn look_up(&mut self, operation: u8, long: &Long, answers: &mut Answers) -> Result<(), u8> {
-        let Long { party, mask, transaction, fields, .. } = *long;
+        let Long { party, mask, transaction, fields, is_arc, .. } = *long;
         self.check_party(party)?;
         let slot = usize::from(self.common.slot_or_none(party, transaction)?);
         let deadline = self.common.end_of(long.duration)?;
         let (takes, if_exists) = (operation & 1 == 1, operation >= 4);
         let hits = self.matching(self.open(takes, slot), mask, &fields);
+        let hits = if is_arc { self.placed(hits, fields[3]) } else { hits };
         if hits != 0 {
             self.hand_out(self.oldest(hits), party, takes, slot, transaction, answers);
             return Ok(());
         }
-        if long.duration == 0 || if_exists && !self.any_conflict(takes, slot, mask, &fields) {
+        if long.duration == 0 || if_exists && !self.any_conflict(takes, slot, mask, &fields, is_arc) {
             answers.plain(NOTHING, party, transaction);
             return Ok(());
         }
         answers.plain(WAITING, party, transaction);
         let slot = slot as u8;
-        self.waits[self.wait_count] = LookUp { party, takes, if_exists, mask, slot, transaction, deadline, fields };
+        self.waits[self.wait_count] =
+            LookUp { party, takes, if_exists, mask, is_arc, slot, transaction, deadline, fields };
         self.wait_count += 1;
         self.waiting |= 1 << party;
         self.if_exists = self.if_exists & !(1 << party) | u32::from(if_exists) << party;
@@ -331,12 +345,15 @@ impl Space {
     }
 
     #[inline(always)]
-    fn any_conflict(&self, takes: bool, slot: usize, mask: u8, fields: &Fields) -> bool {
+    fn any_conflict(&self, takes: bool, slot: usize, mask: u8, fields: &Fields, is_arc: bool) -> bool {
         let mut others = self.private & !self.own[slot] | self.taken & !self.held[slot];
         if takes {
             others |= self.read_by_others(slot);
         }
-        others != 0 && self.matching(others, mask, fields) != 0
+        if others != 0 {
+            others = self.matching(others, mask, fields);
+        }
+        others != 0 && (!is_arc || self.placed(others, fields[3]) != 0)
     }
 
     /// Of these rows, those that match: by the column of the first field asked for, then row by row.
@@ -382,6 +399,19 @@ impl Space {
             left &= left - 1;
         }
         filled
+    }
+
+    /// Of these rows, those that lie in the arc.
+    #[cold]
+    #[inline(never)]
+    fn placed(&self, rows: u64, arc: u32) -> u64 {
+        let (mut left, mut hits) = (rows, 0);
+        while left != 0 {
+            let row = left.trailing_zeros() as usize & 63;
+            hits |= u64::from(lies(arc, self.blanks[row], self.fields[3][row])) << row;
+            left &= left - 1;
+        }
+        hits
     }
 
     /// Of these rows, the one with the lowest number.
@@ -477,6 +507,7 @@ impl Space {
             } else {
                 self.matching(rows, look_up.mask, &look_up.fields)
             };
+            let hits = if hits != 0 && look_up.is_arc { self.placed(hits, look_up.fields[3]) } else { hits };
             if hits != 0 {
                 let row = self.oldest(hits);
                 self.waiting &= !(1 << look_up.party);
@@ -561,8 +592,8 @@ impl Space {
     fn close_waits(&mut self, answers: &mut Answers) {
         let mut over = 0u32;
         for look_up in &self.waits[..self.wait_count.min(WAITS)] {
-            let &LookUp { takes, mask, ref fields, .. } = look_up;
-            let conflicts = || self.any_conflict(takes, look_up.slot(), mask, fields);
+            let &LookUp { takes, mask, ref fields, is_arc, .. } = look_up;
+            let conflicts = || self.any_conflict(takes, look_up.slot(), mask, fields, is_arc);
             if look_up.deadline == self.common.clock || look_up.if_exists && !conflicts() {
                 answers.plain(NOTHING, look_up.party, look_up.transaction);
                 over |= 1 << look_up.party;

@@ -1,5 +1,7 @@
 //! Frames decoded.
 
+use crate::arcs::{asks_arc, long_arc};
+
 pub const FOREVER: u32 = u32::MAX;
 pub const LAST_CLOCK: u32 = FOREVER - 1;
 
@@ -16,6 +18,8 @@ pub struct Long {
     /// Lease or timeout.
     pub duration: u32,
     pub fields: Fields,
+    /// The place of a template is an arc, and the mask does not ask for it.
+    pub is_arc: bool,
 }
 
 pub enum Request {
@@ -45,13 +49,14 @@ fn party_fits(party: u8) -> bool {
 
 /// A write's, look-up's or notify's frame; refusals 4 and 5.
 #[inline(always)]
-fn long(frame: &[u8; 28]) -> Result<Long, u8> {
+pub fn long(frame: &[u8; 28]) -> Result<Long, u8> {
     let long = Long {
         party: frame[1],
         mask: frame[2],
         transaction: word(frame, 4),
         duration: word(frame, 8),
         fields: [word(frame, 12), word(frame, 16), word(frame, 20), word(frame, 24)],
+        is_arc: false,
     };
     let zero = asked(if frame[0] == 1 { long.mask } else { !long.mask }); // the fields that must be 0
     let not_zero = (0..4).fold(0, |bits, i| bits | long.fields[i] & zero[i]);
@@ -81,13 +86,24 @@ pub fn is_notify(frame: &[u8]) -> bool {
     frame.first() == Some(&10)
 }
 
-/// Of a frame that is one; refusals 3 to 5.
+/// Of a frame that is one; refusals 3 to 5 and 21.
 pub fn decode_notify(frame: &[u8]) -> Result<Long, u8> {
     let frame = <&[u8; 28]>::try_from(frame).map_err(|_| 3)?;
     if word(frame, 4) != 0 {
         return Err(4);
     }
+    if asks_arc(frame) {
+        return long_arc(frame);
+    }
     long(frame)
+}
+
+/// Of a look-up that asks for an arc, which `decode` refuses with 4; refusals 4, 5 and 21.
+pub fn decode_arc(frame: &[u8]) -> Result<Long, u8> {
+    match frame.try_into() {
+        Ok(frame) if asks_arc(frame) => long_arc(frame),
+        _ => Err(4),
+    }
 }
 
 pub struct Renewal {
@@ -107,8 +123,8 @@ pub fn decode_renewal(frame: &[u8]) -> Result<Renewal, u8> {
     Ok(Renewal { party: short(frame)?, entry: word(frame, 4), lease: word(frame, 8) })
 }
 
-/// Refusals 2 to 5, in document 01's order. Notifies and renewals, which are rare, get 2 here and are decoded apart: so
-/// no other frame is slower for them.
+/// Refusals 2 to 5, in document 01's order. Notifies and renewals, which are rare, get 2 here, arcs get 4, and all of
+/// these are decoded apart: so no other frame is slower for them.
 #[inline(always)]
 pub fn decode(frame: &[u8]) -> Result<Request, u8> {
     let Some(&operation) = frame.first() else { return Err(2) };

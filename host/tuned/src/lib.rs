@@ -1,7 +1,8 @@
 //! Documents 01 and 02 in plain safe Rust, written for speed, in two layouts: peers to measure the proved space by.
 //! No heap.
 //!
-//! - `frame`: frames decoded, refusals 2 to 5
+//! - `frame`: frames decoded, refusals 2 to 5 and 21
+//! - `arcs`: arcs of the clock face
 //! - `answer`: answer records
 //! - `rows`, `columns`: spaces, who holds what, what each frame does, refusals 1, 6 to 13 and 17 to 20
 //! - `common`: what both have
@@ -12,6 +13,7 @@
 #![forbid(unsafe_code)]
 
 mod answer;
+mod arcs;
 mod bells;
 pub mod columns;
 mod common;

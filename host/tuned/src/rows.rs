@@ -10,8 +10,9 @@
 //! - The four fields are compared as two words of 64 bits.
 
 use crate::answer::{Answers, ABORTED, COMMITTED, EXCEPTION, NOTHING, WAITING};
+use crate::arcs::lies;
 use crate::common::{Common, BELLS, NO_SLOT, SLOTS};
-use crate::frame::{asked, decode, decode_notify, decode_renewal, is_notify, is_renewal};
+use crate::frame::{asked, decode, decode_arc, decode_notify, decode_renewal, is_notify, is_renewal};
 use crate::frame::{Fields, Long, Renewal, Request, FOREVER};
 use crate::tray;
 
@@ -47,6 +48,7 @@ struct LookUp {
     /// The bit of its slot.
     bit: u8,
     mask: u8,
+    is_arc: bool,
 }
 
 #[inline(always)]
@@ -74,6 +76,13 @@ impl Entry {
     fn matches(&self, look_up: &LookUp) -> bool {
         let differs = |i: usize| (self.pairs[i] ^ look_up.pairs[i]) & look_up.asks[i] != 0;
         !differs(0) && !differs(1) && self.blanks & look_up.mask == 0
+    }
+
+    /// Of an entry that is available, or conflicts, wherever it lies: whether it lies in the arc, if one is asked for.
+    #[inline(always)]
+    fn placed(&self, look_up: &LookUp) -> bool {
+        let place = |pairs: [u64; 2]| (pairs[1] >> 32) as u32;
+        !look_up.is_arc || lies(place(look_up.pairs), self.blanks, place(self.pairs))
     }
 
     #[inline(always)]
@@ -120,8 +129,9 @@ impl crate::Space for Space {
     fn beginning(clock: u32, next: [u32; 3]) -> Space {
         let (asks, pairs) = ([0; 2], [0; 2]);
         let (takes, if_exists) = (false, false);
-        let (slot, bit, mask) = (NO_SLOT, 0, 0);
-        let wait = LookUp { asks, pairs, transaction: 0, deadline: 0, party: 0, takes, if_exists, slot, bit, mask };
+        let (transaction, deadline, party) = (0, 0, 0);
+        let (slot, bit, mask, is_arc) = (NO_SLOT, 0, 0, false);
+        let wait = LookUp { asks, pairs, transaction, deadline, party, takes, if_exists, slot, bit, mask, is_arc };
         let (private, taken) = (NO_SLOT, NO_SLOT);
         let entry = Entry { pairs, number: 0, end: 0, private, taken, readers: 0, blanks: 0, writer: 0 };
         Space {
@@ -140,20 +150,10 @@ impl crate::Space for Space {
     fn step(&mut self, frame: &[u8], answers: &mut [u8]) -> u64 {
         let Some(mut answers) = Answers::new(answers) else { return 65536 };
         match decode(frame).and_then(|request| self.perform(request, &mut answers)) {
-            Ok(()) => {
-                if self.waiting & self.if_exists != 0 {
-                    self.close_waits(&mut answers);
-                    if self.waiting & BELLS != 0 {
-                        self.common.bells.ring(&mut answers);
-                    }
-                }
-                answers.count as u64
-            }
+            Ok(()) => self.finish(&mut answers),
             Err(2) if is_notify(frame) || is_renewal(frame) => self.rare(frame, answers),
-            Err(number) => {
-                answers.refused(frame, number);
-                1 + 65536 * u64::from(number)
-            }
+            Err(4) => self.by_arc(frame, answers),
+            Err(number) => answers.refused(frame, number),
         }
     }
 
@@ -163,12 +163,33 @@ impl crate::Space for Space {
 }
 
 impl Space {
+    #[inline(always)]
+    fn finish(&mut self, answers: &mut Answers) -> u64 {
+        if self.waiting & self.if_exists != 0 {
+            self.close_waits(answers);
+            if self.waiting & BELLS != 0 {
+                self.common.bells.ring(answers);
+            }
+        }
+        answers.count as u64
+    }
+
+    /// A step by a look-up that asks for an arc, or by a frame that 4 refuses.
+    #[cold]
+    #[inline(never)]
+    fn by_arc(&mut self, frame: &[u8], mut answers: Answers) -> u64 {
+        match decode_arc(frame).and_then(|long| self.look_up::<true>(frame[0], &long, &mut answers)) {
+            Ok(()) => self.finish(&mut answers),
+            Err(number) => answers.refused(frame, number),
+        }
+    }
+
     /// Carries out the request, or gives the first of refusals 6 to 13 that applies and changes nothing.
     #[inline(always)]
     fn perform(&mut self, request: Request, answers: &mut Answers) -> Result<(), u8> {
         match request {
             Request::Write(long) => self.write(&long, answers),
-            Request::LookUp { operation, long } => self.look_up(operation, &long, answers),
+            Request::LookUp { operation, long } => self.look_up::<false>(operation, &long, answers),
             Request::Create { party, lease } => {
                 self.check_party(party)?;
                 self.common.create(party, lease, answers)
@@ -242,14 +263,11 @@ impl Space {
         let done = if is_notify(frame) { self.notify(frame, &mut answers) } else { self.renew(frame, &mut answers) };
         match done {
             Ok(()) => 1,
-            Err(number) => {
-                answers.refused(frame, number);
-                1 + 65536 * u64::from(number)
-            }
+            Err(number) => answers.refused(frame, number),
         }
     }
 
-    /// Registers, or gives the first of refusals 3 to 6, 9, 10, 17, 13 that applies and changes nothing.
+    /// Registers, or gives the first of refusals 3 to 5, 21, 6, 9, 10, 17, 13 that applies and changes nothing.
     fn notify(&mut self, frame: &[u8], answers: &mut Answers) -> Result<(), u8> {
         let long = decode_notify(frame)?;
         self.check_party(long.party)?;
@@ -291,17 +309,19 @@ impl Space {
         Ok(())
     }
 
+    /// IS_ARC is `long.is_arc`, so that a look-up without an arc is compiled without any trace of it.
     #[inline(always)]
-    fn look_up(&mut self, operation: u8, long: &Long, answers: &mut Answers) -> Result<(), u8> {
+    fn look_up<const IS_ARC: bool>(&mut self, operation: u8, long: &Long, answers: &mut Answers) -> Result<(), u8> {
         let &Long { party, mask, transaction, .. } = long;
         self.check_party(party)?;
         let slot = self.common.slot_or_none(party, transaction)?;
         let deadline = self.common.end_of(long.duration)?;
         let (asks, pairs) = (paired(asked(mask)), paired(long.fields));
         let (takes, if_exists) = (operation == 3 || operation == 5, operation >= 4);
-        let bit = bit_of(slot);
-        let look_up = LookUp { asks, pairs, transaction, deadline, party, takes, if_exists, slot, bit, mask };
-        if let Some(row) = self.rows().iter().position(|entry| entry.available(&look_up)) {
+        let (bit, is_arc) = (bit_of(slot), IS_ARC);
+        let look_up = LookUp { asks, pairs, transaction, deadline, party, takes, if_exists, slot, bit, mask, is_arc };
+        let found = |entry: &Entry| entry.available(&look_up) && entry.placed(&look_up);
+        if let Some(row) = self.rows().iter().position(found) {
             self.hand_out(row, &look_up, answers);
             return Ok(());
         }
@@ -325,7 +345,7 @@ impl Space {
 
     #[inline(always)]
     fn any_conflict(&self, look_up: &LookUp) -> bool {
-        self.active != 0 && self.rows().iter().any(|entry| entry.conflicts(look_up))
+        self.active != 0 && self.rows().iter().any(|entry| entry.conflicts(look_up) && entry.placed(look_up))
     }
 
     /// Answers found, and does to the entry what the look-up does; whether its row is removed.
@@ -416,7 +436,7 @@ impl Space {
             let mut left = fresh;
             while left != 0 {
                 let row = left.trailing_zeros() as usize & 63;
-                if self.entries[row].available(&look_up) {
+                if self.entries[row].available(&look_up) && self.entries[row].placed(&look_up) {
                     self.waiting &= !(1 << look_up.party);
                     if self.hand_out(row, &look_up, answers) {
                         let below = (1u64 << row) - 1;
