@@ -1,5 +1,6 @@
 //! Frames made.
 
+use reference::clock_face::Arc;
 use reference::frame::{Fields, NONE};
 use tray::frame::{operation_of, Request};
 
@@ -12,6 +13,11 @@ fn request(operation: u8, party: u8) -> Request {
 /// A frame of operations 1 to 5.
 pub fn long_frame(operation: u8, party: u8, mask: u8, transaction: u32, duration: u32, fields: Fields) -> Vec<u8> {
     Request { mask, transaction, duration, fields, ..request(operation, party) }.frame()
+}
+
+/// An arc, in the place of a template's place.
+pub fn arc_word(arc: Arc) -> u32 {
+    arc.start | arc.length << 16
 }
 
 pub fn create_frame(party: u8, lease: u32) -> Vec<u8> {

@@ -1,11 +1,12 @@
 //! Seeded random frames and trays that make deep histories: several panes, few distinct kinds, short leases, ticks
-//! anywhere, full tables, steps that set several entries free, blanks, renewals, registrations, garbled frames, damaged
-//! trays, answers areas of odd lengths.
+//! anywhere, full tables, steps that set several entries free, blanks, renewals, registrations, arcs, garbled frames,
+//! damaged trays, answers areas of odd lengths.
 
-use crate::frames::{create_frame, ending_frame, long_frame, notify_frame, renew_frame, tick_frame};
+use crate::frames::{arc_word, create_frame, ending_frame, long_frame, notify_frame, renew_frame, tick_frame};
 use crate::random::Random;
 use reference::answer::{RECORD, STEP};
-use reference::frame::{Fields, Mark, FOREVER, LAST_CLOCK, NONE};
+use reference::clock_face::{Arc, PLACES};
+use reference::frame::{asks_arc, word, Fields, Mark, FOREVER, LAST_CLOCK, NONE, PLACE};
 use reference::space::{End, Entry, Space};
 use reference::tray::{LONGEST_TRAY, MOST_FRAMES};
 use tray::bytes::tray_of;
@@ -23,6 +24,8 @@ struct Lean {
     gathered: usize,
     /// Of writes, with blanks.
     blank: usize,
+    /// Of templates, with an arc; if there are any, marks are all over the clock face.
+    arcs: usize,
     timeout_0: usize,
     if_exists: usize,
     takes: usize,
@@ -48,6 +51,7 @@ impl Lean {
             inside: random.pick(&[0, 40, 80]),
             gathered: 0,
             blank: random.pick(&[0, 20, 60]),
+            arcs: random.pick(&[0, 0, 0, 20, 60]),
             timeout_0: random.pick(&[10, 40, 80]),
             if_exists: random.pick(&[20, 50, 90]),
             takes: random.pick(&[20, 50, 80]),
@@ -59,7 +63,7 @@ impl Lean {
             garbled: random.pick(&[0, 2, 15]),
             shares: [random.between(2, 8) as usize, random.between(2, 8) as usize, 2, 2, random.between(1, 4) as usize],
         };
-        match random.below(9) {
+        match random.below(10) {
             // many entries stored
             0 => Lean { forever: 80, takes: 15, timeout_0: 90, shares: [10, 4, 1, 1, 1], ..mixed },
             // many transactions live, with holds
@@ -105,8 +109,20 @@ impl Lean {
                 gathered: 40,
                 timeout_0: 50,
                 renews: 4,
-                notifies: 15,
+                notifies: 20,
                 shares: [8, 6, 2, 3, 3],
+                ..mixed
+            },
+            // arcs, for marks at their ends and beside them
+            7 => Lean {
+                kinds: random.pick(&[1, 2]),
+                longest: 20,
+                gathered: random.pick(&[0, 40]),
+                blank: random.pick(&[0, 20]),
+                arcs: 90,
+                timeout_0: random.pick(&[10, 40]),
+                notifies: 6,
+                shares: [6, 8, 1, 2, 1],
                 ..mixed
             },
             _ => mixed,
@@ -203,7 +219,7 @@ impl Generator {
     /// Of the marks with blanks a few are spoilt: a field that is not 0 where its bit says blank, or a mask above 15.
     fn write_frame(&mut self, guide: &Space, party: u8) -> Vec<u8> {
         let ((party, transaction), mut lease) = (self.writer(guide, party), self.duration(guide));
-        let Mark { mut fields, blanks } = self.mark();
+        let Mark { mut fields, blanks } = self.mark(guide);
         let mut mask = blanks;
         if blanks != 0 && self.random.percent(6) {
             if self.random.percent(50) {
@@ -225,21 +241,81 @@ impl Generator {
         let transaction = self.transaction(guide, party);
         let timeout = self.timeout(guide);
         let (mask, fields) = self.template(guide);
-        long_frame(operation, party, mask, transaction, timeout, fields)
+        let frame = long_frame(operation, party, mask, transaction, timeout, fields);
+        self.worsened(guide, frame)
     }
 
     /// Often one that a stored entry matches: mask and fields.
     fn template(&mut self, guide: &Space) -> (u8, Fields) {
         let mut mask = if self.random.percent(60) { 1 } else { self.random.below(16) as u8 };
         let like = match guide.entries.len() {
-            0 => self.mark(),
-            _ if self.random.percent(40) => self.mark(),
+            0 => self.mark(guide),
+            _ if self.random.percent(40) => self.mark(guide),
             stored => guide.entries[self.random.below(stored)].mark,
         };
         if self.random.percent(60) {
             mask &= !like.blanks; // else it may ask 0 of a blank
         }
+        if self.random.percent(self.lean.arcs) {
+            return self.arc_template(mask, like.fields);
+        }
         (mask, cleared(like.fields, !mask))
+    }
+
+    /// The same, with an arc about the place. A few are spoilt: off the face, with bit 3 or one that no mask has, or
+    /// with a field that is not asked for.
+    fn arc_template(&mut self, mask: u8, like: Fields) -> (u8, Fields) {
+        let mut mask = if self.random.percent(40) { 16 } else { mask & 7 | 16 };
+        let mut fields = cleared(like, !mask);
+        let mut arc = self.arc(like[PLACE]);
+        let off = |random: &mut Random| random.pick(&[PLACES, PLACES, PLACES + 1, 1024, 65535]);
+        match self.random.below(40) {
+            0 => arc.start = off(&mut self.random),
+            1 => arc.length = off(&mut self.random),
+            2 => (arc.start, arc.length) = (off(&mut self.random), off(&mut self.random)),
+            3 => mask |= self.random.pick(&[8, 8, 32, 64, 128]),
+            4 => fields[self.random.below(PLACE)] = 1,
+            _ => {}
+        }
+        fields[PLACE] = arc_word(arc);
+        (mask, fields)
+    }
+
+    /// An arc about a place: it lies at an end, or just beside it, or anywhere.
+    fn arc(&mut self, place: u32) -> Arc {
+        let length = match self.random.below(8) {
+            0 => 0,
+            1 => PLACES - 1,
+            2 => self.random.pick(&[1, PLACES - 2]),
+            3 | 4 => self.random.below(PLACES as usize) as u32,
+            _ => self.random.between(1, 60),
+        };
+        let behind = match self.random.below(8) {
+            0 | 1 => 0,
+            2 | 3 => length,
+            4 => length + 1,
+            5 => PLACES - 1, // just before the start
+            _ => self.random.below(PLACES as usize) as u32,
+        };
+        Arc { start: (place % PLACES + PLACES - behind) % PLACES, length }
+    }
+
+    /// If a frame's arc is off the face, often something else is wrong as well: the order of the refusals matters then.
+    fn worsened(&mut self, guide: &Space, mut frame: Vec<u8>) -> Vec<u8> {
+        if !asks_arc(frame[2]) || Arc::of(word(&frame, 24)).judge().is_ok() {
+            return frame;
+        }
+        match self.random.below(10) {
+            0 => frame[1] = self.random.pick(&[0, 17, 255]),
+            1..=3 if !guide.waiting.is_empty() => {
+                frame[1] = guide.waiting[self.random.below(guide.waiting.len())].party
+            }
+            4 | 5 if frame[0] != 10 => frame[4..8].copy_from_slice(&self.stray_transaction(guide).to_le_bytes()),
+            6 => frame[8..12].copy_from_slice(&self.random.pick(&[0, LAST_CLOCK]).to_le_bytes()),
+            7 => frame[3] = 1,
+            _ => {}
+        }
+        frame
     }
 
     /// A party renews an entry: mostly its own that nobody holds, else any that is stored, or none.
@@ -268,7 +344,8 @@ impl Generator {
         }
     }
 
-    /// A notify. A few are spoilt: they name a transaction, have a mask above 15, or a field that it does not ask for.
+    /// A notify. A few are spoilt: they name a transaction, have one more bit in the mask, or a field that it does not
+    /// ask for.
     fn registering_frame(&mut self, guide: &Space) -> Vec<u8> {
         let party = match self.party(guide) {
             Some(party) if self.random.percent(92) => party,
@@ -282,7 +359,7 @@ impl Generator {
             2 => frame[2] |= self.random.pick(&[16, 32, 64, 128]),
             _ => {}
         }
-        frame
+        self.worsened(guide, frame)
     }
 
     /// Perhaps the number of an entry that is there no more, or not yet.
@@ -369,23 +446,44 @@ impl Generator {
         }
     }
 
-    fn fields(&mut self) -> Fields {
+    fn fields(&mut self, guide: &Space) -> Fields {
         [
             self.random.between(1, self.lean.kinds),
             self.random.below(2) as u32,
             self.random.pick(&[0, 0, 1]),
-            self.random.pick(&[0, 0, 0, u32::MAX]),
+            if self.lean.arcs == 0 { self.random.pick(&[0, 0, 0, u32::MAX]) } else { self.place(guide) },
         ]
     }
 
+    /// A place of the clock face, often at an end of an arc that somebody asks for, or just beside it. A few are
+    /// larger: the same place by 720 or by 16 bits, or any.
+    fn place(&mut self, guide: &Space) -> u32 {
+        let waiting = guide.waiting.iter().map(|look_up| look_up.template);
+        let templates = waiting.chain(guide.registrations.iter().map(|registration| registration.template));
+        let arcs: Vec<Arc> = templates.filter_map(|template| template.arc()).collect();
+        let place = match self.random.below(8) {
+            0..=3 if !arcs.is_empty() => {
+                let Arc { start, length } = self.random.pick(&arcs);
+                self.random.pick(&[start, start + PLACES - 1, start + length, start + length + 1]) % PLACES
+            }
+            4 | 5 => self.random.pick(&[0, 1, PLACES - 1]),
+            _ => self.random.below(PLACES as usize) as u32,
+        };
+        match self.random.below(12) {
+            0 => place + self.random.pick(&[PLACES, PLACES, 2 * PLACES, 65536]),
+            1 => self.random.pick(&[PLACES, u32::MAX - PLACES, u32::MAX]),
+            _ => place,
+        }
+    }
+
     /// Often only the place is blank.
-    fn mark(&mut self) -> Mark {
+    fn mark(&mut self, guide: &Space) -> Mark {
         let blanks = match self.random.percent(self.lean.blank) {
             false => 0,
             true if self.random.percent(50) => 8,
             true => self.random.between(1, 15) as u8,
         };
-        Mark { fields: cleared(self.fields(), blanks), blanks }
+        Mark { fields: cleared(self.fields(guide), blanks), blanks }
     }
 
     fn garble(&mut self, mut frame: Vec<u8>) -> Vec<u8> {
@@ -396,7 +494,7 @@ impl Generator {
             2 => frame[0] = random.pick(&[0, 10, 11, 12, 255]),
             3 => frame[3] = random.byte(),
             4 => frame[2] = random.byte(),
-            5 => frame[2] = random.below(16) as u8,
+            5 => frame[2] = random.below(32) as u8,
             6 => frame[1] = random.pick(&[0, 1, 16, 17, 255]),
             7 => frame = (0..random.below(40)).map(|_| random.byte()).collect(),
             8 if frame.len() > 4 => {
@@ -553,7 +651,7 @@ fn longest_step(random: &mut Random) -> Vec<Vec<u8>> {
 /// The same, and the last step writes 24: its own, one for each of the fifteen parties that wait, and eight bells.
 fn longest_ringing(random: &mut Random) -> Vec<Vec<u8>> {
     let kind = [77, 0, 0, 0];
-    let mask = random.pick(&[0, 1]);
+    let mask = random.pick(&[0, 1, 16]); // or an arc that has the one place 0
     let mut frames: Vec<Vec<u8>> =
         (9..=16).map(|party| notify_frame(party, mask, FOREVER, cleared(kind, !mask))).collect();
     if random.percent(50) {

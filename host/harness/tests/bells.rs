@@ -3,6 +3,7 @@
 #[path = "common/shown.rs"]
 mod shown;
 
+use harness::compare::in_order;
 use harness::subject::{Beginning, Subject};
 use reference::answer::{Kind, Record, RECORD, STEP};
 use reference::frame::{mark_of, word, Mark, NONE};
@@ -230,9 +231,7 @@ impl<const FAULT: u8> Subject for Wrong<FAULT> {
     }
 
     fn tables(&self) -> Option<Space> {
-        let mut space = self.space.clone();
-        space.entries.iter_mut().for_each(|entry| entry.read_by.sort_unstable());
-        Some(space)
+        Some(in_order(&self.space))
     }
 }
 

@@ -3,7 +3,7 @@
 #[path = "common/shown.rs"]
 mod shown;
 
-use harness::compare::{compare, replay, Coverage, Discrepancy};
+use harness::compare::{compare, in_order, replay, Coverage, Discrepancy};
 use harness::subject::{Beginning, Subject};
 use reference::answer::{Kind, RECORD, STEP};
 use reference::frame::{word, Template, FOREVER, LAST_CLOCK, LOOK_UPS, NONE};
@@ -232,12 +232,9 @@ impl<const FAULT: u8> Subject for Wrong<FAULT> {
     }
 
     fn tables(&self) -> Option<Space> {
-        let mut space = self.0.clone();
-        for entry in &mut space.entries {
-            entry.read_by.sort_unstable();
-            if FAULT == READ_HOLD_NOT_IN_THE_TABLE {
-                entry.read_by.clear();
-            }
+        let mut space = in_order(&self.0);
+        if FAULT == READ_HOLD_NOT_IN_THE_TABLE {
+            space.entries.iter_mut().for_each(|entry| entry.read_by.clear());
         }
         Some(space)
     }

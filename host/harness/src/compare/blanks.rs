@@ -1,9 +1,9 @@
 //! What occurs with blanks (document 02, T-08).
 
 use super::hand_outs::look_up_of;
-use super::situation::{entry_in, Step, Times};
+use super::situation::{Step, Times};
 use reference::answer::Kind;
-use reference::frame::{mark_of, word, Mark, Refusal, NONE};
+use reference::frame::{mark_of, word, Mark, Refusal, Template, NONE};
 use reference::space::{Entry, LookUp};
 use std::collections::BTreeSet;
 
@@ -19,15 +19,14 @@ fn as_values(entry: &Entry) -> Entry {
     Entry { mark: Mark { blanks: 0, ..entry.mark }, ..entry.clone() }
 }
 
-/// Whether the look-up would match, did it not ask 0 of a blank.
-pub fn asks_0_of_a_blank(look_up: &LookUp, entry: &Entry) -> bool {
-    let template = &look_up.template;
-    entry.mark.blanks != 0 && !template.matches(&entry.mark) && template.matches(&Mark { blanks: 0, ..entry.mark })
+/// Whether the template would match, did it not ask 0 of a blank. An arc asks no value.
+pub fn asks_0_of_a_blank(template: &Template, mark: &Mark) -> bool {
+    template.mask & mark.blanks != 0 && template.matches(&Mark { blanks: 0, ..*mark })
 }
 
 /// Whether the look-up passes over the entry for its blanks alone.
 fn passes_over(look_up: &LookUp, entry: &Entry) -> bool {
-    asks_0_of_a_blank(look_up, entry) && as_values(entry).available(look_up)
+    asks_0_of_a_blank(&look_up.template, &entry.mark) && as_values(entry).available(look_up)
 }
 
 impl Step<'_> {
@@ -73,23 +72,13 @@ impl Step<'_> {
         let Some(look_up) = look_up_of(self.frame) else { return Vec::new() };
         let stored = &self.before.entries;
         let passed = !self.own(Kind::Found) && stored.iter().any(|entry| passes_over(&look_up, entry));
-        let conflicts = |entry: &Entry| asks_0_of_a_blank(&look_up, entry) && as_values(entry).conflicts(&look_up);
+        let asks_0 = |entry: &Entry| asks_0_of_a_blank(&look_up.template, &entry.mark);
+        let conflicts = |entry: &Entry| asks_0(entry) && as_values(entry).conflicts(&look_up);
         let in_vain = look_up.kind.if_exists && self.own(Kind::Nothing) && word(self.frame, 8) != 0;
         vec![
             ("0 asked of a blank, not found", usize::from(passed)),
             ("IfExists, 0 asked of another's blank", usize::from(in_vain && stored.iter().any(conflicts))),
         ]
-    }
-
-    /// The look-ups that wait on, though the step sets an entry free that has 0 where it is blank.
-    fn waiting_on(&self) -> usize {
-        let waited = |look_up: &&LookUp| self.before.waiting.contains(look_up);
-        let set_free = |look_up: &LookUp, entry: &Entry| {
-            passes_over(look_up, entry)
-                && !entry_in(self.before, entry.number).is_some_and(|it| passes_over(look_up, it))
-        };
-        let passed = |look_up: &&LookUp| self.after.entries.iter().any(|entry| set_free(look_up, entry));
-        self.after.waiting.iter().filter(waited).filter(passed).count()
     }
 }
 
@@ -101,7 +90,7 @@ impl Blanks {
         }
         let mut times = vec![
             ("committed with blanks, found later", step.founds_among(&self.committed)),
-            ("0 asked of a blank, waits on", step.waiting_on()),
+            ("0 asked of a blank, waits on", step.waiting_on(passes_over)),
         ];
         times.extend(step.written());
         times.extend(step.asked());

@@ -14,9 +14,9 @@ use tray::tally::Tally;
 
 /// Document 02, T-04: "14 is never given out again".
 const NEVER_GIVEN: usize = 14;
-const LAST_NUMBER: usize = 20;
+const LAST_NUMBER: usize = 21;
 
-const SITUATIONS: [&str; 135] = [
+const SITUATIONS: [&str; 183] = [
     "64 entries stored",
     "8 transactions live",
     "16 look-ups waiting",
@@ -107,7 +107,7 @@ const SITUATIONS: [&str; 135] = [
     "8 registrations live",
     "notify refused: length",
     "notify refused: a transaction",
-    "notify refused: a mask above 15",
+    "notify refused: a mask above 23",
     "notify refused: a field not asked for",
     "notify refused: byte 3",
     "notify refused: party",
@@ -152,6 +152,54 @@ const SITUATIONS: [&str; 135] = [
     "silent: ended before",
     "silent: taken again before the commit",
     "silent: lease over before the commit",
+    "arc, and nothing else asked",
+    "arc, and other fields asked",
+    "arc, nothing",
+    "arc, waits",
+    "arc, IfExists waits",
+    "arc, IfExists: another's is outside",
+    "arc, not found: just before its start",
+    "arc, not found: just behind its end",
+    "arc, not found: a blank, which is 0",
+    "arc, not found: 720 or more",
+    "arc, waits on: just before its start",
+    "arc, waits on: just behind its end",
+    "arc, waits on: a blank, which is 0",
+    "arc, waits on: 720 or more",
+    "arc, nothing later by deadline",
+    "arc, nothing later in vain",
+    "notified, an arc",
+    "arc, bell: at its start",
+    "arc, bell: at its end",
+    "arc, bell: inside",
+    "arc, bell: across 12:00, before it",
+    "arc, bell: across 12:00, behind it",
+    "arc, silent: just before its start",
+    "arc, silent: just behind its end",
+    "arc, silent: a blank, which is 0",
+    "arc, silent: 720 or more",
+    "look-up refused: bits 3 and 4",
+    "notify refused: bits 3 and 4",
+    "look-up refused: bit 4 and above",
+    "notify refused: bit 4 and above",
+    "look-up refused: arc, one not asked",
+    "notify refused: arc, one not asked",
+    "write refused: bit 4",
+    "another refused: bit 4",
+    "4, and the arc off the face",
+    "5, and the arc off the face",
+    "look-up with 21: the start",
+    "look-up with 21: the length",
+    "notify with 21: the start",
+    "notify with 21: the length",
+    "21: start 720",
+    "21: length 720",
+    "21, and the party waits",
+    "21, and the transaction is not live",
+    "21, and it is another party's",
+    "21, and too late",
+    "21, and lease 0",
+    "21, and 8 registrations live",
 ];
 
 /// The refusals' numbers.
@@ -211,7 +259,7 @@ impl Coverage {
         let blanks = self.blanks.step(&step);
         let renewals = self.renewals.step(&step);
         let registrations = self.registrations.step(&step);
-        for (situation, times) in blanks.into_iter().chain(renewals).chain(registrations) {
+        for (situation, times) in blanks.into_iter().chain(renewals).chain(registrations).chain(step.arcs()) {
             self.note(situation, times);
         }
         if own.is(Kind::Refused) {

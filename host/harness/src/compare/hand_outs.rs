@@ -1,8 +1,10 @@
 //! The founds of a step, each with the entries that were there at its turn.
 
+use super::arcs::{at_end, at_start, before_12, behind_12, inside, is_blank, is_larger, just_before, just_behind};
 use super::blanks::asks_0_of_a_blank;
 use reference::answer::{Kind, Record, STEP};
-use reference::frame::{decode, Request, Template, NONE};
+use reference::clock_face::Arc;
+use reference::frame::{decode, Mark, Request, Template, NONE};
 use reference::space::{End, Entry, LookUp, Space};
 
 /// An entry handed out, at once or in service.
@@ -19,7 +21,7 @@ type Situation = (&'static str, bool, fn(&HandOut) -> bool);
 
 /// The situations of founds. A transaction's own private entry is available to its look-ups at once, and its owner
 /// writes nothing while waiting: in service there is none.
-pub const FOUNDS: [Situation; 12] = [
+pub const FOUNDS: [Situation; 24] = [
     ("read, of several", true, |it| it.of_several(false, false)),
     ("take, of several", true, |it| it.of_several(true, false)),
     ("readIfExists, of several", true, |it| it.of_several(false, true)),
@@ -31,7 +33,19 @@ pub const FOUNDS: [Situation; 12] = [
     ("own private, a committed is newer", false, |it| it.own_private() && it.newer().any(|e| e.private_to == NONE)),
     ("with blanks, by other fields", true, |it| it.has_blanks() && !it.asks_nothing()),
     ("with blanks, by any", true, |it| it.has_blanks() && it.asks_nothing()),
-    ("an older is blank where 0 is asked", true, |it| it.older().any(|e| asks_0_of_a_blank(&it.look_up, e))),
+    ("an older is blank where 0 is asked", true, |it| it.older().any(|e| it.asks_0_of(e))),
+    ("read, by an arc", true, |it| it.by_arc(|_, _| !it.look_up.kind.takes)),
+    ("by an arc, at its start", true, |it| it.by_arc(at_start)),
+    ("by an arc, at its end", true, |it| it.by_arc(at_end)),
+    ("by an arc, inside", true, |it| it.by_arc(inside)),
+    ("by an arc of one place", true, |it| it.by_arc(|arc, _| arc.length == 0)),
+    ("by an arc that is the whole face", true, |it| it.by_arc(|arc, _| arc.length == 719)),
+    ("by an arc across 12:00, before it", true, |it| it.by_arc(before_12)),
+    ("by an arc across 12:00, behind it", true, |it| it.by_arc(behind_12)),
+    ("an older is just before the arc", true, |it| it.by_arc_over(just_before)),
+    ("an older is just behind the arc", true, |it| it.by_arc_over(just_behind)),
+    ("an older is blank, by an arc", true, |it| it.by_arc_over(is_blank)),
+    ("an older is 720 or more, by an arc", true, |it| it.by_arc_over(is_larger)),
 ];
 
 impl HandOut {
@@ -68,6 +82,20 @@ impl HandOut {
 
     fn asks_nothing(&self) -> bool {
         self.look_up.template == Template::new(0, [0; 4])
+    }
+
+    fn asks_0_of(&self, entry: &Entry) -> bool {
+        asks_0_of_a_blank(&self.look_up.template, &entry.mark)
+    }
+
+    /// Whether it is found by an arc, and lies so.
+    fn by_arc(&self, lies: impl Fn(Arc, &Mark) -> bool) -> bool {
+        self.look_up.template.arc().is_some_and(|arc| self.handed_out().any(|e| lies(arc, &e.mark)))
+    }
+
+    /// Whether it is found by an arc, and an older entry lies so.
+    fn by_arc_over(&self, lies: impl Fn(Arc, &Mark) -> bool) -> bool {
+        self.look_up.template.arc().is_some_and(|arc| self.older().any(|e| lies(arc, &e.mark)))
     }
 
     fn has_blanks(&self) -> bool {

@@ -1,6 +1,7 @@
 //! A space and the reference, led through the same histories and trays; everything that can be seen is compared, byte
 //! for byte. The reference is told nothing of the space's answers.
 
+mod arcs;
 mod bells;
 mod blanks;
 mod buffer;
@@ -18,7 +19,7 @@ mod trays;
 pub use bells::Bells;
 pub use coverage::Coverage;
 pub use discrepancy::Discrepancy;
-pub use pair::replay;
+pub use pair::{in_order, replay};
 pub use steps::on_any_words;
 pub use tally::Sums;
 

@@ -91,7 +91,7 @@ fn differ_in<S: Subject, T: PartialEq + std::fmt::Debug>(what: &str, ours: &[T],
 }
 
 /// The reference's space, with read holds by number.
-fn in_order(space: &Space) -> Space {
+pub fn in_order(space: &Space) -> Space {
     let mut space = space.clone();
     for entry in &mut space.entries {
         entry.read_by.sort_unstable();

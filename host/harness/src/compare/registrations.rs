@@ -1,8 +1,9 @@
 //! What occurs with registrations and their bells (document 02, T-03).
 
+use super::blanks::asks_0_of_a_blank;
 use super::situation::{entry_in, Step, Times};
 use reference::answer::{Kind, Record};
-use reference::frame::{mark_of, word, Mark, FOREVER, NONE};
+use reference::frame::{asks_arc, mark_of, word, Mark, FOREVER, NONE, PLACE};
 use reference::space::{End, Entry, Registration, MOST_REGISTRATIONS};
 use std::collections::BTreeSet;
 
@@ -19,17 +20,12 @@ fn of(holds: bool) -> usize {
     usize::from(holds)
 }
 
-/// The entry's fields, were its blanks values: they are 0.
-fn as_values(mark: &Mark) -> Mark {
-    Mark { blanks: 0, ..*mark }
-}
-
 impl Step<'_> {
     fn later(&self, kind: Kind) -> impl Iterator<Item = &Record> {
         self.records[1..].iter().filter(move |record| record.is(kind))
     }
 
-    fn bells(&self) -> Vec<&Record> {
+    pub fn bells(&self) -> Vec<&Record> {
         self.later(Kind::Rung).collect()
     }
 
@@ -40,7 +36,7 @@ impl Step<'_> {
     }
 
     /// What the step makes public: numbers and fields.
-    fn public(&self) -> Vec<(u32, Mark)> {
+    pub fn public(&self) -> Vec<(u32, Mark)> {
         let own = self.records[0];
         if own.is(Kind::Written) && own.transaction == NONE && word(self.frame, 8) != 0 {
             return vec![(own.entry, mark_of(self.frame))];
@@ -69,17 +65,19 @@ impl Step<'_> {
         let (frame, number) = (self.frame, self.records[0].refusal);
         let whole = frame.len() == 28;
         let (named, mask) = if whole { (word(frame, 4) != 0, frame[2]) } else { (false, 0) };
-        let filled = whole && (0..4).any(|i| mask >> i & 1 == 0 && word(frame, 12 + 4 * i) != 0);
+        let asked = |i: usize| mask >> i & 1 == 1 || i == PLACE && asks_arc(mask);
+        let filled = whole && (0..4).any(|i| !asked(i) && word(frame, 12 + 4 * i) != 0);
+        let above = mask > 23; // with bits 3 and 4, or higher ones
         let ill = |holds: bool, others: bool| of(number == 4 && holds && !others);
         let byte_3 = whole && frame[3] != 0;
         let full = self.before.registrations.len() == MOST_REGISTRATIONS;
         let used_up = self.before.next_registration == FOREVER;
         vec![
             ("notify refused: length", of(number == 3)),
-            ("notify refused: a transaction", ill(named, byte_3 || mask > 15 || filled)),
-            ("notify refused: a mask above 15", ill(mask > 15, byte_3 || named || filled)),
-            ("notify refused: a field not asked for", ill(filled, byte_3 || named || mask > 15)),
-            ("notify refused: byte 3", ill(byte_3, named || mask > 15 || filled)),
+            ("notify refused: a transaction", ill(named, byte_3 || above || filled)),
+            ("notify refused: a mask above 23", ill(above, byte_3 || named || filled)),
+            ("notify refused: a field not asked for", ill(filled, byte_3 || named || above)),
+            ("notify refused: byte 3", ill(byte_3, named || above || filled)),
             ("notify refused: party", of(number == 5)),
             ("notify of a party that waits", of(number == 6)),
             ("notify with lease 0", of(number == 9 && !full)),
@@ -138,7 +136,7 @@ impl Step<'_> {
         let live = self.before.registrations.iter();
         let silent = live.filter(|it| !self.bells().iter().any(|bell| bell.entry == it.number));
         let silent: Vec<&Registration> = silent.filter(|_| !public.is_empty()).collect();
-        let by_blanks = |it: &&&Registration| public.iter().any(|(_, mark)| it.template.matches(&as_values(mark)));
+        let by_blanks = |it: &&&Registration| public.iter().any(|(_, mark)| asks_0_of_a_blank(&it.template, mark));
         [
             ("silent: matches none", silent.len()),
             ("silent: 0 asked of a blank", silent.iter().filter(by_blanks).count()),

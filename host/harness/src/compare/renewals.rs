@@ -31,16 +31,6 @@ impl Step<'_> {
         entry_in(self.before, word(self.frame, 4))
     }
 
-    fn is_too_late(&self) -> bool {
-        let lease = word(self.frame, 8);
-        lease != FOREVER && u64::from(self.before.clock) + u64::from(lease) > u64::from(FOREVER - 1)
-    }
-
-    /// Whether the transaction is the frame's party's.
-    fn is_own(&self, transaction: u32) -> bool {
-        self.before.transactions.iter().any(|live| live.number == transaction && live.owner == self.frame[1])
-    }
-
     /// A frame of operation 11 that is refused for what its bytes are.
     fn ill_formed(&self) -> [Times; 4] {
         let (frame, number) = (self.frame, self.records[0].refusal);

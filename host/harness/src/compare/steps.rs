@@ -59,7 +59,8 @@ fn beginning(random: &mut Random) -> Beginning {
         at.next_transaction = FOREVER - random.below(12) as u32;
     }
     if random.percent(20) {
-        at.next_registration = FOREVER - random.pick(&[0, 1, 3, 8, 8, 8]); // eight may live then, or fewer
+        let left = random.pick(&[0, 1, 3, 8, 8, 8, 8, 8]); // eight may live then, or fewer
+        at.next_registration = FOREVER - left;
     }
     at
 }
