@@ -1,6 +1,6 @@
 /* Document 01's sample tray through the C boundary, byte by byte, and its printed lines to standard output; null
  * pointers; what each function leaves in its buffers; the headers' builders, names and layout of the words; the lengths
- * of frames; the oldest entry first; blanks; renewals; registrations and their bells. */
+ * of frames; the oldest entry first; blanks; renewals; registrations and their bells; the clock face. */
 #include <stdlib.h>
 #include "lines.h"
 #include "space_frames.h"
@@ -103,6 +103,10 @@ static void build_frames(void)
           "a notify's frame, with fields that are not asked for");
     check(space_frame_renew(frame, 3, 258, 772) == 12 &&
           memcmp(frame, (uint8_t[]){11, 3, 0, 0, 2, 1, 0, 0, 4, 3, 0, 0}, 12) == 0, "a renew's frame");
+    const uint32_t arc[4] = {7, 1, 40, space_arc(258, 515)};
+    check(space_frame_look_up(frame, SPACE_OP_READ, 3, SPACE_MASK_SIDE | SPACE_MASK_ARC, arc, 0, 0) == 28 &&
+          memcmp(frame + 12, (uint8_t[16]){[4] = 1, [12] = 2, 1, 3, 2}, 16) == 0 && frame[2] == 18,
+          "a read's frame, with an arc");
     space_empty(space);
     for (int operation = 0; operation < 256; operation++) { /* a length that the space does not refuse with 2 or 3 */
         size_t length = space_frame(frame, (uint8_t)operation, operation == SPACE_OP_TICK ? 0 : 1);
@@ -113,7 +117,7 @@ static void build_frames(void)
         check((strcmp(space_operation_name((uint8_t)operation), "?") != 0) == there_is, "the operations' names");
         int is_kind = (operation >= 1 && operation <= 12) || operation == 15;
         check((strcmp(space_record_name((uint8_t)operation), "?") != 0) == is_kind, "the kinds'");
-        int given = operation >= 1 && operation <= 20 && operation != 14;
+        int given = operation >= 1 && operation <= 21 && operation != 14;
         check((strcmp(space_refusal_meaning((uint32_t)operation), "?") != 0) == given, "the refusals' meanings");
     }
 }
@@ -164,7 +168,8 @@ static void read_words(void)
     step(space_frame_look_up(frame, SPACE_OP_READ, 3, 0, mark, 0, 2));      /* entry 2 */
     step(space_frame_look_up(frame, SPACE_OP_TAKE_IF_EXISTS, 4, SPACE_MASK_SIDE | SPACE_MASK_PLACE, mark, 3, 0));
     check(space_record_at(answers, 0).entry == 3, "the one that is neither taken nor read nor private");
-    step(space_frame_look_up(frame, SPACE_OP_TAKE, 5, SPACE_MASK_SIDE, (uint32_t[4]){0, 2, 0, 0}, 3, 0));
+    step(space_frame_look_up(frame, SPACE_OP_TAKE, 5, SPACE_MASK_SIDE | SPACE_MASK_ARC,
+                             (uint32_t[4]){0, 2, 0, space_arc(660, 120)}, 3, 0));
 
     check(space[SPACE_WORD_CLOCK] == 1 && space[SPACE_WORD_NEXT_ENTRY] == 5 &&
           space[SPACE_WORD_NEXT_TRANSACTION] == 3 && space[SPACE_WORD_NEXT_REGISTRATION] == 3,
@@ -175,7 +180,9 @@ static void read_words(void)
           row_is(SPACE_TRANSACTIONS_AT, SPACE_TRANSACTION_WORDS, 1, (uint32_t[]){2, 3, SPACE_FOREVER, 1}),
           "the transactions' rows");
     check(row_is(SPACE_WAITING_AT, SPACE_WAITING_WORDS, 0,
-                 (uint32_t[]){5, SPACE_OP_TAKE, SPACE_MASK_SIDE, 0, 2, 0, 0, 0, 4}), "the waiting look-up's row");
+                 (uint32_t[]){5, SPACE_OP_TAKE, 18, 0, 2, 0, 660 + 65536 * 120, 0, 4}), "the waiting look-up's row");
+    uint32_t arc = space[SPACE_WAITING_AT + SPACE_WAITING_FIELDS + 3];
+    check(space_arc_start(arc) == 660 && space_arc_length(arc) == 120, "an arc's parts by name");
     check(row_is(SPACE_ENTRIES_AT, SPACE_ENTRY_WORDS, 0, (uint32_t[]){1, 7, 1, 40, 9, 6, 0, 1, 65536}) &&
           row_is(SPACE_ENTRIES_AT, SPACE_ENTRY_WORDS, 1, (uint32_t[]){2, 0, 1, 0, 9, 7, 0, 0, 2 + 256 * 5 + 65536}) &&
           row_is(SPACE_ENTRIES_AT, SPACE_ENTRY_WORDS, 2,
@@ -383,7 +390,8 @@ static void judge_renewals(void)
     check(step(space_frame_renew(frame, 1, 1, 1)).refusal == SPACE_REFUSAL_NO_ENTRY, "taken");
 }
 
-/* Every template of a notify, with every field filled in turn and with none, is judged as a read's. */
+/* Every template of a notify, with every field filled in turn and with none, is judged as a read's. A mask above 23 has
+ * bits 3 and 4, or a bit that no mask has. */
 static void judge_templates(void)
 {
     for (unsigned mask = 0; mask < 256; mask++)
@@ -398,8 +406,8 @@ static void judge_templates(void)
                     frame[SPACE_FRAME_AT_FIELDS + 4 * field] = 1;
                 numbers[i] = step(length).refusal;
             }
-            int asked = field == 4 || mask >> field & 1;
-            check(numbers[0] == (mask > 15 || !asked ? SPACE_REFUSAL_BAD_FORM : 0), "4, by a notify's template");
+            int asked = field == 4 || mask >> field & 1 || (field == 3 && mask & SPACE_MASK_ARC);
+            check(numbers[0] == (mask > 23 || !asked ? SPACE_REFUSAL_BAD_FORM : 0), "4, by a notify's template");
             check(numbers[0] == numbers[1], "as a read's");
         }
 }
@@ -487,14 +495,15 @@ static void stay_silent(void)
     check(step(space_frame_notify(frame, 3, 0, mark, 1)).entry == 3, "a number is never used again");
 }
 
-/* 4, 5, 6, 9, 10 and 17, in this order: in each case all later ones would apply as well, 13 too. Then 13. */
+/* 4, 5, 21, 6, 9, 10 and 17, in this order: in each case all later ones would apply as well, 13 too. Then 13. */
 static void judge_notifies(void)
 {
-    static const struct { uint8_t party; uint32_t transaction, lease, number; } cases[] = {
-        {17, 1, 0, SPACE_REFUSAL_BAD_FORM}, {17, 0, 0, SPACE_REFUSAL_BAD_PARTY}, {3, 0, 0, SPACE_REFUSAL_PARTY_WAITS},
-        {1, 0, 0, SPACE_REFUSAL_WITHOUT_LEASE}, {1, 0, SPACE_FOREVER - 1, SPACE_REFUSAL_TOO_LATE},
-        {1, 0, SPACE_FOREVER - 2, SPACE_REFUSAL_REGISTRATIONS_FULL},
-        {1, 0, SPACE_FOREVER, SPACE_REFUSAL_REGISTRATIONS_FULL}};
+    static const struct { uint8_t party; uint32_t start, transaction, lease, number; } cases[] = {
+        {17, 720, 1, 0, SPACE_REFUSAL_BAD_FORM}, {17, 720, 0, 0, SPACE_REFUSAL_BAD_PARTY},
+        {3, 720, 0, 0, SPACE_REFUSAL_BAD_PLACE}, {3, 719, 0, 0, SPACE_REFUSAL_PARTY_WAITS},
+        {1, 0, 0, 0, SPACE_REFUSAL_WITHOUT_LEASE}, {1, 0, 0, SPACE_FOREVER - 1, SPACE_REFUSAL_TOO_LATE},
+        {1, 0, 0, SPACE_FOREVER - 2, SPACE_REFUSAL_REGISTRATIONS_FULL},
+        {1, 0, 0, SPACE_FOREVER, SPACE_REFUSAL_REGISTRATIONS_FULL}};
     static uint32_t before[SPACE_WORDS];
     space_empty(space);
     step(space_frame_tick(frame));
@@ -504,7 +513,8 @@ static void judge_notifies(void)
     space[SPACE_WORD_NEXT_REGISTRATION] = SPACE_FOREVER;
     memcpy(before, space, sizeof space);
     for (size_t i = 0; i < sizeof cases / sizeof cases[0]; i++) {
-        size_t length = space_frame_notify(frame, cases[i].party, 0, mark, cases[i].lease);
+        const uint32_t fields[4] = {0, 0, 0, space_arc(cases[i].start, 719)};
+        size_t length = space_frame_notify(frame, cases[i].party, SPACE_MASK_ARC, fields, cases[i].lease);
         space_put_word(frame + SPACE_FRAME_AT_TRANSACTION, cases[i].transaction);
         check(step(length).refusal == cases[i].number, "the order of a notify's refusals");
         check(memcmp(before, space, sizeof space) == 0, "a refused notify leaves the space as it was");
@@ -515,6 +525,119 @@ static void judge_notifies(void)
     space[SPACE_WORD_NEXT_REGISTRATION] = SPACE_FOREVER - 1;
     check(step(length).entry == SPACE_FOREVER - 1, "the last number");
     check(step(length).refusal == SPACE_REFUSAL_REGISTRATIONS_FULL, "17 before 13");
+}
+
+/* What the functions of the clock face give for a number out of range. */
+static const uint64_t off_the_face = 65536 * SPACE_REFUSAL_BAD_PLACE;
+
+/* Every hour from 0 to 13 with every minute from 0 to 61, and the largest numbers. */
+static void convert_times(void)
+{
+    for (uint32_t hour = 0; hour <= 13; hour++)
+        for (uint32_t minute = 0; minute <= 61; minute++) {
+            int is_time = hour >= 1 && hour <= 12 && minute <= 59;
+            uint64_t place = place_of_time(hour, minute);
+            check(place == (!is_time ? off_the_face : hour == 12 ? minute : 60 * hour + minute), "a time's place");
+            check(!is_time || time_of_place((uint32_t)place) == 256 * hour + minute, "and back");
+        }
+    check(place_of_time(UINT32_MAX, 0) == off_the_face && place_of_time(1, UINT32_MAX) == off_the_face &&
+          place_of_time(UINT32_MAX, UINT32_MAX) == off_the_face && place_of_time(256 + 1, 0) == off_the_face,
+          "times far out of range");
+    check(space_place_number(off_the_face) == 21 && space_place_number(place_of_time(11, 59)) == 0, "the number");
+}
+
+static void convert_places(void)
+{
+    for (uint32_t place = 0; place < SPACE_PLACES; place++) {
+        uint64_t time = time_of_place(place), mirror = mirrored_place(place);
+        check(place_of_time(space_time_hour(time), space_time_minute(time)) == place, "a place's time, and back");
+        check(mirror == (place ? SPACE_PLACES - place : 0), "a place's mirror");
+        check(mirrored_place((uint32_t)mirror) == place, "mirroring twice");
+    }
+    for (uint32_t place = SPACE_PLACES; place < 3 * 65536; place++)
+        check(time_of_place(place) == off_the_face && mirrored_place(place) == off_the_face, "larger places");
+    check(time_of_place(UINT32_MAX) == off_the_face && mirrored_place(UINT32_MAX) == off_the_face, "the largest");
+}
+
+/* Whether an entry with this place, or with a blank in its place, is found by the arc. */
+static int lies_in(uint32_t arc, uint8_t blanks, uint32_t place)
+{
+    space_empty(space);
+    step(space_frame_write_blanks(frame, 1, blanks, (uint32_t[4]){7, 1, 40, place}, 1, 0));
+    const uint32_t fields[4] = {0, 0, 0, arc};
+    return step(space_frame_look_up(frame, SPACE_OP_READ, 2, SPACE_MASK_ARC, fields, 0, 0)).kind == SPACE_RECORD_FOUND;
+}
+
+/* Some arcs, with every place of the face, larger ones and a blank: an arc has the places that are met on the way from
+ * its start, so many on. */
+static void find_arcs(void)
+{
+    static const uint32_t starts[] = {0, 1, 359, 660, 719}, lengths[] = {0, 1, 60, 718, 719};
+    static const uint32_t larger[] = {65536, 65536 + 660, UINT32_MAX - 719, UINT32_MAX};
+    for (int i = 0; i < 25; i++) {
+        uint32_t start = starts[i / 5], length = lengths[i % 5], arc = space_arc(start, length);
+        uint8_t met[2 * SPACE_PLACES] = {0};
+        for (uint32_t on = 0; on <= length; on++)
+            met[(start + on) % SPACE_PLACES] = 1;
+        for (uint32_t place = 0; place < 2 * SPACE_PLACES; place++)
+            check(lies_in(arc, 0, place) == met[place], "found on the way");
+        for (int j = 0; j < 4; j++)
+            check(!lies_in(arc, 0, larger[j]), "larger places never match");
+        check(!lies_in(arc, SPACE_MASK_PLACE, 0), "a blank never matches");
+    }
+}
+
+/* An arc from 11:00 to 1:00, for which a look-up waits and a registration listens: what lies beside it, is larger or
+ * blank serves nobody, rings no bell and is no conflict. */
+static void serve_arcs(void)
+{
+    static const uint32_t outside[] = {659, 61, 720, 65536 + 660};
+    const uint32_t asked[4] = {0, 0, 0, space_arc(660, 120)};
+    space_empty(space);
+    step(space_frame_notify(frame, 3, SPACE_MASK_ARC, asked, SPACE_FOREVER));
+    step(space_frame_look_up(frame, SPACE_OP_READ, 2, SPACE_MASK_ARC, asked, SPACE_FOREVER, 0));
+    for (int i = 0; i < 4; i++)
+        check(count_records(space_frame_write(frame, 1, (uint32_t[4]){7, 1, 40, outside[i]}, 9, 0)) == 1, "outside");
+    check(count_records(space_frame_write_blanks(frame, 1, SPACE_MASK_PLACE, mark, 9, 0)) == 1, "blank");
+    check(count_records(space_frame_write(frame, 1, (uint32_t[4]){7, 1, 40, 60}, 9, 0)) == 3, "at its end");
+    check(space_record_at(answers, 1).party == 2 && space_record_at(answers, 1).entry == 6 && is_bell(2, 3, 1, 1, 1),
+          "found in service, and a bell");
+    step(space_frame_look_up(frame, SPACE_OP_TAKE, 2, SPACE_MASK_ARC, asked, 0, 0));
+    step(space_frame_create(frame, 1, SPACE_FOREVER));                      /* transaction 1 */
+    for (uint32_t place = 659; place <= 660; place++) {
+        step(space_frame_write(frame, 1, (uint32_t[4]){7, 1, 40, place}, 9, 1));
+        size_t length = space_frame_look_up(frame, SPACE_OP_READ_IF_EXISTS, 2, SPACE_MASK_ARC, asked, 9, 0);
+        check(step(length).kind == (place == 659 ? SPACE_RECORD_NOTHING : SPACE_RECORD_WAITING), "a conflict inside");
+    }
+    check(count_records(space_frame_commit(frame, 1, 1)) == 3, "committed, found, a bell");
+    check(space_record_at(answers, 1).fields[3] == 660 && is_bell(2, 3, 1, 1, 2), "at its start");
+}
+
+/* 4, 5, 21, 6, 7, 8 and 10, in this order: in each case all later ones would apply as well, but for 7 or 8. */
+static void judge_arcs(void)
+{
+    static const struct { uint8_t mask, party; uint32_t start, length, transaction, number; } cases[] = {
+        {24, 17, 720, 720, 9, SPACE_REFUSAL_BAD_FORM}, {48, 3, 720, 0, 9, SPACE_REFUSAL_BAD_FORM},
+        {16, 17, 720, 0, 9, SPACE_REFUSAL_BAD_PARTY}, {16, 0, 0, 720, 9, SPACE_REFUSAL_BAD_PARTY},
+        {16, 3, 720, 0, 9, SPACE_REFUSAL_BAD_PLACE}, {16, 3, 0, 720, 9, SPACE_REFUSAL_BAD_PLACE},
+        {23, 2, 65535, 719, 1, SPACE_REFUSAL_BAD_PLACE}, {16, 1, 65536, 65536, 1, SPACE_REFUSAL_BAD_PLACE},
+        {16, 3, 719, 719, 9, SPACE_REFUSAL_PARTY_WAITS}, {16, 2, 719, 719, 9, SPACE_REFUSAL_NOT_LIVE},
+        {16, 2, 719, 719, 1, SPACE_REFUSAL_NOT_OWNER}, {16, 1, 719, 719, 1, SPACE_REFUSAL_TOO_LATE},
+        {8, 1, 720, 720, 1, SPACE_REFUSAL_TOO_LATE}};
+    static uint32_t before[SPACE_WORDS];
+    space_empty(space);
+    step(space_frame_tick(frame));
+    step(space_frame_create(frame, 1, SPACE_FOREVER));                      /* transaction 1 */
+    step(space_frame_look_up(frame, SPACE_OP_TAKE, 3, SPACE_MASK_ARC, (uint32_t[4]){0}, SPACE_FOREVER, 0));
+    memcpy(before, space, sizeof space);
+    for (size_t i = 0; i < sizeof cases / sizeof cases[0]; i++)
+        for (uint8_t operation = SPACE_OP_READ; operation <= SPACE_OP_TAKE_IF_EXISTS; operation++) {
+            const uint32_t fields[4] = {7, 1, 40, space_arc(cases[i].start, cases[i].length)};
+            size_t length = space_frame_look_up(frame, operation, cases[i].party, cases[i].mask, fields,
+                                                SPACE_FOREVER - 1, cases[i].transaction);
+            check(step(length).refusal == cases[i].number, "the order of a look-up's refusals");
+            check(memcmp(before, space, sizeof space) == 0, "a refused look-up leaves the space as it was");
+        }
 }
 
 /* A space with each kind of row, and the same words as no frames make them: host/space.h tells how they are read. */
@@ -651,6 +774,11 @@ int main(void)
     ring_for_blanks();
     stay_silent();
     judge_notifies();
+    convert_times();
+    convert_places();
+    find_arcs();
+    serve_arcs();
+    judge_arcs();
     step_on_odd_words();
     step_where_none_can_wait();
     use_zeroed_words();

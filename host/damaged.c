@@ -47,11 +47,16 @@ static void release(uint8_t *memory)
         free(memory);
 }
 
+static int has_template(int operation)
+{
+    return (operation >= SPACE_OP_READ && operation <= SPACE_OP_TAKE_IF_EXISTS) || operation == SPACE_OP_NOTIFY;
+}
+
 /* A frame of any operation, its fields but the kind 0; in a write some of these are blank. A renew has an entry's
  * number in place of a transaction's. */
 static size_t put_frame(uint8_t *frame, int operation, int party, uint32_t transaction, uint32_t duration)
 {
-    int asks = (operation >= SPACE_OP_READ && operation <= SPACE_OP_TAKE_IF_EXISTS) || operation == SPACE_OP_NOTIFY;
+    int asks = has_template(operation);
     uint8_t blanks = operation == SPACE_OP_WRITE ? (uint8_t)(2 * below(8)) : 0;
     uint8_t whole[SPACE_MAX_FRAME_BYTES] = {(uint8_t)operation, (uint8_t)party, asks ? SPACE_MASK_KIND : blanks};
     size_t length = space_frame_bytes((uint8_t)operation);
@@ -71,6 +76,11 @@ static size_t make_frame(uint8_t frame[SPACE_MAX_FRAME_BYTES])
     uint32_t transaction = operation == SPACE_OP_RENEW ? below(30) /* an entry */ : names_none ? 0 : below(9);
     memset(frame, 0, SPACE_MAX_FRAME_BYTES);
     size_t length = put_frame(frame, operation, party, transaction, below(9) ? below(6) : odd_number());
+    if (has_template(operation) && !below(3)) {
+        uint32_t arc = below(6) ? space_arc(below(SPACE_PLACES), below(SPACE_PLACES)) : odd_number();
+        frame[2] |= SPACE_MASK_ARC;
+        space_put_word(frame + SPACE_FRAME_AT_FIELDS + 12, arc);
+    }
     if (!below(12))
         frame[below(SPACE_MAX_FRAME_BYTES)] = (uint8_t)below(256);
     if (!below(12))
@@ -216,7 +226,7 @@ static void run_longest_ringing(void)
 static int is_frames_number(uint32_t number)
 {
     return number <= SPACE_REFUSAL_NUMBERS_USED_UP ||
-           (number >= SPACE_REFUSAL_REGISTRATIONS_FULL && number <= SPACE_REFUSAL_ENTRY_HELD);
+           (number >= SPACE_REFUSAL_REGISTRATIONS_FULL && number <= SPACE_REFUSAL_BAD_PLACE);
 }
 
 static void run_steps(void)

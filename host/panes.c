@@ -90,11 +90,11 @@ static void count_new(struct pane *pane)
 }
 
 /* Sets a mark in every seventh round, with a lease of three ticks, and renews it until it is refused: then somebody
- * holds it, or it is gone. The first has no place yet. */
+ * holds it, or it is gone. The first has no place yet, the others lie at 2:30. */
 static void set_marks(struct pane *pane)
 {
     uint8_t frame[SPACE_MAX_FRAME_BYTES];
-    const uint32_t fields[4] = {MARK, 1, 40 + (uint32_t)round_number, 9};
+    const uint32_t fields[4] = {MARK, 1, 40 + (uint32_t)round_number, (uint32_t)place_of_time(2, 30)};
     uint8_t blanks = round_number == 1 ? SPACE_MASK_PLACE : 0;
     if (round_number % 7 == 1)
         send(pane, frame, space_frame_write_blanks(frame, pane->party, blanks, fields, 3, 0));
@@ -133,7 +133,16 @@ static void show_findings(struct pane *pane)
          space_frame_look_up(frame, SPACE_OP_TAKE, pane->party, SPACE_MASK_KIND, finding, SPACE_FOREVER, 0));
 }
 
-/* Under trial: a frame that names no party, an empty one, a look-up that waits longer than its transaction lives. */
+/* Reads what lies on the clock face from this time on, for an hour. What is no time has no place: the arc is refused. */
+static void read_hour(struct pane *pane, uint32_t hour, uint32_t minute)
+{
+    uint8_t frame[SPACE_MAX_FRAME_BYTES];
+    const uint32_t fields[4] = {0, 0, 0, space_arc((uint32_t)place_of_time(hour, minute), 60)};
+    send(pane, frame, space_frame_look_up(frame, SPACE_OP_READ, pane->party, SPACE_MASK_ARC, fields, 0, 0));
+}
+
+/* Under trial: a frame that names no party, an empty one, a look-up that waits longer than its transaction lives, a
+ * time that there is not. */
 static void stumble(struct pane *pane)
 {
     uint8_t frame[SPACE_MAX_FRAME_BYTES];
@@ -146,6 +155,10 @@ static void stumble(struct pane *pane)
     if (round_number == 4)
         send(pane, frame, space_frame_look_up(frame, SPACE_OP_READ, pane->party, SPACE_MASK_KIND, (uint32_t[4]){3},
                                               SPACE_FOREVER, pane->transaction));
+    if (round_number == 7)
+        read_hour(pane, 1, 60);
+    if (round_number == 8)
+        read_hour(pane, 2, 0);
 }
 
 int main(void)

@@ -19,8 +19,10 @@ extern "C" {
  * 4: an abort of the transaction in which its party's look-up waits is carried out. 5: a waiting IfExists look-up with
  * no conflicting entry left gets nothing at once. 6: a write's mask tells blank fields, so does byte 3 of a found.
  * 7: an entry remembers the party that wrote it, which can renew it: operation 11, kind 12, refusals 18 to 20.
- * 8: a registration tells its party of new entries: operation 10, kinds 10 and 11, refusal 17, more words. */
-#define SPACE_VERSION 8
+ * 8: a registration tells its party of new entries: operation 10, kinds 10 and 11, refusal 17, more words.
+ * 9: a template may ask for an arc of the clock face, and three functions convert and mirror its places: mask bit 4,
+ * refusal 21. */
+#define SPACE_VERSION 9
 
 #define SPACE_MAX_ENTRIES 64         /* entries stored at most */
 #define SPACE_MAX_TRANSACTIONS 8     /* transactions live at most */
@@ -33,6 +35,7 @@ extern "C" {
 #define SPACE_RECORD_BYTES 28        /* bytes of a record */
 #define SPACE_STEP_BYTES (SPACE_MAX_STEP_RECORDS * SPACE_RECORD_BYTES) /* room that a frame needs for its answers */
 #define SPACE_FOREVER 4294967295u
+#define SPACE_PLACES 720             /* places of the clock face: 0 to 719, a minute of an hour each, 12:00 being 0 */
 
 /* Frame: byte 0 operation, 1 party (0 for tick), 2 mask, 3 zero, then words at these offsets. */
 #define SPACE_FRAME_AT_TRANSACTION 4
@@ -71,11 +74,15 @@ enum space_operation {
 
 /* Mask bits. In a look-up and a notify: the fields to which the template gives a value; the others must be 0. In a
  * write: the fields that are blank; these must be 0. In other frames the mask is 0. A template's value, be it 0, never
- * matches a blank; a field without one matches blanks and values alike. */
+ * matches a blank; a field without one matches blanks and values alike. SPACE_MASK_ARC, in a look-up or a notify and
+ * without SPACE_MASK_PLACE, makes the place an arc of the clock face: start + 65536 * length (space_arc). It matches a
+ * place p from 0 to 719 exactly if (p - start) modulo 720 is at most the length: both ends belong to it, and length 719
+ * is the whole face. Blanks and larger places never match. */
 #define SPACE_MASK_KIND 1
 #define SPACE_MASK_SIDE 2
 #define SPACE_MASK_IMAGE 4
 #define SPACE_MASK_PLACE 8
+#define SPACE_MASK_ARC 16
 
 /* Record: byte 0 kind, 1 party, 2 refusal number, 3 the blanks of the entry found (0 in every other kind), then words
  * at these offsets. */
@@ -105,9 +112,9 @@ enum space_record_kind {
     SPACE_RECORD_REFUSED = 15
 };
 
-/* Numbers 1 to 13 and 17 to 20 are of a frame, 15 and 16 of a tray; 0 is no refusal. 14 is never given out.
- * docs/MANUAL.md says what to do about each. A notify is judged by 1 to 6, 9, 10, 17 and 13, in this order; a renew by
- * 1 to 6, 18, 19, 20 and 10. */
+/* Numbers 1 to 13 and 17 to 21 are of a frame, 15 and 16 of a tray; 0 is no refusal. 14 is never given out.
+ * docs/MANUAL.md says what to do about each. A look-up is judged by 1 to 5, 21, 6, 7, 8 and 10, in this order; a notify
+ * by 1 to 5, 21, 6, 9, 10, 17 and 13; a renew by 1 to 6, 18, 19, 20 and 10. The functions of the clock face give 21. */
 enum space_refusal {
     SPACE_REFUSAL_AREA_TOO_SMALL = 1,
     SPACE_REFUSAL_BAD_OPERATION = 2,
@@ -127,7 +134,8 @@ enum space_refusal {
     SPACE_REFUSAL_REGISTRATIONS_FULL = 17,
     SPACE_REFUSAL_NO_ENTRY = 18,     /* no stored entry has the number that a renew names */
     SPACE_REFUSAL_NOT_WRITER = 19,   /* another party wrote it */
-    SPACE_REFUSAL_ENTRY_HELD = 20    /* it is private or held, be it by the party's own transaction */
+    SPACE_REFUSAL_ENTRY_HELD = 20,   /* it is private or held, be it by the party's own transaction */
+    SPACE_REFUSAL_BAD_PLACE = 21     /* an arc's start or length, a place, an hour or a minute is out of range */
 };
 
 /* The words of a space, to be read only: the clock, the next numbers, the rows in use of each table, then the tables.
@@ -168,7 +176,7 @@ enum space_refusal {
 #define SPACE_WAITING_PARTY 0
 #define SPACE_WAITING_OPERATION 1
 #define SPACE_WAITING_MASK 2
-#define SPACE_WAITING_FIELDS 3       /* kind, side, image, place */
+#define SPACE_WAITING_FIELDS 3       /* kind, side, image, place or arc */
 #define SPACE_WAITING_TRANSACTION 7  /* 0: none */
 #define SPACE_WAITING_DEADLINE 8
 #define SPACE_WAITING_WORDS 9
@@ -178,7 +186,7 @@ enum space_refusal {
 #define SPACE_REGISTRATION_NUMBER 0
 #define SPACE_REGISTRATION_PARTY 1
 #define SPACE_REGISTRATION_MASK 2
-#define SPACE_REGISTRATION_FIELDS 3  /* kind, side, image, place */
+#define SPACE_REGISTRATION_FIELDS 3  /* kind, side, image, place or arc */
 #define SPACE_REGISTRATION_END 7
 #define SPACE_REGISTRATION_TOTAL 8   /* matching entries made public since */
 #define SPACE_REGISTRATION_WORDS 9
@@ -216,12 +224,39 @@ uint64_t space_step(uint32_t space[SPACE_WORDS], const uint8_t *frame, size_t fr
  * after the last record keep their contents. `tray` is only read. */
 uint64_t space_run_tray(const uint8_t *tray, size_t tray_len, uint8_t *answers, size_t answers_len);
 
-/* The parts of what the two functions return. */
+/* Positions on the clock face, as radiologists give them, and places: fields of entries, arcs of templates. Each of the
+ * three functions returns 65536 * SPACE_REFUSAL_BAD_PLACE for a number that is out of range. */
+
+/* The place of an hour from 1 to 12 and a minute from 0 to 59: 0 for 12:00, 60 for 1:00, 719 for 11:59. */
+uint64_t place_of_time(uint32_t hour, uint32_t minute);
+
+/* Hour and minute of a place from 0 to 719, as 256 * hour + minute: place_of_time the other way round. */
+uint64_t time_of_place(uint32_t place);
+
+/* The mirror of a place from 0 to 719, (720 - place) modulo 720, for the other breast. Mirroring twice gives the place.
+ * The mirror of an arc has the same length and starts at the mirror of its end. */
+uint64_t mirrored_place(uint32_t place);
+
+/* The parts of what space_step and space_run_tray return. */
 static inline uint32_t space_step_records(uint64_t returned) { return (uint32_t)(returned % 65536u); }
 static inline uint32_t space_step_number(uint64_t returned) { return (uint32_t)(returned / 65536u); }
 static inline uint32_t space_run_frames(uint64_t returned) { return (uint32_t)(returned % 65536u); }
 static inline uint32_t space_run_records(uint64_t returned) { return (uint32_t)(returned / 65536u % 65536u); }
 static inline uint32_t space_run_number(uint64_t returned) { return (uint32_t)(returned / 4294967296u); }
+
+/* The number of the refusal, or 0, in what the functions of the clock face return; hour and minute of time_of_place. */
+static inline uint32_t space_place_number(uint64_t returned) { return (uint32_t)(returned / 65536u); }
+static inline uint32_t space_time_hour(uint64_t returned) { return (uint32_t)(returned / 256u % 256u); }
+static inline uint32_t space_time_minute(uint64_t returned) { return (uint32_t)(returned % 256u); }
+
+/* An arc, for the place of a template, and its parts. What does not fit 16 bits becomes 65535, which 21 refuses too. */
+static inline uint32_t space_arc(uint32_t start, uint32_t length)
+{
+    return (start < 65535u ? start : 65535u) | (length < 65535u ? length : 65535u) << 16;
+}
+
+static inline uint32_t space_arc_start(uint32_t arc) { return arc % 65536u; }
+static inline uint32_t space_arc_length(uint32_t arc) { return arc / 65536u; }
 
 /* The parts of the word at SPACE_ENTRY_READERS in the row of an entry. */
 static inline uint8_t space_entry_readers(const uint32_t *row)

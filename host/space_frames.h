@@ -59,12 +59,14 @@ static inline size_t space_frame_write(uint8_t *frame, uint8_t party, const uint
     return space_frame_write_blanks(frame, party, 0, fields, lease, transaction);
 }
 
-/* Fields whose bit in the mask is 0 are not looked at; the others match no blank. */
+/* Fields whose bit in the mask is 0 are not looked at; the others match no blank. With SPACE_MASK_ARC the place is an
+ * arc: space_arc(start, length). */
 static inline void space_put_template(uint8_t *frame, uint8_t mask, const uint32_t fields[4])
 {
+    int asked = mask & SPACE_MASK_ARC ? mask | SPACE_MASK_PLACE : mask;
     frame[2] = mask;
     for (int i = 0; i < 4; i++)
-        if (mask >> i & 1)
+        if (asked >> i & 1)
             space_put_word(frame + SPACE_FRAME_AT_FIELDS + 4 * i, fields[i]);
 }
 
@@ -195,7 +197,8 @@ static inline const char *space_refusal_meaning(uint32_t number)
         "8 registrations are live",
         "no stored entry has that number",
         "another party wrote the entry",
-        "the entry is private or held"};
+        "the entry is private or held",
+        "an arc's start or length, a place, an hour or a minute is out of range"};
     return number < sizeof meanings / sizeof meanings[0] ? meanings[number] : "?";
 }
 
