@@ -11,12 +11,12 @@ use borrow.Author.Tests.{le-leb, eq-eqb, ne-eqb, eqb-true, not-false}
 use Rattle.rules.specs.Numbers.{opWrite, opRead, opTakeIfExists, opCreate, opCommit, opAbort, opTick, opNotify, opRenew}
 use Rattle.rules.specs.Numbers.{operationRefused}
 use Rattle.rules.specs.declared.Request.{Request}
-use Rattle.rules.specs.declared.Request.the-variants.{Write, Find, Create, Commit, Abort, Renew, Notify, Tick}
+use Rattle.rules.specs.declared.Request.the-variants.{Write, Find, Create, Commit, Abort, Notify, Tick}
 use Rattle.rules.specs.declared.Decoded.the-variants.{Asks, Refused}
 use Rattle.rules.specs.Frame.{Frame, decode, byteAt, numberAt, fieldsAt, layoutOf, frameLength, hasTemplate, namesNoTxn}
 use Rattle.rules.specs.Frame.{hasBlanks, Layout, layouts, isOperation, isTake, isIfExists}
 use Rattle.rules.specs.Refusals.{formRows, noOperation, wrongLength, highest, badTemplate, badBlanks, malformed, wrongParty}
-use Rattle.rules.specs.Requests.{plainFrame, frameOf, formRefusal, Decodes}
+use Rattle.rules.specs.Requests.{plainFrame, frameOf, renewOf, formRefusal, Decodes}
 use Rattle.rules.proofs.BoolLaws.{or-left, or-right, and-false-right}
 use Rattle.rules.proofs.LayoutLaws.{lookUp-op}
 use Rattle.rules.proofs.RefusalLaws.{testAt, none-applies}
@@ -133,7 +133,7 @@ module _ (bs : List ℕ) (clear : formRefusal bs ≡ 0) where
   abort-asks e = asks _ (plain opAbort e refl refl (omega arith) ∙ rw (past opAbort 8 e (omega arith)))
 
   pub renew-asks : byteAt bs 0 ≡ opRenew
-      → Decodes bs (Asks (Renew (byteAt bs 1) (record { 0 = numberAt bs 4 }) (numberAt bs 8)))
+      → Decodes bs (Asks (renewOf (byteAt bs 1) (record { 0 = numberAt bs 4 }) (numberAt bs 8)))
   unfolding frameLength layoutOf
   renew-asks e = asks _ (plain opRenew e refl refl (omega arith))
 

@@ -113,7 +113,7 @@ pub fn put_frame(out: &mut [u8], q: Request) -> usize
         Request::Create(party, lease) => put_plain(out, OP_CREATE, party, 0, lease),
         Request::Commit(party, txn) => put_plain(out, OP_COMMIT, party, txn.0, 0),
         Request::Abort(party, txn) => put_plain(out, OP_ABORT, party, txn.0, 0),
-        Request::Renew(party, entry, lease) => put_plain(out, OP_RENEW, party, entry.0, lease),
+        Request::Renew(r) => put_plain(out, OP_RENEW, r.party, r.entry.0, r.lease),
         Request::Notify(n) => { put_numbers(out, OP_NOTIFY, n.party, n.mask, 0, n.lease, n.fields) }
         Request::Tick => put_plain(out, OP_TICK, 0, 0, 0),
     }

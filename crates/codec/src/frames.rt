@@ -24,6 +24,7 @@ use rules::EntryId;
 use rules::Fields;
 use rules::FindRequest;
 use rules::NotifyRequest;
+use rules::RenewRequest;
 use rules::Request;
 use rules::TxnId;
 use rules::WriteRequest;
@@ -312,7 +313,11 @@ fn decode_renew(frame: &[u8]) -> Decoded
         return Decoded::Refused(n);
     }
     let entry = EntryId(whole_number(frame, ENTRY_NAMED_AT));
-    Decoded::Asks(Request::Renew(frame[PARTY_AT], entry, whole_number(frame, LEASE_AT)))
+    Decoded::Asks(Request::Renew(RenewRequest {
+        entry,
+        party: frame[PARTY_AT],
+        lease: whole_number(frame, LEASE_AT),
+    }))
 }
 
 // What a frame asks for, or the first of the refusals 2 to 5 and 21 that applies.

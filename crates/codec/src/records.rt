@@ -2,8 +2,8 @@
 ghost use mathlib.Core.Path.{_≡_};
 ghost use Rattle.rules.specs.Template.{markOf, bare};
 ghost use Rattle.rules.specs.Records.{noMark, plain, written, found, renewed, notified, rung, refused, recordAt};
-ghost use Rattle.rules.specs.declared.Request.the-variants.{Write, Renew, Notify};
-ghost use Rattle.rules.specs.Requests.{frameOf};
+ghost use Rattle.rules.specs.declared.Request.the-variants.{Write, Notify};
+ghost use Rattle.rules.specs.Requests.{frameOf, renewOf};
 ghost use Rattle.codec.specs.Area.{recordPut};
 use crate::bytes::byte_at;
 use crate::bytes::fields_at;
@@ -138,7 +138,7 @@ pub fn found_record(w: LookUp, e: Entry) -> Record
 
 // An entry has another end.
 pub fn renewed_record(party: u8, entry: EntryId, lease: u32) -> Record
-    ensures { λ r. ⌜ r ≡ renewed (frameOf (Renew party entry lease)) ⌝ }
+    ensures { λ r. ⌜ r ≡ renewed (frameOf (renewOf party entry lease)) ⌝ }
 {
     let txn = TxnId(0);
     let fields = no_mark();

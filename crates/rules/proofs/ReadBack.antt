@@ -132,7 +132,7 @@ request-in (Commit party txn) =
     record { operation = refl; txn = λ l. absurd (omega arith); leaseOrTimeout = λ l. refl; fields = λ l. refl }
 request-in (Abort party txn) =
     record { operation = refl; txn = λ l. absurd (omega arith); leaseOrTimeout = λ l. refl; fields = λ l. refl }
-request-in (Renew party entry lease) =
+request-in (Renew r) =
     record {
       operation = refl;
       txn = λ l. absurd (omega arith);

@@ -5,6 +5,7 @@ use mathlib.Core.Path.{_≡_}
 use mathlib.Core.List.{List, _++_}
 use mathlib.Core.Option.{Option, none, some}
 use lib.Dec.{eqb}
+use Rattle.rules.specs.declared.EntryId.{EntryId}
 use Rattle.rules.specs.declared.Fields.{Fields}
 use Rattle.rules.specs.declared.Request.{Request}
 use Rattle.rules.specs.declared.Request.the-variants.{Write, Find, Create, Commit, Abort, Renew, Notify, Tick}
@@ -42,9 +43,13 @@ frameOf (Find l) =
 frameOf (Create party lease) = plainFrame opCreate party 0 lease
 frameOf (Commit party txn) = plainFrame opCommit party (txn .0) 0
 frameOf (Abort party txn) = plainFrame opAbort party (txn .0) 0
-frameOf (Renew party entry lease) = plainFrame opRenew party (entry .0) lease
+frameOf (Renew r) = plainFrame opRenew (r .party) (r .entry .0) (r .lease)
 frameOf (Notify n) = frame opNotify (n .party) (n .mask) 0 (n .lease) (n .fields)
 frameOf Tick = plainFrame opTick 0 0 0
+
+-- a renewal by its parts
+abbrev pub renewOf : ℕ → EntryId → ℕ → Request
+renewOf party entry lease = Renew (record { entry = entry; party = party; lease = lease })
 
 -- the decoder's answer as a frame, where it asks for one, and as a refusal's number, or 0
 abbrev pub askedBy : Decoded → Option Frame

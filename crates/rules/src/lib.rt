@@ -89,32 +89,42 @@ pub struct Record {
     pub fields: Mark,
 }
 
-// A write: party, which fields are blank, transaction, lease, fields.
+// Requests. A number comes first, then the bytes, then the other numbers: so no byte of one kind lies where another kind
+// has a part of a number, and the compiler tells a frame's kind once, from its first byte on.
+
+// A write: transaction, party, which fields are blank, lease, fields.
 pub struct WriteRequest {
+    pub txn: TxnId,
     pub party: u8,
     pub blanks: u8,
-    pub txn: TxnId,
     pub lease: u32,
     pub fields: Fields,
 }
 
 // A look-up: it takes or reads; the IfExists kinds wait only while an entry conflicts.
 pub struct FindRequest {
+    pub txn: TxnId,
     pub party: u8,
     pub takes: bool,
     pub if_exists: bool,
     pub mask: u8,
-    pub txn: TxnId,
     pub timeout: u32,
     pub fields: Fields,
 }
 
-// A notify: party, template, lease.
+// A notify: lease, party, template.
 pub struct NotifyRequest {
+    pub lease: u32,
     pub party: u8,
     pub mask: u8,
-    pub lease: u32,
     pub fields: Fields,
+}
+
+// A renewal: the entry, the party, the lease.
+pub struct RenewRequest {
+    pub entry: EntryId,
+    pub party: u8,
+    pub lease: u32,
 }
 
 // What a frame asks for, once its form is in order.
@@ -126,8 +136,7 @@ pub enum Request {
     // The party, and its transaction.
     Commit(u8, TxnId),
     Abort(u8, TxnId),
-    // The party, the entry, and the lease.
-    Renew(u8, EntryId, u32),
+    Renew(RenewRequest),
     Notify(NotifyRequest),
     Tick,
 }

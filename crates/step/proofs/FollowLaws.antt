@@ -10,12 +10,12 @@ use Rattle.rules.specs.declared.FindRequest.{FindRequest}
 use Rattle.rules.specs.declared.NotifyRequest.{NotifyRequest}
 use Rattle.rules.specs.declared.WriteRequest.{WriteRequest}
 use Rattle.rules.specs.declared.Request.{Request}
-use Rattle.rules.specs.declared.Request.the-variants.{Write, Find, Create, Renew, Notify}
+use Rattle.rules.specs.declared.Request.the-variants.{Write, Find, Create, Notify}
 use Rattle.rules.specs.declared.Decoded.the-variants.{Asks}
 use Rattle.rules.specs.Time.{until}
 use Rattle.rules.specs.State.{Model}
 use Rattle.rules.specs.Frame.{Frame, decode, isWrite, isLookUp, isCreate, isRenew, isNotify}
-use Rattle.rules.specs.Requests.{frameOf, Decodes}
+use Rattle.rules.specs.Requests.{frameOf, renewOf, Decodes}
 use Rattle.rules.specs.Words.{view}
 use Rattle.rules.specs.Allowed.{Stepped}
 use Rattle.rules.proofs.BoolLaws.{or-left}
@@ -80,7 +80,7 @@ module _ {m n : Model} {hs hs′ : List ℕ} where
 
   pub follows-renew : (party : ℕ) (id : EntryId) (lease : ℕ) {clock : ℕ} → clock ≡ m .clock
       → Weaker hs hs′ × ((lease ≡ 0 → ⊥) → NotBefore (least hs′) (until clock lease))
-      → Follows (frameOf (Renew party id lease)) m n hs hs′
+      → Follows (frameOf (renewOf party id lease)) m n hs hs′
   follows-renew party id lease q a =
       record {
         weaker = a .0;

@@ -10,12 +10,12 @@ use Rattle.rules.specs.declared.EntryId.{EntryId}
 use Rattle.rules.specs.declared.TxnId.{TxnId}
 use Rattle.rules.specs.declared.NotifyRequest.{NotifyRequest}
 use Rattle.rules.specs.declared.WriteRequest.{WriteRequest}
-use Rattle.rules.specs.declared.Request.the-variants.{Write, Find, Create, Commit, Abort, Renew, Notify, Tick}
+use Rattle.rules.specs.declared.Request.the-variants.{Write, Find, Create, Commit, Abort, Notify, Tick}
 use Rattle.rules.specs.Numbers.{opRead, opTake, opReadIfExists, opTakeIfExists}
 use Rattle.rules.specs.State.{Model}
 use Rattle.rules.specs.Frame.{Frame, layoutOf, serves, isLookUp, isTick, isTake, endsTxn, isIfExists, lookUpOp}
 use Rattle.rules.specs.LookUp.{lookUp}
-use Rattle.rules.specs.Requests.{frame, frameOf}
+use Rattle.rules.specs.Requests.{frame, frameOf, renewOf}
 use Rattle.rules.specs.Step.{ownPart}
 use Rattle.rules.proofs.LayoutLaws.{lookUp-serves}
 use Rattle.step.specs.Ending.{Ending, Quiet, Service, Both, inTick, served, closing, EndsAs}
@@ -87,7 +87,7 @@ pub abort-ends : (party : ℕ) (id : TxnId) → EndsAs (frameOf (Abort party id)
 unfolding serves layoutOf
 abort-ends party id = record { tick = refl; service = refl; closes = refl }
 
-pub renew-quiet : (party : ℕ) (id : EntryId) (lease : ℕ) → EndsAs (frameOf (Renew party id lease)) Quiet
+pub renew-quiet : (party : ℕ) (id : EntryId) (lease : ℕ) → EndsAs (frameOf (renewOf party id lease)) Quiet
 unfolding serves layoutOf
 renew-quiet party id lease = record { tick = refl; service = refl; closes = refl }
 

@@ -9,7 +9,6 @@ use lib.Dec.{eqb, ltb}
 use lib.ListN.{length, getD}
 use Rattle.rules.specs.declared.Entry.{Entry}
 use Rattle.rules.specs.declared.EntryId.{EntryId}
-use Rattle.rules.specs.declared.Request.the-variants.{Renew}
 use Rattle.rules.specs.Numbers.{forever, lastClock, waitingRefused, noEntryRefused, clockRefused, notWriterRefused}
 use Rattle.rules.specs.Numbers.{heldRefused}
 use Rattle.rules.specs.State.{Model}
@@ -17,7 +16,7 @@ use Rattle.rules.specs.Frame.{layoutOf}
 use Rattle.rules.specs.Renew.{hasNumber, storedEntry, renew}
 use Rattle.rules.specs.Refusals.{noEntry, notWriter, notFree, partyWaits, notLive, notOwn, noLease, tooLate}
 use Rattle.rules.specs.Refusals.{entriesFull, txnsFull, registrationsFull, noNumber, isFree}
-use Rattle.rules.specs.Requests.{frameOf, spaceRefusal}
+use Rattle.rules.specs.Requests.{frameOf, renewOf, spaceRefusal}
 use Rattle.rules.specs.Sound.{Sound}
 use Rattle.rules.proofs.BoolLaws.{and-false-right}
 use Rattle.rules.proofs.ListLaws.{find-some}
@@ -34,7 +33,7 @@ module _ (m : Model) (party : ℕ) (id : EntryId) (lease : ℕ) where
   byEntry (some e) = entryRefusal party e (m .clock) lease
 
   judged-so : (o : Option Entry) → storedEntry (id .0) (m .entries) ≡ o
-      → spaceRefusal m (frameOf (Renew party id lease))
+      → spaceRefusal m (frameOf (renewOf party id lease))
       ≡ cond (partyWaiting party 0 (m .waits)) waitingRefused (byEntry o)
   unfolding spaceRefusal noEntry notWriter notFree partyWaits notLive notOwn noLease tooLate entriesFull txnsFull
       registrationsFull noNumber layoutOf entryRefusal
@@ -42,18 +41,18 @@ module _ (m : Model) (party : ℕ) (id : EntryId) (lease : ℕ) where
   judged-so (some x) e = rw (e, or-false (late (m .clock) lease))
 
   pub renew-waits : partyWaiting party 0 (m .waits) ≡ true
-      → waitingRefused ≡ spaceRefusal m (frameOf (Renew party id lease))
+      → waitingRefused ≡ spaceRefusal m (frameOf (renewOf party id lease))
   renew-waits t =
       sym (judged-so (storedEntry (id .0) (m .entries)) refl
       ∙ ap (λ b. cond b waitingRefused (byEntry (storedEntry (id .0) (m .entries)))) t)
 
   module _ (f : partyWaiting party 0 (m .waits) ≡ false) where
     pub renew-none : storedEntry (id .0) (m .entries) ≡ none
-        → noEntryRefused ≡ spaceRefusal m (frameOf (Renew party id lease))
+        → noEntryRefused ≡ spaceRefusal m (frameOf (renewOf party id lease))
     renew-none e = sym (judged-so none e ∙ ap (λ b. cond b waitingRefused noEntryRefused) f)
 
     pub renew-some : (e : Entry) → storedEntry (id .0) (m .entries) ≡ some e
-        → entryRefusal party e (m .clock) lease ≡ spaceRefusal m (frameOf (Renew party id lease))
+        → entryRefusal party e (m .clock) lease ≡ spaceRefusal m (frameOf (renewOf party id lease))
     renew-some x e =
         sym (judged-so (some x) e ∙ ap (λ b. cond b waitingRefused (entryRefusal party x (m .clock) lease)) f)
 
@@ -74,8 +73,8 @@ renew-in-time party e clock lease q h =
 -- what is done by the row is what the rules do, where no two entries have a number
 pub renew-row : (m : Model) (party : ℕ) (id : EntryId) (lease : ℕ) (e : Entry) (i : ℕ) → Sound m
     → storedEntry (id .0) (m .entries) ≡ some e → i < length (m .entries) → getD (m .entries) i e ≡ e
-    → renewedAt lease e i m ≡ renew m (frameOf (Renew party id lease)) .model
+    → renewedAt lease e i m ≡ renew m (frameOf (renewOf party id lease)) .model
 unfolding storedEntry
 renew-row m party id lease e i s q l g =
-    by-row m (frameOf (Renew party id lease)) e i l g (s .consistent .ordered .entries)
+    by-row m (frameOf (renewOf party id lease)) e i l g (s .consistent .ordered .entries)
     (eqb-true (e .id .0) (id .0) (find-some (hasNumber (id .0)) (m .entries) q .1))

@@ -4,11 +4,11 @@ ghost use Prim.Native.Nat.{_≤_};
 ghost use lib.ListN.{length};
 ghost use Rattle.rules.specs.Allowed.{Stepped};
 ghost use Rattle.rules.specs.Numbers.{stepArea};
-ghost use Rattle.rules.specs.Requests.{Decodes};
+ghost use Rattle.rules.specs.Requests.{Decodes, renewOf};
 ghost use Rattle.rules.specs.Words.{view};
 ghost use Rattle.rules.specs.declared.Decoded.the-variants.{Asks};
 ghost use Rattle.rules.specs.declared.Request.the-variants.{Write, Find, Create, Commit, Abort};
-ghost use Rattle.rules.specs.declared.Request.the-variants.{Renew, Notify, Tick};
+ghost use Rattle.rules.specs.declared.Request.the-variants.{Notify, Tick};
 ghost use Rattle.hints.specs.Hints.{Reliable};
 ghost use Rattle.step.specs.Does.{StaysReliable};
 use crate::step::take_abort;
@@ -138,7 +138,7 @@ pub(crate) fn renew_frame(
     id: EntryId,
     lease: u32,
 ) -> u64
-    requires { ⌜ Decodes (now frame) (Asks (Renew party id lease)) × (stepArea ≤ length (now answers))
+    requires { ⌜ Decodes (now frame) (Asks (renewOf party id lease)) × (stepArea ≤ length (now answers))
         × Reliable (now hints) (view (now space)) ⌝ }
     ensures { λ r. ⌜ Stepped (now (space .entry)) (now (frame .entry)) (now (answers .entry))
         (now (space .exit)) r (now (answers .exit))
@@ -202,8 +202,9 @@ pub(crate) fn take_up(
         Request::Create(party, lease) => create_frame(space, hints, frame, answers, party, lease),
         Request::Commit(party, id) => commit_frame(space, hints, frame, answers, party, id),
         Request::Abort(party, id) => abort_frame(space, hints, frame, answers, party, id),
-        Request::Renew(party, id, lease) => {
-            renew_frame(space, hints, frame, answers, party, id, lease)
+        Request::Renew(r) => {
+            let id = r.entry;
+            renew_frame(space, hints, frame, answers, r.party, id, r.lease)
         }
         Request::Notify(n) => notify_frame(space, hints, frame, answers, n),
         Request::Tick => tick_frame(space, hints, frame, answers),

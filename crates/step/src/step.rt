@@ -7,11 +7,11 @@ ghost use lib.ListN.{length};
 ghost use Rattle.rules.specs.Allowed.{Stepped};
 ghost use Rattle.rules.specs.Numbers.{stepArea};
 ghost use Rattle.rules.specs.Records.{refused};
-ghost use Rattle.rules.specs.Requests.{Decodes};
+ghost use Rattle.rules.specs.Requests.{Decodes, renewOf};
 ghost use Rattle.rules.specs.Words.{view};
 ghost use Rattle.rules.specs.declared.Decoded.the-variants.{Asks};
 ghost use Rattle.rules.specs.declared.Request.the-variants.{Write, Find, Create, Commit, Abort};
-ghost use Rattle.rules.specs.declared.Request.the-variants.{Renew, Notify, Tick};
+ghost use Rattle.rules.specs.declared.Request.the-variants.{Notify, Tick};
 ghost use Rattle.hints.specs.Hints.{Reliable};
 ghost use Rattle.step.specs.Does.{Adds};
 use crate::answers::add_record;
@@ -223,7 +223,7 @@ pub(crate) fn take_renew(
     id: EntryId,
     lease: u32,
 ) -> u64
-    requires { ⌜ Decodes (now frame) (Asks (Renew party id lease)) × (stepArea ≤ length (now answers))
+    requires { ⌜ Decodes (now frame) (Asks (renewOf party id lease)) × (stepArea ≤ length (now answers))
         × Reliable (now hints) (view (now space)) ⌝ }
     ensures { λ r. ⌜ Stepped (now (space .entry)) (now (frame .entry)) (now (answers .entry))
         (now (space .exit)) r (now (answers .exit)) ⌝ }

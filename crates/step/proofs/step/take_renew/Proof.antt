@@ -5,9 +5,8 @@ use mathlib.Core.Path.{_≡_, refl, sym, ap, _∙_, subst}
 use native.Mathlib.Omega.{arith}
 use borrow.Author.Needs.{needs}
 use Rattle.step.proofs.step.take_renew.Tie as tie
-use Rattle.rules.specs.declared.Request.the-variants.{Renew}
 use Rattle.rules.specs.Renew.{storedEntry, renew}
-use Rattle.rules.specs.Requests.{frameOf, spaceRefusal}
+use Rattle.rules.specs.Requests.{frameOf, renewOf, spaceRefusal}
 use Rattle.rules.specs.Step.{ownPart}
 use Rattle.rules.specs.Words.{view, entryCount}
 use Rattle.rules.proofs.NotifyLaws.{none-rung}
@@ -61,7 +60,7 @@ in-row c =
 -- the number of the table is that of the entry
 judged : (c : tie.After-entry-refusal)
     → let a = c .before .before .before .before .before .before .before .before .before .before .before .before .args in
-    c .entry-refusal .result ≡ spaceRefusal (view (a .space .now)) (frameOf (Renew (a .party) (a .id) (a .lease)))
+    c .entry-refusal .result ≡ spaceRefusal (view (a .space .now)) (frameOf (renewOf (a .party) (a .id) (a .lease)))
 judged c =
     let known = c .before .before in
     let test = known .before .before .before .before .before in
