@@ -30,7 +30,7 @@ abort-frame-requires c κs =
 
 renew-frame-requires : tie.Need-renew-frame-requires
 renew-frame-requires c κs =
-    let told = c .before .before .before .before in rw (told .q6 .given .1) at
+    let told = c .before .before .before .before .before in rw (told .q6 .given .1) at
     (told .before .before .before .before .pre)
 
 notify-frame-requires : tie.Need-notify-frame-requires
