@@ -9,7 +9,7 @@ TUNED_FRAMES=300000    # of each tuned peer
 FENCED_TRAYS=20000     # damaged trays with guard pages
 CHECKED_TRAYS=400      # damaged trays under valgrind or the address sanitizer
 RANDOM_TRAYS=60        # given to the program and to host/run_tray.c
-READ_ONLY_BYTES=192    # of the archive's data: the jumps of two matches, seven constants
+READ_ONLY_BYTES=160    # of the archive's data: the jumps of a match, seven constants
 
 fail() {
     echo "FAILED: $*"
