@@ -1,19 +1,18 @@
 -- Positions on the clock face: `ClockFace`, by arithmetic.
 use Prim.Native.Nat.{ℕ, _+_, _-_, _*_, _/_, _%_, _≤_, _<_}
 use mathlib.Core.Bool.{Bool, true, false, not, cond, _&&_, _||_}
-use mathlib.Core.Logic.{⊎-elim}
-use mathlib.Core.Path.{_≡_, refl, sym, ap, ap₂, _∙_, subst}
+use mathlib.Core.Path.{_≡_, sym, ap, ap₂, _∙_}
 use native.Mathlib.Decide.{decLt}
 use native.Mathlib.Omega.{arith}
 use borrow.Author.Tests.{leb-true, le-leb, lt-leb, lt-ltb, le-ltb, not-true}
-use lib.Dec.{eqb, leb, ltb}
+use lib.Dec.{leb, ltb}
 use Rattle.rules.specs.declared.Fields.{Fields}
 use Rattle.rules.specs.declared.Mark.{Mark}
 use Rattle.rules.specs.Numbers.{places}
 use Rattle.rules.specs.Places.{noPlace, isTime, isPlace, placeOf, hourOf, minuteOf, placeOfTime, timeOfPlace, mirrorOf}
 use Rattle.rules.specs.Places.{mirroredPlace, inArc, arcOf, startOf, lengthOf, mirrorArc}
 use Rattle.rules.specs.Template.{bit, agrees, askedEqual, asksArc, matches}
-use Rattle.rules.proofs.BoolLaws.{and-left, and-right, bool-cases}
+use Rattle.rules.proofs.BoolLaws.{and-left, and-right}
 use Rattle.demands.specs.ClockFace.{mirrorTemplate, mirrorMark, ClockFace}
 
 -- ---- the converter

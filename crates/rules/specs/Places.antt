@@ -1,7 +1,7 @@
 -- Positions on the clock face: places as hour and minute, their mirror, and arcs (document 02, T-09).
 use Prim.Native.Nat.{ℕ, _+_, _-_, _*_, _/_, _%_}
 use mathlib.Core.Bool.{Bool, cond, _&&_}
-use lib.Dec.{eqb, leb, ltb}
+use lib.Dec.{leb, ltb}
 use Rattle.rules.specs.Numbers.{places, placeRefused}
 
 -- "hour 1-12 and minute 0-59"
