@@ -132,7 +132,8 @@ fn is_bad_arc(mask: u8, arc: u32) -> bool
     (mask / 16 % 2 == 1) & ((PLACES <= arc % ARC_LENGTH) | (PLACES <= arc / ARC_LENGTH))
 }
 
-// The refusals 4, 5 and 21 of a frame with a template, `bad` being what 4 finds wrong besides byte 3, mask and template.
+// The refusals 4, 5 and 21 of a frame with a template, `bad` being what 4 finds wrong besides byte 3, mask and
+// template.
 fn template_refusal(frame: &[u8], op: u8, fields: Fields, bad: bool) -> u8
     requires { ⌜ 4 ≤ length (now frame) ⌝ }
     ensures { λ r. ⌜ r ≡ templateRefusal (now (frame .entry)) op fields bad ⌝ }

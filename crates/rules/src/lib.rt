@@ -89,8 +89,8 @@ pub struct Record {
     pub fields: Mark,
 }
 
-// Requests. A number comes first, then the bytes, then the other numbers: so no byte of one kind lies where another kind
-// has a part of a number, and the compiler tells a frame's kind once, from its first byte on.
+// Requests. A number comes first, then the bytes, then the other numbers: so no byte of one kind lies where another
+// kind has a part of a number, and the compiler tells a frame's kind once, from its first byte on.
 
 // A write: transaction, party, which fields are blank, lease, fields.
 pub struct WriteRequest {
