@@ -14,7 +14,8 @@ use Rattle.rules.specs.Numbers.{formRefused, partyRefused, placeRefused}
 use Rattle.rules.specs.Frame.{Frame, frameLength, decode, byteAt, numberAt, fieldsAt, isOperation, Layout, layoutOf}
 use Rattle.rules.specs.Frame.{hasTemplate, hasBlanks, namesNoTxn}
 use Rattle.rules.specs.Records.{noFields, plain, recordAt}
-use Rattle.rules.specs.Refusals.{noOperation, wrongLength, badTemplate, badBlanks, badArc, malformed, wrongParty, wrongArc}
+use Rattle.rules.specs.Refusals.{noOperation, wrongLength, badTemplate, badBlanks, badArc, malformed, wrongParty}
+use Rattle.rules.specs.Refusals.{wrongArc}
 use Rattle.rules.specs.Requests.{formRefusal}
 use Rattle.rules.proofs.ReadBack.{number-behind, fields-behind, record-behind}
 use Rattle.rules.proofs.BoolLaws.{bool-cases}

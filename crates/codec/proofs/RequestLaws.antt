@@ -15,7 +15,8 @@ use Rattle.rules.specs.declared.Request.the-variants.{Write, Find, Create, Comm
 use Rattle.rules.specs.declared.Decoded.the-variants.{Asks, Refused}
 use Rattle.rules.specs.Frame.{Frame, decode, byteAt, numberAt, fieldsAt, layoutOf, frameLength, hasTemplate, namesNoTxn}
 use Rattle.rules.specs.Frame.{hasBlanks, Layout, layouts, isOperation, isTake, isIfExists}
-use Rattle.rules.specs.Refusals.{formRows, noOperation, wrongLength, highest, badTemplate, badBlanks, malformed, wrongParty}
+use Rattle.rules.specs.Refusals.{formRows, noOperation, wrongLength, highest, badTemplate, badBlanks, malformed}
+use Rattle.rules.specs.Refusals.{wrongParty}
 use Rattle.rules.specs.Requests.{plainFrame, frameOf, renewOf, formRefusal, Decodes}
 use Rattle.rules.proofs.BoolLaws.{or-left, or-right, and-false-right}
 use Rattle.rules.proofs.LayoutLaws.{lookUp-op}

@@ -55,7 +55,8 @@ unfolding hourOf
 hour-in p l = go (decLt p 60)
   where
     go : Dec (p < 60)
-        → (1 ≤ cond (ltb p 60) 12 (p / 60)) × (cond (ltb p 60) 12 (p / 60) ≤ 12) × (cond (ltb p 60) 12 (p / 60) % 12 ≡ p / 60)
+        → (1 ≤ cond (ltb p 60) 12 (p / 60)) × (cond (ltb p 60) 12 (p / 60) ≤ 12)
+        × (cond (ltb p 60) 12 (p / 60) % 12 ≡ p / 60)
     go (yes h) = rw (lt-ltb p 60 h) (omega arith, omega arith, omega arith)
     go (no h) = rw (le-ltb p 60 (omega arith)) (omega arith, omega arith, omega arith)
 
@@ -116,7 +117,12 @@ arc-mirrored arc p x y z =
     let q = (places - p) % places in
     let first = (2 * places - startOf arc - lengthOf arc) % places in
     let f : first < places = omega arith in
-    rw (lt-ltb p places x, lt-ltb q places (omega arith), start-is first (lengthOf arc) f, length-is first (lengthOf arc) f)
+    rw (
+      lt-ltb p places x,
+      lt-ltb q places (omega arith),
+      start-is first (lengthOf arc) f,
+      length-is first (lengthOf arc) f,
+    )
     (mirror-arc p (startOf arc) (lengthOf arc) x y z)
 
 by-numbers : (p start long : ℕ) → p < places → start < places → long < places

@@ -14,9 +14,9 @@ use Rattle.rules.specs.Service.{serve, service}
 use Rattle.rules.specs.Notify.{newRegistration, notify, madePublic, matching, hearing, heardOf, ringing}
 use Rattle.rules.specs.Tick.{endedTxns, abortAll, dropEnded, lapsed, unregistered, tick}
 use Rattle.rules.specs.Closing.{isOver, closeWaits}
-use Rattle.rules.specs.Refusals.{noOperation, wrongLength, malformed, wrongParty, wrongArc, partyWaits, notLive, notOwn, noLease}
-use Rattle.rules.specs.Refusals.{noEntry, notWriter, notFree, tooLate, entriesFull, txnsFull, registrationsFull}
-use Rattle.rules.specs.Refusals.{noNumber, refusal}
+use Rattle.rules.specs.Refusals.{noOperation, wrongLength, malformed, wrongParty, wrongArc, partyWaits, notLive}
+use Rattle.rules.specs.Refusals.{notOwn, noLease, noEntry, notWriter, notFree, tooLate, entriesFull, txnsFull}
+use Rattle.rules.specs.Refusals.{registrationsFull, noNumber, refusal}
 use Rattle.rules.specs.Write.{newEntry, stored, write}
 use Rattle.rules.specs.Step.{ownPart, finish, writeFrame, commitFrame, abortFrame, carriedOut, refusedWith, accepted}
 use Rattle.rules.specs.Step.{step}
@@ -24,14 +24,15 @@ use Rattle.rules.specs.Tray.{pairsOf, pairs, badTray, badPairs, trayRefusal, fr
 use Rattle.rules.specs.Tray.{hostNumber}
 
 unfoldable pub all-rules : Unit {0}
-unfolding until reached bit askedEqual inArc matches liveTxn addReader dropReader readByOther visible available conflicts numberAt decode
-    layoutOf frameLength serves written found nothing waiting created committed aborted exception ticked refused
-    lookUpOf removes withHold marked handOut givesNothing answerFound answerNothing answerWaiting answer lookUp
-    freeSlot create released withoutTxn commit abort serve service endedTxns abortAll dropEnded lapsed isOver
-    closeWaits tick noOperation wrongLength malformed wrongParty wrongArc partyWaits notLive notOwn noLease tooLate entriesFull
-    txnsFull noNumber refusal newEntry stored write ownPart finish commitFrame abortFrame carriedOut refusedWith
-    accepted step renewed storedEntry renewEntries renew noEntry notWriter notFree notified rung newRegistration notify
-    madePublic matching hearing heardOf ringing unregistered registrationsFull writeFrame
+unfolding until reached bit askedEqual inArc matches liveTxn addReader dropReader readByOther visible available
+    conflicts numberAt decode layoutOf frameLength serves written found nothing waiting created committed aborted
+    exception ticked refused lookUpOf removes withHold marked handOut givesNothing answerFound answerNothing
+    answerWaiting answer lookUp freeSlot create released withoutTxn commit abort serve service endedTxns abortAll
+    dropEnded lapsed isOver closeWaits tick noOperation wrongLength malformed wrongParty wrongArc partyWaits notLive
+    notOwn noLease tooLate entriesFull txnsFull noNumber refusal newEntry stored write ownPart finish commitFrame
+    abortFrame carriedOut refusedWith accepted step renewed storedEntry renewEntries renew noEntry notWriter notFree
+    notified rung newRegistration notify madePublic matching hearing heardOf ringing unregistered registrationsFull
+    writeFrame
 all-rules = tt
 
 -- and the trays'

@@ -16,7 +16,8 @@ use Rattle.rules.specs.Step.{step}
 use Rattle.rules.specs.Tray.{runTray, hostNumber}
 use Rattle.rules.specs.Print.{digits, line, recordLine, doneLine, printed}
 use Rattle.demands.specs.Frames.{write-blank, Found-blank, renew-by, Renewed, notify-by, Notified, Rung, F, E}
-use Rattle.demands.specs.Frames.{long, write-by, read-by, read-arc, take-by, create-by, commit-by, abort-by, a-tick, times}
+use Rattle.demands.specs.Frames.{long, write-by, read-by, read-arc, take-by, create-by, commit-by, abort-by}
+use Rattle.demands.specs.Frames.{a-tick, times}
 use Rattle.demands.specs.Frames.{Written, Found, Nothing, Created, Committed, Aborted, Exception, Ticked, Refused}
 use Rattle.demands.specs.Course.{answersFrom, answers, Starred}
 use Rattle.demands.proofs.Computed.{all-rules, all-trays}
@@ -138,8 +139,8 @@ refusals : Refused-with
     ∷ (empty, 12 ∷ 5 ∷ [], 2)
     ∷ (empty, take 11 (renew-by 1 1 9), 3)
     ∷ (empty, 9 ∷ 0 ∷ 0 ∷ [], 3)
-    -- byte 3, a mask above 15, bit 4 with bit 3, bits above, a blank that is not 0, a template's field without its bit, a
-    -- transaction in a create
+    -- byte 3, a mask above 15, bit 4 with bit 3, bits above, a blank that is not 0, a template's field without its bit,
+    -- a transaction in a create
     ∷ (empty, 9 ∷ 0 ∷ 0 ∷ 1 ∷ [], 4)
     ∷ (empty, long 2 1 0 9 24 noFields, 4)
     ∷ (empty, long 2 1 0 9 32 noFields, 4)

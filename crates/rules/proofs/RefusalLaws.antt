@@ -11,7 +11,8 @@ use Rattle.rules.specs.Numbers.{stepArea, areaRefused}
 use Rattle.rules.specs.State.{Model}
 use Rattle.rules.specs.declared.LookUp.{LookUp}
 use Rattle.rules.specs.Frame.{Frame, decode, isOperation, isAbort}
-use Rattle.rules.specs.Refusals.{noOperation, wrongLength, malformed, wrongParty, wrongArc, withdraws, partyWaits, notLive}
+use Rattle.rules.specs.Refusals.{noOperation, wrongLength, malformed, wrongParty, wrongArc, withdraws}
+use Rattle.rules.specs.Refusals.{partyWaits, notLive}
 use Rattle.rules.specs.Refusals.{notOwn, noEntry, notWriter, notFree, noLease, tooLate, entriesFull, txnsFull}
 use Rattle.rules.specs.Refusals.{registrationsFull, noNumber, rows, refusal, formRows, admissionRows, roomRows}
 use Rattle.rules.specs.Requests.{formRefusal, spaceRefusal}

@@ -27,4 +27,7 @@ unfolding placeOfTime placeOf
 returns-2 c = rw (sym (c .before .is-time .ensures) ∙ not-false _ (c .if1 .left))
 
 pub place-of-spec : {M : Type 1} → statement M
-place-of-spec = tie.close (tie.spec (λ c κs. search needs) returns (λ c. search needs) add-result (λ c. search needs) returns-2)
+place-of-spec =
+    tie.close
+    (tie.spec
+    (λ c κs. search needs) returns (λ c. search needs) add-result (λ c. search needs) returns-2)

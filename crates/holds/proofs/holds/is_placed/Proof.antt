@@ -11,7 +11,10 @@ returns c = rw (sym (c .before .asks-arc .ensures) ∙ not-true _ (c .if1 .taken
 returns-2 : tie.Need-returns-2
 returns-2 c =
     let asked = c .before .before in
-    rw (sym (asked .before .asks-arc .ensures) ∙ not-false _ (asked .if1 .left), sym (c .before .has-bit .ensures) ∙ c .if2 .taken)
+    rw (
+      sym (asked .before .asks-arc .ensures) ∙ not-false _ (asked .if1 .left),
+      sym (c .before .has-bit .ensures) ∙ c .if2 .taken,
+    )
 
 returns-3 : tie.Need-returns-3
 returns-3 c =
