@@ -28,6 +28,7 @@ use rules::RenewRequest;
 use rules::Request;
 use rules::TxnId;
 use rules::WriteRequest;
+use rules::numbers::ARC_LENGTH;
 use rules::numbers::FORM_REFUSED;
 use rules::numbers::LENGTH_REFUSED;
 use rules::numbers::MAX_PARTY;
@@ -52,9 +53,6 @@ const MAX_BLANKS: u8 = 15;
 
 // That of a template: bit 4 without bit 3, and the three below.
 const MAX_TEMPLATE_MASK: u8 = 23;
-
-// An arc's length is told by the bits from the 17th on.
-const ARC_LENGTH: u32 = 65536;
 
 // The party that a frame names; 0 if it has none.
 pub(crate) fn party_of(frame: &[u8]) -> u8

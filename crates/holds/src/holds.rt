@@ -19,6 +19,7 @@ use rules::Fields;
 use rules::LookUp;
 use rules::Mark;
 use rules::TxnId;
+use rules::numbers::ARC_LENGTH;
 use rules::numbers::PLACES;
 use words::rows::Words;
 
@@ -117,9 +118,6 @@ pub(crate) fn asks_arc(mask: u8) -> bool
 {
     has_bit(mask, 4) & !has_bit(mask, 3)
 }
-
-// An arc's length is told by the bits from the 17th on.
-const ARC_LENGTH: u32 = 65536;
 
 // How far a place lies behind a start, round the face.
 pub(crate) fn distance(place: u32, start: u32) -> u32

@@ -15,6 +15,9 @@ pub const MAX_WAITS: usize = 16;
 // The places of a clock face.
 pub const PLACES: u32 = 720;
 
+// An arc's length is told by its bits from the 17th on.
+pub const ARC_LENGTH: u32 = 65536;
+
 pub const MAX_REGISTRATIONS: usize = 8;
 
 pub const MAX_PARTY: u8 = 16;
