@@ -51,6 +51,9 @@ trayRefusal tray =
 unfoldable pub frameAt : List ℕ → Pair → List ℕ
 frameAt tray p = take (p .size) (drop (p .offset) tray)
 
+abbrev pub framesOf : List ℕ → List (List ℕ)
+framesOf tray = map (frameAt tray) (pairs tray)
+
 -- frames done, records and a number
 pub record TrayOutcome : Type 0 where
   pub frames : ℕ
@@ -71,7 +74,7 @@ runFrames m area (f ∷ fs) =
     cond (ltb area stepArea) (stopped areaRefused) done
 
 unfoldable pub runPairs : List ℕ → ℕ → TrayOutcome
-runPairs tray area = runFrames empty area (map (frameAt tray) (pairs tray))
+runPairs tray area = runFrames empty area (framesOf tray)
 
 -- a tray that is refused has done nothing
 unfoldable pub runTray : List ℕ → ℕ → TrayOutcome

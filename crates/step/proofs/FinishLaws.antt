@@ -22,7 +22,7 @@ use Rattle.rules.specs.Service.{service}
 use Rattle.rules.specs.Tick.{lapsed, tick, endedTxns, abortAll, dropEnded, unregistered}
 use Rattle.rules.specs.Words.{view}
 use Rattle.rules.proofs.BoolLaws.{bool-cases, cond-cases}
-use Rattle.rules.proofs.Capacity.{lapsed-fits}
+use Rattle.rules.proofs.Growth.{exceptions, lapsed-paid}
 use Rattle.rules.proofs.ListLaws.{filter-pass, length-filter, count-mem}
 use Rattle.rules.proofs.SoundLaws.{service-ahead, none-existing, own-ahead}
 use Rattle.rules.proofs.ViewLaws.{view-bounded}
@@ -77,7 +77,7 @@ module _ (ws : List ℕ) (e : Ending) where
   pub few-ended : length (endedBy e (view ws) .records) ≤ maxTxns
   few-ended =
       cond-cases (λ (d : Done). length (d .records) ≤ maxTxns) (inTick e)
-      (λ t. lapsed-fits (view ws) (view-bounded ws) .records-fit) (λ t. omega arith)
+      (λ t. omega (arith, exceptions (view ws), view-bounded ws .txns-fit)) (λ t. omega arith)
 
 -- a found for each look-up that waits no longer
 pub few-served : (ws : List ℕ) (k : ℕ)
@@ -199,7 +199,7 @@ module _ (f : Frame) (m : Model) (s : Sound m) (a : Admitted f m) (o : isOperati
       serviceFrom (firstFree Tick k n) (lapsed own .model) ≡ service (lapsed own .model)
   ticked t b =
       let n = length (lapsed own .records) in
-      ⊎-elim (λ z. rw z (from-none maxEntries (lapsed own .model) (lapsed-fits own b .model-fits .entries-fit)
+      ⊎-elim (λ z. rw z (from-none maxEntries (lapsed own .model) (omega (arith, lapsed-paid own .entries, b .entries-fit))
       ∙ sym (service-idle (lapsed own .model) (idle t (eqb-true n 0 z)))))
       (λ z. rw z (service-whole (lapsed own .model) (lapsed-order own (ticking t)))) (bool-cases (eqb n 0))
 

@@ -9,7 +9,7 @@ use lib.Dec.{ltb}
 use lib.ListN.{length, getD, drop, length-map, List·getD-map}
 use lib.Seq.{getD-drop, drop-cons}
 use Rattle.rules.specs.Frame.{byteAt, numberAt}
-use Rattle.rules.specs.Tray.{Pair, frameCount, pairsOf, pairs, badPairs, frameAt}
+use Rattle.rules.specs.Tray.{Pair, frameCount, pairsOf, pairs, badPairs, frameAt, framesOf}
 use Rattle.rules.proofs.BoolLaws.{or-left, or-right}
 use Rattle.tray.specs.Pairs.{pairAt}
 
@@ -62,9 +62,6 @@ module _ (tray : List ℕ) where
         ∙ ap (λ p. p ∷ drop (suc k) (pairs tray)) (pair-is (pairAt tray k))
 
 -- the frames of a tray: how many, and the one at k
-abbrev pub framesOf : List ℕ → List (List ℕ)
-framesOf tray = map (frameAt tray) (pairs tray)
-
 pub frames-length : (tray : List ℕ) → length (framesOf tray) ≡ frameCount tray
 frames-length tray = length-map (pairs tray) (frameAt tray) ∙ pairs-length tray
 

@@ -5,14 +5,14 @@ use mathlib.Core.Path.{_≡_, sym, ap, ap₂, _∙_}
 use mathlib.Core.List.{List}
 use native.Mathlib.Numerals.{add-one}
 use native.Mathlib.Omega.{arith}
-use borrow.Author.Tests.{ltb-false, le-ltb, lt-ltb}
+use borrow.Author.Tests.{ltb-false}
 use lib.Dec.{ltb}
 use lib.ListN.{length, drop, drop-of-length-le}
 use Rattle.rules.specs.Numbers.{maxTray, maxFrames}
 use Rattle.rules.specs.Tray.{frameCount, pairsEnd, pairs, badTray, badPairs}
 use Rattle.rules.proofs.BoolLaws.{or-left, or-right}
 use Rattle.tray.specs.declared.pairs.Pair.{Pair as Place}
-use Rattle.tray.specs.Pairs.{Stands}
+use Rattle.tray.specs.Pairs.{Stands, misplaced}
 use Rattle.tray.proofs.PairLaws.{pairs-length, pairs-from}
 
 -- what has come of the tray's pairs
@@ -46,8 +46,7 @@ judging-none tray e = record { rest = ap (λ f. badPairs f (length tray) (pairs 
 module _ {tray : List ℕ} {free i : ℕ} (j : Judging tray free i) where
   module _ {p : Place} (l : i < frameCount tray) (s : Stands tray i p) where
     so-far : verdict tray
-        ≡ (ltb (p .offset) free || ltb (length tray) (p .end) || badPairs (p .end) (length tray)
-        (drop (suc i) (pairs tray)))
+        ≡ (misplaced free (length tray) p || badPairs (p .end) (length tray) (drop (suc i) (pairs tray)))
     unfolding badPairs
     so-far =
         j .rest
@@ -55,15 +54,15 @@ module _ {tray : List ℕ} {free i : ℕ} (j : Judging tray free i) where
         ∙ ap₂ (λ o e. ltb o free || ltb (length tray) e || badPairs e (length tray) (drop (suc i) (pairs tray)))
         (sym (s .begins)) (sym (s .ends))
 
-    pub begins-early : p .offset < free → verdict tray ≡ true
-    begins-early h = so-far ∙ rw (lt-ltb (p .offset) free h)
+    module _ {size : ℕ} (all : size ≡ length tray) where
+      place-is : {b : Bool} → misplaced free size p ≡ b → misplaced free (length tray) p ≡ b
+      place-is h = ap (λ n. misplaced free n p) (sym all) ∙ h
 
-    pub runs-past : free ≤ p .offset → length tray < p .end → verdict tray ≡ true
-    runs-past f h = so-far ∙ rw (le-ltb (p .offset) free f, lt-ltb (length tray) (p .end) h)
+      pub out-of-place : misplaced free size p ≡ true → verdict tray ≡ true
+      out-of-place h = so-far ∙ rw (place-is h)
 
-    pub judging-more : free ≤ p .offset → p .end ≤ length tray → Judging tray (p .end) (i + 1)
-    judging-more f h =
-        record { rest = rw add-one (so-far ∙ rw (le-ltb (p .offset) free f, le-ltb (length tray) (p .end) h)) }
+      pub judging-more : misplaced free size p ≡ false → Judging tray (p .end) (i + 1)
+      judging-more h = record { rest = rw add-one (so-far ∙ rw (place-is h)) }
 
   pub judging-all : frameCount tray ≤ i → verdict tray ≡ false
   unfolding badPairs

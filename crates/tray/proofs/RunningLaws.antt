@@ -12,7 +12,7 @@ use Rattle.rules.specs.Words.{view}
 use Rattle.rules.specs.Records.{answerBytes, areaAfter}
 use Rattle.rules.specs.Sound.{Sound}
 use Rattle.rules.specs.Step.{Outcome, step}
-use Rattle.rules.specs.Tray.{frameCount, frameAt, runFrames}
+use Rattle.rules.specs.Tray.{frameCount, frameAt, runFrames, framesOf}
 use Rattle.rules.specs.Allowed.{Answered, Allowed, Stepped}
 use Rattle.rules.proofs.AreaLaws.{area-length, area-then}
 use Rattle.rules.proofs.Capacity.{step-fits}
@@ -22,7 +22,7 @@ use Rattle.hints.specs.Hints.{Reliable}
 use Rattle.step.specs.Does.{StaysReliable}
 use Rattle.tray.proofs.RunLaws.{Ran, ran-none, ran-more, ran-all, ran-stops}
 use Rattle.tray.specs.Pairs.{pairAt}
-use Rattle.tray.proofs.PairLaws.{framesOf, frames-length, frame-is}
+use Rattle.tray.proofs.PairLaws.{frames-length, frame-is}
 
 -- k frames are done: n records stand in the area, the space's words are ws, and the hints hs are so
 pub record Running (tray a₀ ws hs a : List ℕ) (k n : ℕ) : Type 0 where

@@ -11,11 +11,11 @@ use Rattle.rules.specs.State.{empty}
 use Rattle.rules.specs.Numbers.{recordSize, stepArea, areaRefused, trayRefused, pairsRefused}
 use Rattle.rules.specs.Records.{areaAfter, answerBytes}
 use Rattle.rules.specs.Tray.{frameCount, pairsEnd, pairs, badTray, trayRefusal, frameAt, TrayOutcome, stopped}
-use Rattle.rules.specs.Tray.{runFrames, runPairs, runTray, hostNumber}
+use Rattle.rules.specs.Tray.{framesOf, runFrames, runPairs, runTray, hostNumber}
 use Rattle.rules.specs.Allowed.{TrayRan}
 use Rattle.tray.specs.declared.pairs.Pair.{Pair as Place}
 use Rattle.tray.specs.Pairs.{pairAt, Stands}
-use Rattle.tray.proofs.PairLaws.{framesOf, pairs-length, pair-is, pair-in}
+use Rattle.tray.proofs.PairLaws.{pairs-length, pair-is, pair-in}
 use Rattle.tray.proofs.PairsJudged.{verdict}
 use Rattle.tray.proofs.RunningLaws.{Running, running-all, running-stops}
 

@@ -4,7 +4,7 @@ ghost use mathlib.Core.Bool.{false};
 ghost use Prim.Native.Nat.{_+_, _*_, _≤_};
 ghost use lib.ListN.{length};
 ghost use Rattle.rules.specs.Tray.{frameCount, pairsEnd, pairs, badTray, badPairs, trayRefusal};
-ghost use Rattle.tray.specs.Pairs.{Stands};
+ghost use Rattle.tray.specs.Pairs.{Stands, misplaced};
 use codec::number_at;
 use codec::whole_number;
 use rules::numbers::MAX_FRAMES;
@@ -45,7 +45,7 @@ pub fn pair_at(tray: &[u8], i: u32) -> Pair
 }
 
 // 15: its size, its count of frames, or too short for its pairs.
-fn is_bad_tray(tray: &[u8]) -> bool
+pub fn is_bad_tray(tray: &[u8]) -> bool
     ensures { λ r. ⌜ r ≡ badTray (now (tray .entry)) ⌝ }
 {
     let len = tray.len();
@@ -59,7 +59,21 @@ fn is_bad_tray(tray: &[u8]) -> bool
     if MAX_FRAMES < count {
         return true;
     }
-    len < COUNT_SIZE + PAIR_SIZE * count as usize
+    len < pairs_end(count)
+}
+
+// 16, of one pair: it begins before what is free, or runs past the tray.
+pub fn is_misplaced(pair: Pair, free: usize, len: usize) -> bool
+    ensures { λ r. ⌜ r ≡ misplaced free len pair ⌝ }
+{
+    (pair.offset < free) | (len < pair.end)
+}
+
+// Where the pairs of a tray end.
+pub fn pairs_end(count: u32) -> usize
+    ensures { λ r. ⌜ r ≡ 4 + 8 * count ⌝ }
+{
+    COUNT_SIZE + PAIR_SIZE * count as usize
 }
 
 // 16: a pair out of order, or past the tray.
@@ -70,14 +84,11 @@ fn has_bad_pairs(tray: &[u8]) -> bool
 {
     let len = tray.len();
     let count = pair_count(tray);
-    let mut free = COUNT_SIZE + PAIR_SIZE * count as usize;
+    let mut free = pairs_end(count);
     let mut i: u32 = 0;
     while i < count {
         let pair = pair_at(tray, i);
-        if pair.offset < free {
-            return true;
-        }
-        if len < pair.end {
+        if is_misplaced(pair, free, len) {
             return true;
         }
         free = pair.end;

@@ -32,11 +32,10 @@ returns-3 : tie.Need-returns-3
 returns-3 c = sym (counted (c .before) ∙ rw (lt-ltb _ _ (c .if3 .taken)))
 
 returns-4 : tie.Need-returns-4
-returns-4 c = sym (counted (c .before) ∙ rw (le-ltb _ _ (c .if3 .left)))
+returns-4 c = sym (counted (c .before .before) ∙ rw (le-ltb _ _ (c .before .if3 .left), c .pairs-end .ensures))
 
 pub is-bad-tray-spec : {M : Type 1} → statement M
 is-bad-tray-spec =
     tie.close
     (tie.spec
-    returns returns-2 (λ c κs. search needs) returns-3 (λ c. search needs) (λ c. search needs)
-    (λ c. search needs) returns-4)
+    returns returns-2 (λ c κs. search needs) returns-3 (λ c κs. search needs) returns-4)
