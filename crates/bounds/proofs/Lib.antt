@@ -1,1 +1,5 @@
 -- Proofs of the bounds.
+pub mod Shares
+pub mod CountLaws
+pub mod WithinProof
+pub mod WrongBoundsProof

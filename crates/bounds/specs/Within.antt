@@ -9,6 +9,7 @@ use Rattle.rules.specs.Lists.{All}
 use Rattle.rules.specs.Numbers.{recordSize, stepArea}
 use Rattle.rules.specs.State.{Model, empty}
 use Rattle.rules.specs.Frame.{decode}
+use Rattle.rules.specs.Refusals.{refusal}
 use Rattle.rules.specs.Step.{ownPart, step}
 use Rattle.rules.specs.Tray.{frameCount, framesOf, trayRefusal, runTray}
 use Rattle.bounds.specs.Bounds.{entriesBound, recordsBound}
@@ -19,7 +20,7 @@ unfoldable pub moments : Model → ℕ → List (List ℕ) → List Model
 moments m area [] = m ∷ []
 moments m area (f ∷ fs) =
     let o = step m f area in
-    let own = cond (eqb (o .number) 0) (ownPart m (decode f) .model ∷ []) [] in
+    let own = cond (eqb (refusal m f area) 0) (ownPart m (decode f) .model ∷ []) [] in
     let later = moments (o .model) (area - recordSize * length (o .records)) fs in
     m ∷ cond (ltb area stepArea) [] (own ++ later)
 

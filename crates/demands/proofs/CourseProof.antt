@@ -20,7 +20,7 @@ use Rattle.demands.specs.Frames.{long, write-by, read-by, read-arc, take
 use Rattle.demands.specs.Frames.{a-tick, times}
 use Rattle.demands.specs.Frames.{Written, Found, Nothing, Created, Committed, Aborted, Exception, Ticked, Refused}
 use Rattle.demands.specs.Course.{answersFrom, answers, Starred}
-use Rattle.demands.proofs.Computed.{all-rules, all-trays}
+use Rattle.rules.proofs.Computed.{all-rules, all-trays}
 
 pub starred : Starred
 unfolding all-rules answers answersFrom

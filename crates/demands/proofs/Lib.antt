@@ -37,7 +37,6 @@ pub mod ConsequencesProof
 pub mod WaitingListProof
 -- trays, the course's examples, wrong spaces
 pub mod TraysProof
-pub mod Computed
 pub mod CourseProof
 pub mod ClockFaceProof
 pub mod TidiedProof

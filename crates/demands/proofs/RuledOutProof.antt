@@ -46,7 +46,7 @@ use Rattle.demands.specs.RuledOut.{gives14, keepsWithdrawn, withdrawnGet
 use Rattle.sound.proofs.AllLaws.{all-none, all-cons, all-map}
 use Rattle.sound.proofs.OrderLaws.{Numbered}
 use Rattle.demands.proofs.SaidProof.{said-given}
-use Rattle.demands.proofs.Computed.{all-rules}
+use Rattle.rules.proofs.Computed.{all-rules}
 
 -- the frames of a history are handed in with areas of 700 bytes
 abbrev handIn : List ℕ → Handed

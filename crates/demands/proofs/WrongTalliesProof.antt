@@ -9,7 +9,7 @@ use Rattle.rules.specs.SerialRun.{Logged, wasRefused}
 use Rattle.demands.specs.History.{recordsOf}
 use Rattle.demands.specs.Frames.{take-by, create-by, abort-by}
 use Rattle.demands.specs.WaitingList.{closedAs, fates, Tally, Balances, Explains, WrongTallies}
-use Rattle.demands.proofs.Computed.{all-rules}
+use Rattle.rules.proofs.Computed.{all-rules}
 use Rattle.demands.proofs.RuledOutProof.{lastOf, logOf, from-empty}
 
 -- what a tally says after a list of frames

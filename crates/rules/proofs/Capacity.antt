@@ -28,7 +28,7 @@ room : (more : Bool) {n k most : ℕ} → (more && leb most n) ≡ false → k �
 room true {n} {k} {most} e h fit = omega (arith, leb-false most n e)
 room false e h fit = omega arith
 
-own-fits : (m : Model) (bs : List ℕ) (area : ℕ) → Clear m bs area → Sound m → Bounded m
+pub own-fits : (m : Model) (bs : List ℕ) (area : ℕ) → Clear m bs area → Sound m → Bounded m
     → Bounded (ownPart m (decode bs) .model)
 unfolding entriesFull txnsFull registrationsFull
 own-fits m bs area c s b =

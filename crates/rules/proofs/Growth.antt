@@ -1,7 +1,7 @@
 -- How far a step can make each table grow, and how many records it writes.
 use Prim.Native.Nat.{ℕ, _+_, _≤_}
 use mathlib.Core.Bool.{Bool, true, false, cond, not, _&&_, _||_, true≢false}
-use mathlib.Core.Path.{_≡_, refl, sym, ap, _∙_}
+use mathlib.Core.Path.{_≡_, refl, sym, _∙_}
 use mathlib.Core.Option.{Option, none, some}
 use mathlib.Core.List.{List, [], _∷_, _++_, map, List·Memᴰ, List·Memᴰ·head, List·Memᴰ·tail}
 use native.Mathlib.Nat.{le-trans}
@@ -10,7 +10,6 @@ use borrow.Author.Tests.{eq-eqb}
 use lib.Dec.{eqb}
 use lib.ListN.{length, length-append, length-map}
 use Rattle.rules.specs.declared.Entry.{Entry}
-use Rattle.rules.specs.declared.LookUp.{LookUp}
 use Rattle.rules.specs.declared.Txn.{Txn}
 use Rattle.rules.specs.Lists.{filterb, anyb}
 use Rattle.rules.specs.Time.{reached, until}
@@ -34,7 +33,6 @@ use Rattle.rules.proofs.ListLaws.{count, count-cons, length-filter, len
 use Rattle.rules.proofs.ListLaws.{filter-same, mem-any, filter-mem}
 use Rattle.rules.proofs.StepCases.{own-cases}
 use Rattle.rules.proofs.ServeLength.{handOut-length, serve-length}
-use Rattle.rules.proofs.NotifyLaws.{finish-registrations}
 
 abbrev pub one : Bool → ℕ
 one b = cond b 1 0

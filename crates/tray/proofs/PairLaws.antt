@@ -2,12 +2,12 @@
 use Prim.Native.Nat.{ℕ, zero, suc, _+_, _*_, _≤_, _<_}
 use mathlib.Core.Bool.{false, _||_}
 use mathlib.Core.Path.{_≡_, refl, ap, ap₂, _∙_}
-use mathlib.Core.List.{List, [], _∷_, map}
+use mathlib.Core.List.{List, [], _∷_, _++_, map}
 use native.Mathlib.Omega.{arith}
 use borrow.Author.Tests.{ltb-false}
 use lib.Dec.{ltb}
-use lib.ListN.{length, getD, drop, length-map, List·getD-map}
-use lib.Seq.{getD-drop, drop-cons}
+use lib.ListN.{length, getD, take, drop, length-map, List·getD-map}
+use lib.Seq.{getD-drop, take-suc, drop-cons}
 use Rattle.rules.specs.Frame.{byteAt, numberAt}
 use Rattle.rules.specs.Tray.{Pair, frameCount, pairsOf, pairs, badPairs, frameAt, framesOf}
 use Rattle.rules.proofs.BoolLaws.{or-left, or-right}
@@ -65,10 +65,20 @@ module _ (tray : List ℕ) where
 pub frames-length : (tray : List ℕ) → length (framesOf tray) ≡ frameCount tray
 frames-length tray = length-map (pairs tray) (frameAt tray) ∙ pairs-length tray
 
-pub frame-is : (tray : List ℕ) (k : ℕ) → k < frameCount tray
+frame-is : (tray : List ℕ) (k : ℕ) → k < frameCount tray
     → getD (framesOf tray) k (frameAt tray (pairAt tray k)) ≡ frameAt tray (pairAt tray k)
 frame-is tray k h =
     List·getD-map (frameAt tray) (pairs tray) k (pairAt tray k) ∙ ap (frameAt tray) (pair-is tray k h (pairAt tray k))
+
+-- one frame more
+pub frames-next : (tray : List ℕ) (k : ℕ) → k < frameCount tray
+    → take (k + 1) (framesOf tray) ≡ take k (framesOf tray) ++ (frameAt tray (pairAt tray k) ∷ [])
+frames-next tray k h =
+    let f = frameAt tray (pairAt tray k) in
+    let next : k + 1 ≡ suc k = omega arith in
+    ap (λ j. take j (framesOf tray)) next
+    ∙ take-suc (framesOf tray) k f (omega (arith, frames-length tray))
+    ∙ ap (λ g. take k (framesOf tray) ++ (g ∷ [])) (frame-is tray k h)
 
 -- what is not bad lies within the tray
 pub pair-in : (before size : ℕ) (ps : List Pair) (k : ℕ) (d : Pair) → badPairs before size ps ≡ false → k < length ps

@@ -36,6 +36,11 @@ pair-there tray i e h =
           (or-right (ltb (length tray) 4 || ltb maxTray (length tray) || ltb maxFrames (frameCount tray)) _ e),
     )
 
+-- a pair in its place ends within the tray
+pub in-place : (free size : ℕ) (p : Place) {all : ℕ} → size ≡ all → misplaced free size p ≡ false → p .end ≤ all
+in-place free size p e h =
+    omega (arith, e, ltb-false size (p .end) (or-right (ltb (p .offset) free) (ltb size (p .end)) h))
+
 -- i pairs have been judged, and what is free begins at `free`
 pub record Judging (tray : List ℕ) (free i : ℕ) : Type 0 where
   pub rest : verdict tray ≡ badPairs free (length tray) (drop i (pairs tray))

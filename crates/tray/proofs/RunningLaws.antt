@@ -4,7 +4,7 @@ use mathlib.Core.Path.{_≡_, refl, sym, ap, ap₂, _∙_, subst⁻¹}
 use mathlib.Core.List.{List, [], _∷_, _++_}
 use native.Mathlib.Omega.{arith}
 use lib.ListN.{length, getD, take, drop, length-append, length-drop}
-use lib.Seq.{take-suc, split-at, length-take-le, take-all}
+use lib.Seq.{split-at, length-take-le, take-all}
 use Rattle.rules.specs.declared.Record.{Record}
 use Rattle.rules.specs.Numbers.{recordSize, stepRecords, stepArea, areaRefused}
 use Rattle.rules.specs.State.{empty}
@@ -22,7 +22,7 @@ use Rattle.hints.specs.Hints.{Reliable}
 use Rattle.step.specs.Does.{StaysReliable}
 use Rattle.tray.proofs.RunLaws.{Ran, ran-none, ran-more, ran-all, ran-stops}
 use Rattle.tray.specs.Pairs.{pairAt}
-use Rattle.tray.proofs.PairLaws.{frames-length, frame-is}
+use Rattle.tray.proofs.PairLaws.{frames-length, frames-next}
 
 -- k frames are done: n records stand in the area, the space's words are ws, and the hints hs are so
 pub record Running (tray a₀ ws hs a : List ℕ) (k n : ℕ) : Type 0 where
@@ -62,7 +62,7 @@ pub running-more : {tray a₀ ws hs a ws′ hs′ a′ frame part part′ : List
 running-more {tray} {a₀} {ws} {a = a} {ws′} {frame = frame} {part} {k = k} {n} {returned} r h room q p s known e =
     record {
       records = rs ++ x .records;
-      ran = subst⁻¹ (λ l. Ran l (length a₀) (view ws′) (rs ++ x .records)) frames
+      ran = subst⁻¹ (λ l. Ran l (length a₀) (view ws′) (rs ++ x .records)) (frames-next tray k h)
           (subst⁻¹ (λ m. Ran (take k (framesOf tray) ++ (f ∷ [])) (length a₀) m (rs ++ x .records))
           (space ∙ ap (λ (o : Outcome). o .model) same)
           (subst⁻¹ (λ l. Ran (take k (framesOf tray) ++ (f ∷ [])) (length a₀) (o .model) (rs ++ l))
@@ -124,15 +124,6 @@ running-more {tray} {a₀} {ws} {a = a} {ws′} {frame = frame} {part} {k = k} {
 
     count : returned % 65536 ≡ length (x .records)
     count = omega (arith, s .returns, al .count, few)
-
-    frames : take (k + 1) (framesOf tray) ≡ take k (framesOf tray) ++ (f ∷ [])
-    frames =
-        ap (λ j. take j (framesOf tray)) next
-        ∙ take-suc (framesOf tray) k f (omega (arith, frames-length tray))
-        ∙ ap (λ g. take k (framesOf tray) ++ (g ∷ [])) (frame-is tray k h)
-      where
-        next : k + 1 ≡ suc k
-        next = omega arith
 
 -- the run is over: all frames are done
 pub running-all : {tray a₀ ws hs a : List ℕ} {n : ℕ} (r : Running tray a₀ ws hs a (frameCount tray) n)

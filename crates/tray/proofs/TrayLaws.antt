@@ -66,7 +66,7 @@ module _ (tray : List ℕ) (fine : trayRefusal tray ≡ 0) where
       (omega (arith, pairs-length tray)) in
       rw (pair-is tray k h) at within
 
-  runs : (size : ℕ) → runTray tray size ≡ runFrames empty size (framesOf tray)
+  pub runs : (size : ℕ) → runTray tray size ≡ runFrames empty size (framesOf tray)
   unfolding runTray runPairs
   runs size = ap (λ n. cond (leb n 0) (runPairs tray size) (stopped n)) fine
 
