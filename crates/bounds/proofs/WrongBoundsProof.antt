@@ -34,8 +34,8 @@ wrong-bounds =
           let few : 3 ≤ 2 = kept (long opNotify forever ∷ long opWrite forever ∷ []) 1400 in omega (arith, few);
       -- the notify comes behind the write
       with-all-notifies = λ same.
-          let more : 3 ≡ 2 = same (long opWrite forever ∷ long opNotify forever ∷ []) in omega (arith, more);
+          let more : _≡_ {A = ℕ} 3 2 = same (long opWrite forever ∷ long opNotify forever ∷ []) in omega (arith, more);
       -- 28 bytes for a tick; 699
-      records-alone = λ enough. let stops : 1 ≡ 0 = enough (tick ∷ []) in omega (arith, stops);
-      a-byte-less = λ enough. let stops : 1 ≡ 0 = enough (tick ∷ tick ∷ []) in omega (arith, stops);
+      records-alone = λ enough. let stops : _≡_ {A = ℕ} 1 0 = enough (tick ∷ []) in omega (arith, stops);
+      a-byte-less = λ enough. let stops : _≡_ {A = ℕ} 1 0 = enough (tick ∷ tick ∷ []) in omega (arith, stops);
     }
