@@ -5,7 +5,9 @@ ghost use Rattle.rules.specs.Places.{placeOfTime, timeOfPlace, mirroredPlace};
 ghost use Rattle.rules.specs.State.{empty};
 ghost use Rattle.rules.specs.Words.{view};
 ghost use Rattle.words.specs.Rows.{emptyWords};
+ghost use Rattle.bounds.specs.Bounds.{boundsNumber};
 ghost use Rattle.space.specs.Version.{version};
+use bounds::tray_bounds;
 use clock_face::mirror_of;
 use clock_face::place_of;
 use clock_face::time_of;
@@ -15,7 +17,7 @@ use words::rows::Words;
 use words::rows::set_empty;
 
 // SPACE_VERSION of host/space.h. It goes up by one with each change that a host can see.
-pub const VERSION: u32 = 9;
+pub const VERSION: u32 = 10;
 
 #[no_mangle]
 pub extern "C" fn space_version() -> u32
@@ -61,6 +63,14 @@ pub extern "C" fn mirrored_place(place: u32) -> u64
     ensures { λ r. ⌜ r ≡ mirroredPlace place ⌝ }
 {
     mirror_of(place)
+}
+
+// How big an area a tray wants (the crate `bounds`).
+#[no_mangle]
+pub extern "C" fn space_tray_bounds(tray: &[u8]) -> u64
+    ensures { λ r. ⌜ r ≡ boundsNumber (now (tray .entry)) ⌝ }
+{
+    tray_bounds(tray)
 }
 
 // The host hands in a tray and an answers area, and gets frames done, records and a number in one.
