@@ -1,6 +1,7 @@
 /* Document 01's sample tray through the C boundary, byte by byte, and its printed lines to standard output; null
  * pointers; what each function leaves in its buffers; the headers' builders, names and layout of the words; the lengths
- * of frames; the oldest entry first; blanks; renewals; registrations and their bells; the clock face. */
+ * of frames; the oldest entry first; blanks; renewals; registrations and their bells; the clock face; how big an area a
+ * tray wants. */
 #include <stdlib.h>
 #include "lines.h"
 #include "space_frames.h"
@@ -640,6 +641,125 @@ static void judge_arcs(void)
         }
 }
 
+/* A tray that is put together frame by frame: it has room for all pairs, and gaps are ignored. */
+enum { FRAMES_AT = SPACE_TRAY_COUNT_BYTES + SPACE_TRAY_PAIR_BYTES * SPACE_MAX_TRAY_FRAMES };
+static uint8_t tray[SPACE_MAX_TRAY_BYTES + 1];
+static size_t tray_len;
+
+static void clear_tray(void)
+{
+    space_put_word(tray, 0);
+    tray_len = FRAMES_AT;
+}
+
+static void add_frame(size_t length)
+{
+    uint32_t count = space_get_word(tray);
+    uint8_t *pair = tray + SPACE_TRAY_COUNT_BYTES + SPACE_TRAY_PAIR_BYTES * count;
+    space_put_word(pair, (uint32_t)tray_len);
+    space_put_word(pair + 4, (uint32_t)length);
+    memcpy(tray + tray_len, frame, length);
+    tray_len += length;
+    space_put_word(tray, count + 1);
+}
+
+/* Frames that have their first byte alone, and so are refused. */
+static void add_bytes(uint8_t operation, int frames)
+{
+    frame[0] = operation;
+    for (int i = 0; i < frames; i++)
+        add_frame(1);
+}
+
+static int refuses(uint32_t number, size_t length)
+{
+    uint64_t bounds = space_tray_bounds(tray, length);
+    return bounds == number * UINT64_C(4294967296) && space_bounds_number(bounds) == number &&
+           space_run_number(space_run_tray(tray, length, answers, sizeof answers)) == number;
+}
+
+/* The sample tray, the empty one, and trays that are refused: these have no bounds. */
+static void bound_trays(void)
+{
+    uint64_t bounds = space_tray_bounds(sample, sizeof sample);
+    check(bounds == 1 + 65536 * (3 + 1), "the sample tray's bounds");
+    check(space_bounds_entries(bounds) == 1 && space_bounds_records(bounds) == 4 && space_bounds_number(bounds) == 0 &&
+          space_bounds_area(bounds) == 28 * 4 + 672, "bounds by name");
+    check(space_tray_bounds((const uint8_t[4]){0}, 4) == 0 && space_bounds_area(0) == 672, "the empty tray's bounds");
+    check(space_tray_bounds(NULL, 0) == 15 * UINT64_C(4294967296), "the bounds of no tray");
+    memcpy(tray, sample, sizeof sample);
+    check(refuses(15, 3) && refuses(15, 27) && refuses(16, sizeof sample - 1), "a short tray");
+    check(refuses(15, SPACE_MAX_TRAY_BYTES + 1) && !refuses(15, SPACE_MAX_TRAY_BYTES), "a long one");
+    for (uint32_t i = 0; i < 3; i++) {
+        space_put_word(tray + SPACE_TRAY_COUNT_BYTES + SPACE_TRAY_PAIR_BYTES * i, 27);
+        check(refuses(16, sizeof sample), "a pair that begins before the pairs' end");
+        memcpy(tray, sample, sizeof sample);
+    }
+    clear_tray();
+    add_bytes(SPACE_OP_WRITE, SPACE_MAX_TRAY_FRAMES);
+    check(space_tray_bounds(tray, tray_len) == 64 + UINT64_C(65536) * 2000, "2,000 frames");
+    space_put_word(tray, 2001);
+    check(refuses(15, SPACE_MAX_TRAY_BYTES), "2,001 frames");
+}
+
+/* Every first byte, with no notify frame ahead of it, with 3 and with 9; an empty frame, which is of no kind. */
+static void bound_kinds(void)
+{
+    for (unsigned operation = 0; operation < 256; operation++) {
+        uint64_t is_write = operation == SPACE_OP_WRITE, rings = is_write || operation == SPACE_OP_COMMIT;
+        uint64_t twice = (operation >= SPACE_OP_READ && operation <= SPACE_OP_TAKE_IF_EXISTS) ||
+                         operation == SPACE_OP_CREATE;
+        clear_tray();
+        add_bytes((uint8_t)operation, 1);
+        add_frame(0);
+        add_bytes(SPACE_OP_NOTIFY, 3);
+        add_bytes((uint8_t)operation, 1);
+        add_bytes(SPACE_OP_NOTIFY, 6);
+        add_bytes((uint8_t)operation, 1);
+        uint64_t records = 13 + 3 * twice + rings * (0 + 3 + 8);
+        check(space_tray_bounds(tray, tray_len) == 3 * is_write + 65536 * records, "bounds by the first byte");
+    }
+}
+
+/* The tray's run in an area of just the size that its bounds give, which it keeps to, and in one of a byte less. */
+static void run_in_its_area(uint64_t bounds, uint64_t returned, uint64_t with_less)
+{
+    size_t length = space_bounds_area(space_tray_bounds(tray, tray_len));
+    size_t written = SPACE_RECORD_BYTES * (size_t)space_run_records(returned);
+    uint8_t *area = answers + 64;
+    check(space_tray_bounds(tray, tray_len) == bounds, "the tray's bounds");
+    memset(answers, 0xa5, sizeof answers);
+    check(space_run_tray(tray, tray_len, area, length) == returned, "a run in its area");
+    check(all(answers, 64, 0xa5) && all(area + written, sizeof answers - 64 - written, 0xa5), "it keeps to that");
+    check(space_run_tray(tray, tray_len, area, length - 1) == with_less, "a run in a byte less");
+}
+
+/* Both bounds are reached: each frame gives all the records that it may. Of two ticks the second stops if a byte is
+ * missing. The tray that wants most has eight notifies, and then writes alone. */
+static void run_in_bounds(void)
+{
+    clear_tray();
+    for (uint8_t party = 2; party <= 3; party++)
+        add_frame(space_frame_notify(frame, party, 0, mark, SPACE_FOREVER));
+    add_frame(space_frame_create(frame, 4, 1));
+    for (uint8_t party = 5; party <= 6; party++)
+        add_frame(space_frame_look_up(frame, SPACE_OP_READ, party, 0, mark, SPACE_FOREVER, 0));
+    add_frame(space_frame_write(frame, 1, mark, SPACE_FOREVER, 0));         /* two founds, two bells */
+    add_frame(space_frame_tick(frame));                                     /* an exception */
+    run_in_its_area(1 + 65536 * 12, 7 + 65536 * 12, 7 + 65536 * 12);
+
+    clear_tray();
+    add_frame(space_frame_tick(frame));
+    add_frame(space_frame_tick(frame));
+    run_in_its_area(65536 * 2, 2 + 65536 * 2, 1 + 65536 * 1 + UINT64_C(4294967296));
+
+    clear_tray();
+    add_bytes(SPACE_OP_NOTIFY, 8);
+    add_bytes(SPACE_OP_WRITE, SPACE_MAX_TRAY_FRAMES - 8);
+    check(space_tray_bounds(tray, tray_len) == 64 + UINT64_C(65536) * 17936, "the largest bounds");
+    check(space_bounds_area(space_tray_bounds(tray, tray_len)) == 502880, "and their area");
+}
+
 /* A space with each kind of row, and the same words as no frames make them: host/space.h tells how they are read. */
 static void make_odd(uint32_t odd[SPACE_WORDS])
 {
@@ -779,6 +899,9 @@ int main(void)
     find_arcs();
     serve_arcs();
     judge_arcs();
+    bound_trays();
+    bound_kinds();
+    run_in_bounds();
     step_on_odd_words();
     step_where_none_can_wait();
     use_zeroed_words();

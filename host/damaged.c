@@ -1,4 +1,5 @@
-/* Runs damaged trays and garbled frames in buffers of the exact length: damaged COUNT SEED [fence].
+/* Runs damaged trays and garbled frames in buffers of the exact length: damaged COUNT SEED [fence]. A tray's answers
+ * area is any, and then of the size that its bounds give.
  * Without `fence` the buffers are from malloc and stay unset, for valgrind or the address sanitizer. With it a page
  * that may not be touched adjoins each buffer, before it or behind it, so that a byte too far ends the program. */
 #define _DEFAULT_SOURCE
@@ -11,6 +12,7 @@ enum { PAGE = 4096, ROOM = 20 * PAGE, MOST_FRAMES = 120 };
 
 static uint64_t state;
 static int fenced;
+static long in_bounds; /* trays that were run in the area of their bounds */
 
 static uint32_t below(uint32_t bound)
 {
@@ -153,6 +155,27 @@ static void read_records(const uint8_t *answers, uint32_t records, int odd)
         fail("records", records);
 }
 
+/* The tray's bounds: the number that its run has; or else its run in an area of just their size does every frame. */
+static void run_in_bounds(const uint8_t *tray, size_t tray_len, uint32_t number)
+{
+    uint64_t bounds = space_tray_bounds(tray, tray_len);
+    uint32_t refused = number > SPACE_REFUSAL_AREA_TOO_SMALL ? number : 0;
+    if (space_bounds_number(bounds) != refused || (refused && bounds % UINT64_C(4294967296) != 0))
+        fail("the number of bounds", bounds);
+    if (refused)
+        return;
+    size_t answers_len = space_bounds_area(bounds);
+    uint8_t *answers = buffer(2, answers_len);
+    uint64_t returned = space_run_tray(tray, tray_len, answers, answers_len);
+    if (space_run_number(returned) != 0 || space_run_frames(returned) != space_get_word(tray))
+        fail("a run in the area of its bounds", returned);
+    if (space_run_records(returned) > space_bounds_records(bounds) || space_bounds_entries(bounds) > SPACE_MAX_ENTRIES)
+        fail("bounds", bounds);
+    read_records(answers, space_run_records(returned), 0);
+    release(answers);
+    in_bounds++;
+}
+
 static void run_one_tray(void)
 {
     static uint8_t made[SPACE_MAX_TRAY_BYTES + 8];
@@ -172,6 +195,7 @@ static void run_one_tray(void)
     for (size_t i = SPACE_RECORD_BYTES * (size_t)records; fenced && i < answers_len; i++)
         if (answers[i] != 0x5a)
             fail("a byte after the last record", returned);
+    run_in_bounds(tray, tray_len, number);
     if (memcmp(tray, made, tray_len) != 0)
         fail("the tray was changed", returned);
     release(tray);
@@ -269,6 +293,7 @@ int main(int count, char **arguments)
             run_longest_ringing();
         }
     }
-    printf("%ld trays and %ld spaces, no error\n", trays, (trays + 9) / 10);
+    printf("%ld trays, %ld of them also in the area of their bounds, and %ld spaces, no error\n", trays, in_bounds,
+           (trays + 9) / 10);
     return 0;
 }

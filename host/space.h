@@ -21,8 +21,8 @@ extern "C" {
  * 7: an entry remembers the party that wrote it, which can renew it: operation 11, kind 12, refusals 18 to 20.
  * 8: a registration tells its party of new entries: operation 10, kinds 10 and 11, refusal 17, more words.
  * 9: a template may ask for an arc of the clock face, and three functions convert and mirror its places: mask bit 4,
- * refusal 21. */
-#define SPACE_VERSION 9
+ * refusal 21. 10: a function tells how big an area a tray wants. */
+#define SPACE_VERSION 10
 
 #define SPACE_MAX_ENTRIES 64         /* entries stored at most */
 #define SPACE_MAX_TRANSACTIONS 8     /* transactions live at most */
@@ -224,6 +224,15 @@ uint64_t space_step(uint32_t space[SPACE_WORDS], const uint8_t *frame, size_t fr
  * after the last record keep their contents. `tray` is only read. */
 uint64_t space_run_tray(const uint8_t *tray, size_t tray_len, uint8_t *answers, size_t answers_len);
 
+/* How big an area a tray wants: two bounds, from the tray alone, without running it.
+ * Returns entries + 65536 * records + 4294967296 * number. Entries stored together at most: the lesser of 64 and the
+ * writes. Records written at most: frames + look-ups + creates + for each write or commit the lesser of 8 and the
+ * notify frames ahead of it. The number is 15 or 16 if the tray is refused, and then both bounds are 0; else 0. Frames
+ * are told apart by byte 0 alone, those too that will be refused; an empty one is a frame, and none of these kinds.
+ * space_run_tray keeps within both, whatever the area; with an area of space_bounds_area bytes it does every frame and
+ * never stops with 1. `tray` is only read. */
+uint64_t space_tray_bounds(const uint8_t *tray, size_t tray_len);
+
 /* Positions on the clock face, as radiologists give them, and places: fields of entries, arcs of templates. Each of the
  * three functions returns 65536 * SPACE_REFUSAL_BAD_PLACE for a number that is out of range. */
 
@@ -243,6 +252,16 @@ static inline uint32_t space_step_number(uint64_t returned) { return (uint32_t)(
 static inline uint32_t space_run_frames(uint64_t returned) { return (uint32_t)(returned % 65536u); }
 static inline uint32_t space_run_records(uint64_t returned) { return (uint32_t)(returned / 65536u % 65536u); }
 static inline uint32_t space_run_number(uint64_t returned) { return (uint32_t)(returned / 4294967296u); }
+
+/* The parts of what space_tray_bounds returns, and the area for space_run_tray: before the last frame one record at
+ * least is still to come, and 700 bytes are to be left. */
+static inline uint32_t space_bounds_entries(uint64_t bounds) { return (uint32_t)(bounds % 65536u); }
+static inline uint32_t space_bounds_records(uint64_t bounds) { return (uint32_t)(bounds / 65536u % 65536u); }
+static inline uint32_t space_bounds_number(uint64_t bounds) { return (uint32_t)(bounds / 4294967296u); }
+static inline size_t space_bounds_area(uint64_t bounds)
+{
+    return SPACE_RECORD_BYTES * (size_t)space_bounds_records(bounds) + SPACE_STEP_BYTES - SPACE_RECORD_BYTES;
+}
 
 /* The number of the refusal, or 0, in what the functions of the clock face return; hour and minute of time_of_place. */
 static inline uint32_t space_place_number(uint64_t returned) { return (uint32_t)(returned / 65536u); }
