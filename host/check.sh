@@ -206,15 +206,18 @@ check_damaged() {
 }
 
 # A discrepancy is a text that can be run: it is left in target/host/differ-NAME.txt. That the look-ups add up (document
-# 02, T-11) is checked after every frame; the report has the sums of all trays and histories.
+# 02, T-11) is checked after every frame; the report has the sums of all trays and histories. That a tray's run keeps
+# within its bounds (T-10) is checked of every tray; the report has how near the runs came.
 check_differ() { # NAME FRAMES: the last word of the name is differ's
-    local sums subject=${1##* }
+    local sums bounds subject=${1##* }
     local report=$out/differ-$subject.txt
     "$built/differ" "$2" 1 "$subject" 2> "$out/differ.progress" > "$report" ||
         { head -n 60 "$report"; fail "the $1 and the reference differ, or too little occurred: $report"; }
     sums=$(grep '^look-ups not refused: [1-9][0-9]* = ' "$report") || fail "the $1: its look-ups do not add up: $report"
+    bounds=$(grep '^bounds kept in [1-9][0-9]* trays' "$report") || fail "the $1: no bounds were kept: $report"
     echo "ok: the $1, $(tail -n 2 "$report" | head -n 1)"
     echo "ok: the $1, $sums"
+    echo "ok: the $1, $bounds"
 }
 
 check_builds

@@ -1,6 +1,6 @@
 //! Seeded random frames and trays that make deep histories: several panes, few distinct kinds, short leases, ticks
 //! anywhere, full tables, steps that set several entries free, blanks, renewals, registrations, arcs, garbled frames,
-//! damaged trays, answers areas of odd lengths.
+//! trays that reach their bounds, damaged trays, answers areas of odd lengths.
 
 use crate::frames::{arc_word, create_frame, ending_frame, long_frame, notify_frame, renew_frame, tick_frame};
 use crate::random::Random;
@@ -144,6 +144,7 @@ impl Generator {
         let script = match random.below(25) {
             0 => longest_step(&mut random),
             1 | 2 => longest_ringing(&mut random),
+            3 => fullest(&mut random),
             _ => Vec::new(),
         };
         Generator { random, lean, script }
@@ -552,10 +553,11 @@ impl Generator {
         tray
     }
 
-    /// A tray, damaged in some cases; a damaged one may happen to be sound.
+    /// A tray, damaged in some cases; a damaged one may happen to be sound. What comes first may be all that comes.
     pub fn tray(&mut self) -> Vec<u8> {
         let most = self.random.pick(&[0, 1, 4, 30, 200, 700, 2000, 2000]);
-        let tray = self.sound_tray(most);
+        let scripted = !self.script.is_empty() && self.random.percent(50);
+        let tray = self.sound_tray(if scripted { self.script.len() } else { most });
         if self.random.percent(30) {
             self.damage(tray)
         } else {
@@ -665,6 +667,32 @@ fn longest_ringing(random: &mut Random) -> Vec<Vec<u8>> {
         frames.extend((2..=16).map(|party| long_frame(5, party, 1, NONE, FOREVER, kind)));
         frames.push(ending_frame(7, 1, 1));
     }
+    frames.reverse();
+    frames
+}
+
+/// The same, and every frame gives all the records that it may (document 02, T-10): registrations hear of all that
+/// becomes public behind them, look-ups wait, and transactions end in the last tick, if the first is not committed. No
+/// entry goes before the last is written.
+fn fullest(random: &mut Random) -> Vec<Vec<u8>> {
+    let write = |transaction, kind| long_frame(1, 1, 0, transaction, FOREVER, [kind, 0, 0, 0]);
+    let lease = random.between(1, 3);
+    let mut frames = vec![create_frame(1, lease), write(1, 78)]; // what IfExists look-ups wait for
+    for party in 1..=random.between(0, 10) as u8 {
+        frames.extend((0..random.below(4)).map(|_| write(NONE, 77)));
+        frames.push(notify_frame(party, 0, FOREVER, [0; 4]));
+    }
+    frames.extend((0..random.below(3)).map(|bytes| vec![255; bytes])); // of no operation
+    frames.extend((2..=random.between(1, 8) as u8).map(|party| create_frame(party, lease)));
+    frames.extend((0..random.below(20)).map(|_| write(NONE, 77)));
+    for party in 2..=random.between(1, 16) as u8 {
+        frames.push(long_frame(random.between(2, 5) as u8, party, 1, NONE, lease, [78, 0, 0, 0]));
+    }
+    frames.push(write(NONE, 78));
+    if random.percent(30) {
+        frames.push(ending_frame(7, 1, 1));
+    }
+    frames.extend((0..lease).map(|_| tick_frame()));
     frames.reverse();
     frames
 }

@@ -38,6 +38,11 @@ pub trait Subject: Clone + PartialEq {
     /// Frames + 65,536 × records + 4,294,967,296 × number.
     fn run_tray(tray: &[u8], area: &mut [u8]) -> u64;
 
+    /// Entries + 65,536 × records + 4,294,967,296 × number, from the tray alone; none if it gives no bounds.
+    fn tray_bounds(_tray: &[u8]) -> Option<u64> {
+        None
+    }
+
     /// Its tables, with read holds by number; none if it does not show them.
     fn tables(&self) -> Option<Space>;
 
@@ -72,6 +77,10 @@ impl Subject for Proved {
 
     fn run_tray(tray: &[u8], area: &mut [u8]) -> u64 {
         boundary::run_tray(tray, area)
+    }
+
+    fn tray_bounds(tray: &[u8]) -> Option<u64> {
+        Some(boundary::tray_bounds(tray))
     }
 
     fn tables(&self) -> Option<Space> {

@@ -7,6 +7,7 @@ extern "C" {
     fn space_empty(space: *mut u32);
     fn space_step(space: *mut u32, frame: *const u8, frame_len: usize, answers: *mut u8, answers_len: usize) -> u64;
     fn space_run_tray(tray: *const u8, tray_len: usize, answers: *mut u8, answers_len: usize) -> u64;
+    fn space_tray_bounds(tray: *const u8, tray_len: usize) -> u64;
     fn place_of_time(hour: u32, minute: u32) -> u64;
     fn time_of_place(place: u32) -> u64;
     fn mirrored_place(place: u32) -> u64;
@@ -27,6 +28,11 @@ pub fn step(words: &mut Words, frame: &[u8], area: &mut [u8]) -> u64 {
 /// Frames + 65,536 × records + 4,294,967,296 × number.
 pub fn run_tray(tray: &[u8], area: &mut [u8]) -> u64 {
     unsafe { space_run_tray(tray.as_ptr(), tray.len(), area.as_mut_ptr(), area.len()) }
+}
+
+/// Entries + 65,536 × records + 4,294,967,296 × number.
+pub fn tray_bounds(tray: &[u8]) -> u64 {
+    unsafe { space_tray_bounds(tray.as_ptr(), tray.len()) }
 }
 
 /// The place, or 65,536 × number.
@@ -59,6 +65,27 @@ impl Done {
             records: (returned / 65536 % 65536) as usize,
             number: (returned >> 32) as u8,
         }
+    }
+}
+
+/// The parts of what `tray_bounds` returns.
+#[derive(Clone, Copy, PartialEq, Eq, Debug)]
+pub struct TrayBounds {
+    pub entries: usize,
+    pub records: usize,
+    pub number: u8,
+}
+
+impl TrayBounds {
+    pub fn of(returned: u64) -> TrayBounds {
+        let Done { frames: entries, records, number } = Done::of(returned);
+        TrayBounds { entries, records, number }
+    }
+
+    /// The bytes in which the run does every frame: before the last one a record at least is still to come, and 700
+    /// bytes are to be left.
+    pub fn area(&self) -> usize {
+        RECORD_BYTES * self.records + STEP_BYTES - RECORD_BYTES
     }
 }
 

@@ -39,8 +39,9 @@ fn run_proved(wanted: u64, first: u64, coverage: &mut Coverage) -> Result<u64, S
 
 fn summary(coverage: &Coverage, first: u64, end: u64, begin: Instant) -> ExitCode {
     coverage.print();
-    let Coverage { frames, trays, histories, sums, waiting, .. } = coverage;
+    let Coverage { frames, trays, histories, sums, waiting, tightness, .. } = coverage;
     println!("{}", sums.words(*waiting));
+    println!("{}", tightness.words());
     println!("{frames} frames compared, in {trays} trays and {histories} histories frame by frame: no discrepancy");
     println!("seeds {first} to {}, {:.1} s", end - 1, begin.elapsed().as_secs_f64());
     let missing = coverage.missing();

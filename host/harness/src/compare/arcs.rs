@@ -1,7 +1,7 @@
 //! What occurs with arcs (document 02, T-09).
 
 use super::hand_outs::look_up_of;
-use super::situation::{Step, Times};
+use super::situation::{of, Step, Times};
 use reference::answer::Kind;
 use reference::clock_face::{Arc, PLACES};
 use reference::frame::{asks_arc, word, Mark, LOOK_UPS, NONE, PLACE};
@@ -112,10 +112,6 @@ fn but_for(look_up: &LookUp, entry: &Entry, lies: Position, wanted: fn(&Entry, &
         let there = Entry { mark: placed(arc, &entry.mark), ..entry.clone() };
         lies(arc, &entry.mark) && wanted(&there, look_up)
     })
-}
-
-fn of(holds: bool) -> usize {
-    usize::from(holds)
 }
 
 impl Step<'_> {

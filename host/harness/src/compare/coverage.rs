@@ -1,6 +1,7 @@
 //! How often each thing that can occur has occurred.
 
 use super::blanks::Blanks;
+use super::bounds::{situations, Tightness, Whole};
 use super::hand_outs::{hand_outs, HandOut, FOUNDS};
 use super::registrations::Registrations;
 use super::renewals::Renewals;
@@ -16,7 +17,7 @@ use tray::tally::Tally;
 const NEVER_GIVEN: usize = 14;
 const LAST_NUMBER: usize = 21;
 
-const SITUATIONS: [&str; 183] = [
+const SITUATIONS: [&str; 204] = [
     "64 entries stored",
     "8 transactions live",
     "16 look-ups waiting",
@@ -200,6 +201,27 @@ const SITUATIONS: [&str; 183] = [
     "21, and too late",
     "21, and lease 0",
     "21, and 8 registrations live",
+    "no bounds: 15",
+    "no bounds: 16",
+    "bounds: write, no notify ahead",
+    "bounds: write, 1 to 7 notifies ahead",
+    "bounds: write, 8 or more notifies ahead",
+    "bounds: commit, no notify ahead",
+    "bounds: commit, 1 to 7 notifies ahead",
+    "bounds: commit, 8 or more notifies ahead",
+    "bounds: entries reached",
+    "bounds: records reached",
+    "bounds: both reached, and later records",
+    "bounds: over 64 writes",
+    "bounds: garbled write",
+    "bounds: garbled look-up",
+    "bounds: garbled create",
+    "bounds: garbled commit",
+    "bounds: garbled notify",
+    "bounds: empty frame",
+    "bounds: unknown operation",
+    "bounds: a byte less is too small",
+    "bounds: a byte less suffices",
 ];
 
 /// The refusals' numbers.
@@ -224,6 +246,8 @@ pub struct Coverage {
     /// Of all trays and histories, and those waiting at their ends.
     pub sums: Tally,
     pub waiting: usize,
+    /// Of all trays.
+    pub tightness: Tightness,
 }
 
 impl Coverage {
@@ -244,6 +268,19 @@ impl Coverage {
         self.blanks = Blanks::default();
         self.renewals = Renewals::default();
         self.registrations = Registrations::default();
+    }
+
+    /// A tray has been refused, and has no bounds.
+    pub fn unbounded(&mut self, number: u8) {
+        self.note(if number == Refusal::TraySize as u8 { "no bounds: 15" } else { "no bounds: 16" }, 1);
+    }
+
+    /// A tray's run has kept within its bounds; whether it stops in an area of a byte less than these give.
+    pub fn bounded(&mut self, frames: &[&[u8]], whole: &Whole, less_stops: bool) {
+        self.tightness.add(whole);
+        for (situation, times) in situations(frames, whole, less_stops) {
+            self.note(situation, times);
+        }
     }
 
     /// A frame has been compared.

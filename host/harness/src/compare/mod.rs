@@ -4,6 +4,7 @@
 mod arcs;
 mod bells;
 mod blanks;
+mod bounds;
 mod buffer;
 mod coverage;
 mod discrepancy;
@@ -17,6 +18,7 @@ mod tally;
 mod trays;
 
 pub use bells::Bells;
+pub use bounds::compare_bounds;
 pub use coverage::Coverage;
 pub use discrepancy::Discrepancy;
 pub use pair::{in_order, replay};

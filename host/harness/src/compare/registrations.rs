@@ -1,7 +1,7 @@
 //! What occurs with registrations and their bells (document 02, T-03).
 
 use super::blanks::asks_0_of_a_blank;
-use super::situation::{entry_in, Step, Times};
+use super::situation::{entry_in, of, Step, Times};
 use reference::answer::{Kind, Record};
 use reference::frame::{asks_arc, mark_of, word, Mark, FOREVER, NONE, PLACE};
 use reference::space::{End, Entry, Registration, MOST_REGISTRATIONS};
@@ -14,10 +14,6 @@ pub struct Registrations {
     /// By transaction: what it has written and taken again, and what of it has ended.
     taken_again: Vec<(u32, Mark)>,
     lapsed: Vec<(u32, Mark)>,
-}
-
-fn of(holds: bool) -> usize {
-    usize::from(holds)
 }
 
 impl Step<'_> {

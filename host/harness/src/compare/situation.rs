@@ -7,6 +7,10 @@ use reference::space::{Entry, LookUp, Space};
 /// How often a situation has occurred.
 pub type Times = (&'static str, usize);
 
+pub fn of(holds: bool) -> usize {
+    usize::from(holds)
+}
+
 /// A frame of the history, as it was compared.
 pub struct Step<'a> {
     pub before: &'a Space,

@@ -1,5 +1,6 @@
 //! Trays, run by a space and by the reference.
 
+use super::bounds::{compare_bounds, run_in_area};
 use super::buffer::{both, Buffer};
 use super::coverage::Coverage;
 use super::discrepancy::Discrepancy;
@@ -47,8 +48,28 @@ pub fn by_tray<S: Subject>(generator: &mut Generator, coverage: &mut Coverage) -
     }
     let sums = sums(&ours, &tray, &frames, &ran).map_err(|why| Discrepancy::of_tray::<S>(&tray, length, why))?;
     coverage.ended("waiting at the end of a tray", sums.tally, before.waiting.len());
+    in_bounds::<S>(&tray, &frames, done.number, coverage)?;
     let frames: Vec<Vec<u8>> = frames[..done.frames].iter().map(|frame| tray[frame.clone()].to_vec()).collect();
     replay::<S>(Beginning::EMPTY, &frames).map_err(|why| Discrepancy::of_tray::<S>(&tray, length, why))
+}
+
+/// The tray's bounds, compared and kept; `number` is that of a run.
+fn in_bounds<S: Subject>(
+    tray: &[u8],
+    frames: &[Range<usize>],
+    number: u8,
+    coverage: &mut Coverage,
+) -> Result<(), Discrepancy> {
+    let whole = compare_bounds::<S>(tray).map_err(|why| Discrepancy::of_bounds::<S>(tray, why))?;
+    let Some(whole) = whole else {
+        coverage.unbounded(number);
+        return Ok(());
+    };
+    let less_stops =
+        run_in_area::<S>(tray, &whole).map_err(|why| Discrepancy::of_tray::<S>(tray, whole.bounds.area(), why))?;
+    let frames: Vec<&[u8]> = frames.iter().map(|frame| &tray[frame.clone()]).collect();
+    coverage.bounded(&frames, &whole, less_stops);
+    Ok(())
 }
 
 /// The sums of a tray's run, from its frames and the space's answers. They must add up after every frame with those

@@ -1,6 +1,6 @@
 //! A wrong space that the comparison finds.
 
-use harness::compare::{compare, replay, Coverage, Discrepancy};
+use harness::compare::{compare, compare_bounds, replay, Coverage, Discrepancy};
 use harness::subject::{Beginning, Subject};
 use reference::tray::judge;
 use std::any::type_name;
@@ -24,15 +24,21 @@ pub fn frames_of(discrepancy: &Discrepancy) -> Vec<Vec<u8>> {
     judge(&tray).expect("a sound tray").into_iter().map(|frame| tray[frame].to_vec()).collect()
 }
 
+/// Whether something differs frame by frame, or in the bounds of the tray.
+fn differs<S: Subject>(frames: &[Vec<u8>]) -> bool {
+    let bounds = || compare_bounds::<S>(&tray::bytes::tray_of(frames));
+    replay::<S>(Beginning::EMPTY, frames).is_err() || bounds().is_err()
+}
+
 /// The printed text alone shows the fault, and each of its frames is needed.
 pub fn shows<S: Subject>() {
     let discrepancy = found::<S>(true);
     let frames = frames_of(&discrepancy);
-    assert!(replay::<S>(Beginning::EMPTY, &frames).is_err(), "{}:\n{discrepancy}", type_name::<S>());
+    assert!(differs::<S>(&frames), "{}:\n{discrepancy}", type_name::<S>());
     println!("{discrepancy}");
     for left_out in 0..frames.len() {
         let mut fewer = frames.clone();
         fewer.remove(left_out);
-        assert!(replay::<S>(Beginning::EMPTY, &fewer).is_ok(), "{}:\n{discrepancy}", type_name::<S>());
+        assert!(!differs::<S>(&fewer), "{}:\n{discrepancy}", type_name::<S>());
     }
 }
