@@ -1,6 +1,6 @@
 #!/usr/bin/env bash
-# Checks the tool: its own tests, all lessons, all expectations, waiting lists, all drawings. The first failure ends it
-# with a non-zero status. Needs cargo, a linker, python3 and the proved archive; no browser.
+# Checks the tool: its own tests, all lessons, all expectations, waiting lists, bounds, all drawings. The first failure
+# ends it with a non-zero status. Needs cargo, a linker, python3 and the proved archive; no browser.
 set -euo pipefail
 cd "$(dirname "$0")/../.."
 . host/build.sh
@@ -33,13 +33,26 @@ for lesson in examples/lessons/*; do
     lessons=$((lessons + 1))
 done
 
+prints() { # STORED WORDS: `tray WORDS` prints what is stored
+    local stored=$1
+    shift
+    "$tray" "$@" > "$to/stored.out" || fail "$stored"
+    cmp -s "$stored" "$to/stored.out" || { diff "$stored" "$to/stored.out" || true; fail "$stored"; }
+}
+
 # The waiting lists stored beside the examples; after how many frames, the first line tells.
 lists=0
 for list in examples/*.waiting; do
     read -r _ after _ < "$list"
-    "$tray" waiting "${list%.waiting}.txt" --after "$after" > "$to/waiting.out" || fail "$list"
-    cmp -s "$list" "$to/waiting.out" || { diff "$list" "$to/waiting.out" || true; fail "$list"; }
+    prints "$list" waiting "${list%.waiting}.txt" --after "$after"
     lists=$((lists + 1))
+done
+
+# The bounds stored there, with what the runs need in fact.
+bounds=0
+for stored in examples/*.bounds; do
+    prints "$stored" bounds "${stored%.bounds}.txt"
+    bounds=$((bounds + 1))
 done
 
 # Every example is drawn; a tray that is refused as a whole has no drawing.
@@ -75,4 +88,4 @@ files = [file for folder in sys.argv[1:] for ending in ("html", "svg") for file 
 for file in files:
     xml.dom.minidom.parse(file)
 END
-echo "ok: tray: tests, $lessons lessons, $lists waiting lists, $drawings drawings, the course"
+echo "ok: tray: tests, $lessons lessons, $lists waiting lists, $bounds bounds, $drawings drawings, the course"

@@ -103,7 +103,7 @@ pub struct Outcome {
     /// The frames that were done.
     pub history: History,
     pub done: Done,
-    /// The answers area, as the program has it.
+    /// The answers area.
     pub area: Vec<u8>,
     /// The frames that the tray has; none of a refused one.
     pub frames: usize,
@@ -118,7 +118,12 @@ impl Outcome {
 
 /// Runs a text's tray as the program does, and the frames that were done one by one.
 pub fn run(text: &Text, tray: &[u8]) -> Outcome {
-    let mut area = vec![0; PROGRAM_AREA];
+    run_in(text, tray, PROGRAM_AREA)
+}
+
+/// The same, in an answers area of so many bytes.
+pub fn run_in(text: &Text, tray: &[u8], bytes: usize) -> Outcome {
+    let mut area = vec![0; bytes];
     let done = Done::of(run_tray(tray, &mut area));
     let frames = if done.number > 1 { Vec::new() } else { frames_of(tray) };
     let mut written = text.frames();

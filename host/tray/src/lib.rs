@@ -12,6 +12,7 @@ pub mod face;
 pub mod frame;
 pub mod history;
 pub mod line;
+pub mod needs;
 pub mod oracle;
 pub mod panes;
 pub mod prose;

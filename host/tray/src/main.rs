@@ -7,6 +7,7 @@ use tray::explore::{report, Bounds, Explored};
 use tray::face;
 use tray::history::Outcome;
 use tray::line::Fault;
+use tray::needs::Needs;
 use tray::tell::tell;
 use tray::typed::{self, Typed};
 use tray::waiting::{self, Account};
@@ -74,6 +75,15 @@ const VERBS: &[Verb] = &[
         about: "who waits after a history, and why",
         help: include_str!("help/waiting.txt"),
         act: waiting_verb,
+    },
+    Verb {
+        name: "bounds",
+        usage: "tray bounds FILE",
+        flags: &[],
+        values: &[],
+        about: "how big an answers area a tray wants, and what its run needs in fact",
+        help: include_str!("help/bounds.txt"),
+        act: bounds_verb,
     },
     Verb {
         name: "draw",
@@ -200,8 +210,11 @@ impl Arguments {
 
     fn text(&self) -> Result<String, Failed> {
         let file = self.file()?;
-        let text = String::from_utf8(self.bytes()?);
-        let text = text.map_err(|_| Failed::usage(format!("{file}: expected a text in UTF-8")))?;
+        // Many a tray is UTF-8, but hardly one is without a byte of 0.
+        let text = String::from_utf8(self.bytes()?).ok().filter(|text| !text.contains('\0'));
+        let why =
+            || Failed::usage(format!("{file}: expected a text in UTF-8; `tray show` makes one of a tray's bytes"));
+        let text = text.ok_or_else(why)?;
         // Some editors put a mark of the byte order before the text.
         Ok(match text.strip_prefix('\u{feff}') {
             Some(rest) => rest.to_string(),
@@ -250,7 +263,11 @@ fn run_verb(arguments: &Arguments) -> Ended {
 
 /// The status of a history that has been told; what the proofs exclude is told, too.
 fn status_of(arguments: &Arguments, outcome: &Outcome) -> Ended {
-    let faults = Account::of(&outcome.history).faults();
+    status_with(arguments, outcome, Account::of(&outcome.history).faults())
+}
+
+/// The same, where these faults are what the proofs exclude.
+fn status_with(arguments: &Arguments, outcome: &Outcome, faults: Vec<String>) -> Ended {
     for fault in &faults {
         complain(&format!("{}: {fault}: the archive is damaged, or this tool is wrong", arguments.file()?));
     }
@@ -275,6 +292,13 @@ fn waiting_verb(arguments: &Arguments) -> Ended {
     }
     print(waiting::words(&outcome).as_bytes())?;
     status_of(arguments, &outcome)
+}
+
+fn bounds_verb(arguments: &Arguments) -> Ended {
+    let (text, tray) = arguments.tray()?;
+    let needs = Needs::of(&text, &tray);
+    print(needs.words().as_bytes())?;
+    status_with(arguments, &needs.outcome, needs.faults())
 }
 
 fn write(file: &str, bytes: &[u8]) -> Result<(), Failed> {

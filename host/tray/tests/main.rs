@@ -4,6 +4,7 @@ mod arcs;
 mod bars;
 mod bells;
 mod blanks;
+mod bounds;
 mod common;
 mod draw;
 mod explore;

@@ -243,7 +243,7 @@ fn odd_surroundings() {
 
 #[test]
 fn help() {
-    for verb in ["run", "waiting", "draw", "explore", "try", "assemble", "show"] {
+    for verb in ["run", "waiting", "bounds", "draw", "explore", "try", "assemble", "show"] {
         let answer = tray(&[verb, "--help"], "");
         assert_eq!(answer.status, 0);
         assert!(answer.out.starts_with(&format!("tray {verb}")) && answer.out.lines().count() > 2);
