@@ -119,18 +119,25 @@ check_texts() {
     echo "ok: the trays of $texts programs"
 }
 
-# What the manual quotes from examples/ is what stands there: blocks whose first line names the file.
+# What the manual quotes from examples/ is what stands there: blocks whose first line names the file. Its blocks of C
+# are whole files.
 check_manual() {
-    local quote quotes=0
+    local quote source quotes=0 sources=0
     rm -rf "$out/manual"
     mkdir -p "$out/manual/examples"
-    awk -v to="$out/manual/" '/^```/ { file = file == "" && /^```examples\// ? to substr($0, 4) : ""; next }
+    awk -v to="$out/manual/" '/^```/ && file != "" { file = ""; next }
+                              /^```examples\// { file = to substr($0, 4); next }
+                              /^```c$/ { file = to (++sources) ".c"; next }
                               file != "" { print > file }' docs/MANUAL.md
     for quote in "$out"/manual/examples/*; do
         same "the manual's $(basename "$quote")" "examples/$(basename "$quote")" "$quote"
         quotes=$((quotes + 1))
     done
-    echo "ok: $quotes quotations in the manual"
+    for source in "$out"/manual/*.c; do
+        ${CC:-cc} -std=c99 "${strict[@]}" -I host -c -o "${source%.c}.o" "$source" || fail "the manual's C: $source"
+        sources=$((sources + 1))
+    done
+    echo "ok: $quotes quotations and $sources sources in the manual"
 }
 
 says() { # WHAT: on standard error, in one line
