@@ -1,6 +1,6 @@
 -- `tray::pairs::has_bad_pairs` meets its contract. The loop's invariant: i pairs have been judged (`Judging`).
 -- Assumes nothing.
-use Prim.Native.Nat.{_-_, _≤_}
+use Prim.Native.Nat.{_-_}
 use mathlib.Core.Path.{_≡_, refl, sym, _∙_}
 use native.Mathlib.Omega.{arith}
 use borrow.Author.Needs.{needs}
