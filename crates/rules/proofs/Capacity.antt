@@ -69,7 +69,7 @@ finish-few f m b = go (isTick (f .op)) refl
   where
     go : (t : Bool) → isTick (f .op) ≡ t → length (finish f m .records) ≤ cond t maxTxns 0 + maxWaits
     go true t = omega (arith, finish-paid f m .closed, b .txns-fit, b .waits-fit)
-    go false t = omega (arith, finish-paid f m .closed, rw (finish-txns f m t) at (finish-paid f m .closed), b .waits-fit)
+    go false t = omega (arith, rw (finish-txns f m t) at (finish-paid f m .closed), b .waits-fit)
 
 -- and at most 8 of kind 11, but none in a tick
 rings-fit : (m : Model) (f : Frame) → Bounded m

@@ -10,10 +10,11 @@ use borrow.Author.Tests.{eq-eqb}
 use lib.Dec.{eqb}
 use lib.ListN.{length, length-append, length-map}
 use Rattle.rules.specs.declared.Entry.{Entry}
+use Rattle.rules.specs.declared.LookUp.{LookUp}
 use Rattle.rules.specs.declared.Txn.{Txn}
 use Rattle.rules.specs.Lists.{filterb, anyb}
 use Rattle.rules.specs.Time.{reached, until}
-use Rattle.rules.specs.State.{Model}
+use Rattle.rules.specs.State.{Model, withEntries, withTxns, withWaits}
 use Rattle.rules.specs.Holds.{oldest}
 use Rattle.rules.specs.Frame.{Frame, isOperation, isWrite, isLookUp, isCreate, isNotify, isTick, serves}
 use Rattle.rules.specs.Frame.{entryNamed}
@@ -21,7 +22,7 @@ use Rattle.rules.specs.Records.{exception, nothing}
 use Rattle.rules.specs.Done.{Carried, Done, quiet}
 use Rattle.rules.specs.Write.{newEntry, stored, write}
 use Rattle.rules.specs.LookUp.{lookUpOf, givesNothing, answer, answerFound, answerNothing, answerWaiting, lookUp}
-use Rattle.rules.specs.Transactions.{create, released, withoutTxn, commit, abort}
+use Rattle.rules.specs.Transactions.{create, privateTo, takenBy, released, withoutTxn, commit, abort}
 use Rattle.rules.specs.Renew.{hasNumber, renewedTo, renewEntries, renew}
 use Rattle.rules.specs.Notify.{notify, madePublic, hearing, heardOf}
 use Rattle.rules.specs.Service.{service}
@@ -65,10 +66,6 @@ shrunk-grown f s =
     }
 
 -- ---- the own part
-released-length : (ts : List Txn) (t : ℕ) (p : Entry → Bool) (es : List Entry)
-    → length (map (released ts t) (filterb p es)) ≤ length es
-released-length ts t p es = omega (arith, length-map (filterb p es) (released ts t), length-filter p es)
-
 heard-grown : (es : List Entry) {f : Frame} {m n : Model} → Grown f m n → Grown f m (heardOf es n)
 unfolding heardOf
 heard-grown es {f} {m} {n} g =
@@ -122,25 +119,29 @@ created m f t =
       registrations = omega arith;
     }
 
-committed : (t : ℕ) (m : Model) → Shrunk m (commit t m)
-unfolding commit withoutTxn
-committed t m =
+-- a transaction is over: the entries that are kept are released, and no look-up is added
+txn-ended : (t : ℕ) (keep : Entry → Bool) (ws : List LookUp) (m : Model) → length ws ≤ length (m .waits)
+    → Shrunk m (withEntries (map (released (m .txns) t) (filterb keep (m .entries)))
+    (withTxns (withoutTxn t (m .txns)) (withWaits ws m)))
+unfolding withoutTxn
+txn-ended t keep ws m fewer =
+    let kept = filterb keep (m .entries) in
     record {
-      entries = released-length (m .txns) t _ (m .entries);
+      entries = omega (arith, length-map kept (released (m .txns) t), length-filter keep (m .entries));
       txns = length-filter (λ x. not (eqb (x .id .0) t)) (m .txns);
-      waits = omega arith;
+      waits = fewer;
       registrations = omega arith;
     }
 
+committed : (t : ℕ) (m : Model) → Shrunk m (commit t m)
+unfolding commit
+committed t m = txn-ended t (λ e. not (takenBy t e)) (m .waits) m (omega arith)
+
 aborted : (t : ℕ) (m : Model) → Shrunk m (abort t m)
-unfolding abort withoutTxn
+unfolding abort
 aborted t m =
-    record {
-      entries = released-length (m .txns) t _ (m .entries);
-      txns = length-filter (λ x. not (eqb (x .id .0) t)) (m .txns);
-      waits = length-filter (λ w. not (eqb (w .txn .0) t)) (m .waits);
-      registrations = omega arith;
-    }
+    let stays : LookUp → Bool = λ w. not (eqb (w .txn .0) t) in
+    txn-ended t (λ e. not (privateTo t e)) (filterb stays (m .waits)) m (length-filter stays (m .waits))
 
 renewed : (m : Model) (f : Frame) → Shrunk m (renew m f .model)
 unfolding renew renewEntries

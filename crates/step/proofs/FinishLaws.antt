@@ -199,7 +199,9 @@ module _ (f : Frame) (m : Model) (s : Sound m) (a : Admitted f m) (o : isOperati
       serviceFrom (firstFree Tick k n) (lapsed own .model) ≡ service (lapsed own .model)
   ticked t b =
       let n = length (lapsed own .records) in
-      ⊎-elim (λ z. rw z (from-none maxEntries (lapsed own .model) (omega (arith, lapsed-paid own .entries, b .entries-fit))
+      let fit : length (lapsed own .model .entries) ≤ maxEntries =
+      omega (arith, lapsed-paid own .entries, b .entries-fit) in
+      ⊎-elim (λ z. rw z (from-none maxEntries (lapsed own .model) fit
       ∙ sym (service-idle (lapsed own .model) (idle t (eqb-true n 0 z)))))
       (λ z. rw z (service-whole (lapsed own .model) (lapsed-order own (ticking t)))) (bool-cases (eqb n 0))
 

@@ -60,7 +60,8 @@ returns c =
 first-byte-requires : tie.Need-first-byte-requires Inv-loop μ-loop
 first-byte-requires c κs =
     let l = c .before .before .before .before .loop in
-    in-place (l .free) _ (c .before .before .pair-at .result) (l .inv .2) (sym (c .before .is-misplaced .ensures) ∙ c .if1 .left)
+    in-place (l .free) _ (c .before .before .pair-at .result) (l .inv .2)
+    (sym (c .before .is-misplaced .ensures) ∙ c .if1 .left)
 
 count-frame-requires : tie.Need-count-frame-requires Inv-loop μ-loop
 count-frame-requires c κs =
