@@ -208,3 +208,9 @@ trayRefused = 15
 -- a pair out of order or past the tray
 abbrev pub pairsRefused : ℕ
 pairsRefused = 16
+
+-- Refusals of what is no frame and no tray
+
+-- more than 6 transactions, more than 8 actions, or a number written twice is handed in (document 02, T-12)
+abbrev pub orderRefused : ℕ
+orderRefused = 22

@@ -123,3 +123,5 @@ pub const NOT_WRITER_REFUSED: u8 = 19;
 pub const HELD_REFUSED: u8 = 20;
 
 pub const PLACE_REFUSED: u8 = 21;
+
+pub const ORDER_REFUSED: u8 = 22;

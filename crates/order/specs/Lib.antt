@@ -1,0 +1,4 @@
+-- "An order that accounts for these" (document 02, T-12): what is handed in, and which order is found.
+pub mod Export
+pub mod Orders
+pub mod Found
