@@ -2,3 +2,7 @@
 pub mod Export
 pub mod Orders
 pub mod Found
+-- what the functions within the crate ensure
+pub mod Reading
+pub mod Plan
+pub mod Search
