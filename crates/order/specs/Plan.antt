@@ -33,19 +33,22 @@ pub record Resolved (numbers : List ℕ) (acts : List Action) (good : Bool) (cod
   pub once : good ≡ distinct (joined (map writtenBy acts))
   pub are-codes : good ≡ true → take (length acts) codes ≡ map (codeIn numbers) acts
 
--- a plan that can be run: slots and starts are within the arrays
-abbrev pub Small : List ℕ → Type 0
-Small codes = (j : ℕ) → getD codes j 0 < maxCode
+-- an array of codes whose slots are within the arrays
+pub record Codes (codes : List ℕ) : Type 0 where
+  pub as-many : length codes ≡ slots
+  pub below : (j : ℕ) → getD codes j 0 < maxCode
 
+-- a plan that can be run
 pub record Within (codes starts : List ℕ) : Type 0 where
-  pub small : Small codes
+  pub codes-within : Codes codes
   pub starts-within : (p : ℕ) → getD starts p 0 ≤ slots
 
 -- the plan of transactions
 pub record Plan (ts : List (List Action)) (codes starts : List ℕ) : Type 0 where
   pub numbers : List ℕ
   pub within : Within codes starts
-  pub known : All (λ a. slotIn numbers (numberOf a) < slots) (joined ts)
+  pub as-many : length numbers ≡ slots
+  pub known : All (λ a. slotIn numbers (numberOf a) < length numbers) (joined ts)
   pub are-codes : take (length (joined ts)) codes ≡ map (codeIn numbers) (joined ts)
   pub begins : (p : ℕ) → p ≤ length ts → getD starts p 0 ≡ length (joined (take p ts))
 

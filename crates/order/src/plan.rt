@@ -5,7 +5,7 @@ ghost use Prim.Native.Nat.{ℕ, _≤_, _<_};
 ghost use lib.ListN.{getD, length};
 ghost use Rattle.order.specs.Export.{Action};
 ghost use Rattle.order.specs.Reading.{Arrays, slots};
-ghost use Rattle.order.specs.Plan.{slotIn, Begin, Resolved, Small, Planned};
+ghost use Rattle.order.specs.Plan.{slotIn, Begin, Resolved, Codes, Planned};
 use crate::read::MAX_TXNS;
 use crate::read::SLOTS;
 use crate::read::WRITE;
@@ -26,7 +26,7 @@ pub(crate) fn wide(x: u8) -> usize
 
 // Where the number at j stands first.
 fn slot_of(numbers: &[u32; SLOTS], j: usize) -> usize
-    requires { ⌜ j < slots ⌝ }
+    requires { ⌜ (j < slots) × (length (now numbers) ≡ slots) ⌝ }
     ensures { λ r. ⌜ (r ≡ slotIn (now (numbers .entry)) (getD (now (numbers .entry)) j 0)) × (r ≤ j) ⌝ }
 {
     let number = numbers[j];
@@ -42,22 +42,22 @@ fn slot_of(numbers: &[u32; SLOTS], j: usize) -> usize
 
 // The codes of the first `len` actions; false if a number is written twice.
 fn resolve(kinds: &[u8; SLOTS], numbers: &[u32; SLOTS], len: usize, codes: &mut [u8; SLOTS]) -> bool
-    requires { ⌜ (len ≤ slots) × Arrays (now kinds) (now numbers) × Small (now codes) ⌝ }
+    requires { ⌜ (len ≤ slots) × Arrays (now kinds) (now numbers) × Codes (now codes) ⌝ }
     ensures { λ r. ⌜ ((acts : List Action) → Begin (now (kinds .entry)) (now (numbers .entry)) len acts
         → Resolved (now (numbers .entry)) acts r (now (codes .exit))) ⌝ }
-    ensures { λ r. ⌜ Small (now (codes .exit)) ⌝ }
+    ensures { λ r. ⌜ Codes (now (codes .exit)) ⌝ }
 {
     let mut written = [false; SLOTS];
     let mut j: usize = 0;
     while j < len {
         let slot = slot_of(numbers, j);
         let kind = kinds[j];
-        if kind == WRITE {
-            if written[slot] {
-                return false;
-            }
-            written[slot] = true;
+        let again = written[slot];
+        let writes = kind == WRITE;
+        if writes & again {
+            return false;
         }
+        written[slot] = writes | again;
         codes[j] = (4 * slot + wide(kind)) as u8;
         j += 1;
     }

@@ -4,7 +4,7 @@ ghost use Prim.Native.Nat.{_≤_};
 ghost use lib.ListN.{length};
 ghost use lib.Seq.{slice};
 ghost use Rattle.order.specs.Reading.{slots};
-ghost use Rattle.order.specs.Plan.{Small};
+ghost use Rattle.order.specs.Plan.{Codes};
 ghost use Rattle.order.specs.Search.{afterCodes, told};
 use crate::plan::wide;
 use crate::read::SLOTS;
@@ -19,7 +19,7 @@ pub(crate) struct Ran {
 
 // The actions from one place to another. A read leaves its entry present, as it is.
 pub(crate) fn run_codes(codes: &[u8; SLOTS], from: usize, to: usize, start: [bool; SLOTS]) -> Ran
-    requires { ⌜ (to ≤ slots) × Small (now codes) ⌝ }
+    requires { ⌜ (to ≤ slots) × Codes (now codes) ⌝ }
     ensures { λ r. ⌜ told (r .ok) (r .present) ≡ afterCodes (slice from to (now (codes .entry))) start ⌝ }
 {
     let mut present = start;

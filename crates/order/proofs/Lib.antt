@@ -1,0 +1,6 @@
+-- Proofs of the search for an order.
+pub mod ArrayLaws
+pub mod ReadLaws
+pub mod TxnLaws
+pub mod PlanLaws
+pub mod SearchLaws
