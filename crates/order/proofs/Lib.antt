@@ -3,4 +3,7 @@ pub mod ArrayLaws
 pub mod ReadLaws
 pub mod TxnLaws
 pub mod PlanLaws
+pub mod PlannedLaws
 pub mod SearchLaws
+pub mod RunLaws
+pub mod FoundLaws

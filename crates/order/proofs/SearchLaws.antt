@@ -64,10 +64,12 @@ unfolding distinct
 order-tail {n} {d} {left} {p} {ps} o =
     record {
       as-many = omega (arith, o .as-many);
-      positions = λ q i. let at = o .positions q (List·Memᴰ·tail i) in
-          (at .0, getD-set-other left p q false false
-          (λ e. eqb-false p q (none-mem (eqb p) (not-true _ (and-left (not (anyb (eqb p) ps)) (distinct ps) (o .once))) i)
-          (sym e)) ∙ at .1);
+      positions = λ q i. let at = o .positions q (List·Memᴰ·tail i) in (
+        at .0,
+        getD-set-other left p q false false
+            (λ e. eqb-false p q (none-mem (eqb p) (not-true _ (and-left (not (anyb (eqb p) ps)) (distinct ps) (o .once))) i)
+            (sym e)) ∙ at .1,
+      );
       once = and-right (not (anyb (eqb p) ps)) (distinct ps) (o .once);
     }
 

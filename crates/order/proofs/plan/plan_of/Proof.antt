@@ -1,39 +1,32 @@
 -- `order::plan::plan_of` meets its contract. Assumes nothing.
+use Prim.Native.Nat.{_≤_}
+use native.Mathlib.Omega.{arith}
 use borrow.Author.Needs.{needs}
+use borrow.Author.Tests.{not-true, not-false}
+use lib.ListN.{getD}
+use Rattle.order.specs.Reading.{Arrays, slots, maxTxns}
+use Rattle.order.proofs.PlannedLaws.{no-codes, read-within, not-read, is-planned}
 use Rattle.order.proofs.plan.plan_of.Statement.{statement}
 use Rattle.order.proofs.plan.plan_of.Tie as tie
-use Rattle.order.proofs.plan.plan_of.Reads as reads
-use Rattle.order.proofs.plan.plan_of.Lts as lts
-use Rattle.order.proofs.plan.resolve.Reads as resolve-reads
-use Rattle.order.proofs.read.read_export.Reads as read-export-reads
 
--- src/plan.rt:76:9
-returns : tie.Need-returns
-returns c = ?
+-- what is read lies within its arrays
+within : (c : tie.Else1) → (c .before .before .before .read-export .result .n ≤ maxTxns)
+    × (getD (c .before .before .before .read-export .result .starts) (c .before .before .before .read-export .result .n) 0 ≤ slots)
+    × Arrays (c .before .before .before .read-export .result .kinds) (c .before .before .before .read-export .result .numbers)
+within c = read-within (c .before .before .before .read-export .ensures) (not-false _ (c .if1 .left))
 
--- src/plan.rt:85:40
-mul-resolve : tie.Need-mul-resolve
-mul-resolve c = ?
-
--- src/plan.rt:85:40
-array-read-resolve : tie.Need-array-read-resolve
-array-read-resolve c = ?
-
--- src/plan.rt:85:9
-resolve-requires : tie.Need-resolve-requires
-resolve-requires c κs = ?
-
--- src/plan.rt:68:1
 returns-2 : tie.Need-returns-2
-returns-2 c = ?
+returns-2 c =
+    is-planned _ (c .resolve .result) (c .resolve .ensures .1) (c .before .before .before .before .before .before .before .before .before .read-export .ensures)
+    (not-false _ (c .before .before .before .before .before .before .if1 .left)) (c .resolve .ensures .0)
 
 pub plan-of-spec : {M : Type 1} → statement M
 plan-of-spec =
     tie.close
     (tie.spec
     (λ c κs. search needs)
-    returns
-    mul-resolve
-    array-read-resolve
-    resolve-requires
+    (λ c. not-read (c .before .before .before .read-export .ensures) (not-true _ (c .if1 .taken)))
+    (λ c. let w = within (c .before .before .before .before) .0 in record { fits = omega arith })
+    (λ c. let w = within (c .before .before .before .before) .0 in omega arith)
+    (λ c κs. let w = within (c .before .before .before .before .before) in (w .1, w .2, no-codes))
     returns-2)

@@ -32,12 +32,14 @@ returns : tie.Need-returns Inv-loop μ-loop
 returns c =
     let l = c .before .before .before .before .loop in
     let s = c .before .before .before .before .before in
-    let slot = c .before .before .slot-of in
-    (λ acts b. record {
-      once = sym (written-twice _ _ _ _ _ _ _ acts (s .pre .1) (l .inv .1 .as-many) b (omega arith) (omega arith)
-          (l .inv .2 acts b) (slot .ensures .0) (omega (arith, slot .ensures .1)) (c .if1 .taken));
-      are-codes = λ t. absurd (true≢false (sym t));
-    }, l .inv .1)
+    let slot = c .before .before .slot-of in (
+      λ acts b. record {
+        once = sym (written-twice _ _ _ _ _ _ _ acts (s .pre .1) (l .inv .1 .as-many) b (omega arith) (omega arith)
+            (l .inv .2 acts b) (slot .ensures .0) (omega (arith, slot .ensures .1)) (c .if1 .taken));
+        are-codes = λ t. absurd (true≢false (sym t));
+      },
+      l .inv .1,
+    )
 
 small : (c : tie.After-wide Inv-loop μ-loop) → (c .before .before .before .slot-of .result < slots) × (c .wide .result < 4)
 small c =
@@ -54,14 +56,16 @@ loop-again : tie.Need-loop-again Inv-loop μ-loop
 loop-again c =
     let l = c .before .before .before .before .before .loop in
     let s = c .before .before .before .before .before .before in
-    let slot = c .before .before .before .slot-of in
-    (omega arith, code-put _ _ _ _ (l .inv .1) (small c .0) (small c .1),
+    let slot = c .before .before .before .slot-of in (
+      omega arith,
+      code-put _ _ _ _ (l .inv .1) (small c .0) (small c .1),
       λ acts b. subst⁻¹
-      (λ k. Resolving (s .args .numbers .now) acts (l .j + 1) (set (l .codes) (l .j) (4 * slot .result + k))
-      (set (l .written) (slot .result)
-      (eqb (getD (s .args .kinds .now) (l .j) 0) 1 || getD (l .written) (slot .result) false))) (c .wide .ensures)
-      (resolved-more _ _ _ _ _ _ _ acts (s .pre .1) (l .inv .1 .as-many) b (omega arith) (omega arith)
-      (l .inv .2 acts b) (slot .ensures .0) (small c .0) (c .before .if1 .left)))
+          (λ k. Resolving (s .args .numbers .now) acts (l .j + 1) (set (l .codes) (l .j) (4 * slot .result + k))
+          (set (l .written) (slot .result)
+          (eqb (getD (s .args .kinds .now) (l .j) 0) 1 || getD (l .written) (slot .result) false))) (c .wide .ensures)
+          (resolved-more _ _ _ _ _ _ _ acts (s .pre .1) (l .inv .1 .as-many) b (omega arith) (omega arith)
+          (l .inv .2 acts b) (slot .ensures .0) (small c .0) (c .before .if1 .left)),
+    )
 
 returns-2 : tie.Need-returns-2 Inv-loop μ-loop
 returns-2 c =

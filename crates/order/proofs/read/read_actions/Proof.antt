@@ -35,9 +35,11 @@ returns-2 c =
 loop-again : tie.Need-loop-again Inv-loop μ-loop
 loop-again c =
     let l = c .before .before .before .before .before .loop in
-    let a = c .before .before .before .before .before .before .args in
-    (omega arith, one-more (a .words .now) (a .at) (a .len) _ _ _ _ (l .i) (l .inv .1) (omega arith) (omega arith)
-    (omega arith) (omega arith))
+    let a = c .before .before .before .before .before .before .args in (
+      omega arith,
+      one-more (a .words .now) (a .at) (a .len) _ _ _ _ (l .i) (l .inv .1) (omega arith) (omega arith)
+          (omega arith) (omega arith),
+    )
 
 returns-3 : tie.Need-returns-3 Inv-loop μ-loop
 returns-3 c =

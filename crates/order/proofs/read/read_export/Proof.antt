@@ -31,9 +31,12 @@ returns-2 c =
     refuse (c .before .before .before .before .no-export .ensures) (too-many _ _ (c .before .size .ensures .0) (c .if2 .taken))
 
 loop-holds : tie.Need-loop-holds Inv-loop μ-loop
-loop-holds c =
-    (omega arith, omega arith, omega arith,
-      no-txns-read _)
+loop-holds c = (
+  omega arith,
+  omega arith,
+  omega arith,
+  no-txns-read _,
+)
 
 returns-3 : tie.Need-returns-3 Inv-loop μ-loop
 returns-3 c =
@@ -67,10 +70,13 @@ returns-6 c =
 loop-again : tie.Need-loop-again Inv-loop μ-loop
 loop-again c =
     let h = c .before .before .before .before .before .before .before .before .before .before in
-    let k = c .before .before .before .before .before .before .size2 .ensures .0 in
-    (omega arith, omega arith, omega arith,
+    let k = c .before .before .before .before .before .before .size2 .ensures .0 in (
+      omega arith,
+      omega arith,
+      omega arith,
       one-more-txn _ _ _ _ _ _ _ _ _ _ (h .loop .inv .3) (omega arith) k (omega arith) (omega arith) (omega arith)
-      (c .before .read-actions .ensures) (not-false _ (c .if6 .left)))
+          (c .before .read-actions .ensures) (not-false _ (c .if6 .left)),
+    )
 
 returns-7 : tie.Need-returns-7 Inv-loop μ-loop
 returns-7 c =

@@ -44,10 +44,11 @@ loop-again : tie.Need-loop-again Inv-loop μ-loop
 unfolding misses afterCode
 loop-again c =
     let l = c .before .before .before .before .loop in
-    let s = c .before .before .before .before .before in
-    (simp length-set (l .inv .0),
+    let s = c .before .before .before .before .before in (
+      simp length-set (l .inv .0),
       l .inv .1 ∙ carried (s .args .codes .now) (s .args .to) (omega arith) (l .j) (omega arith) (l .present) (rw (c .before .wide .ensures) at (c .if1 .left))
-      ∙ rw (c .before .wide .ensures))
+          ∙ rw (c .before .wide .ensures),
+    )
 
 returns-2 : tie.Need-returns-2 Inv-loop μ-loop
 returns-2 c =
