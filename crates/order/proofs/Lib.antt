@@ -7,3 +7,5 @@ pub mod PlannedLaws
 pub mod SearchLaws
 pub mod RunLaws
 pub mod FoundLaws
+pub mod OnlyOneProof
+pub mod WrongOrdersProof

@@ -6,3 +6,6 @@ pub mod Found
 pub mod Reading
 pub mod Plan
 pub mod Search
+-- what it rules out
+pub mod OnlyOne
+pub mod WrongOrders
