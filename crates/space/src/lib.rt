@@ -1,5 +1,6 @@
 // Every function that a host may call: `rt staticlib space` gives libspace.a, and host/space.h declares them.
 ghost use mathlib.Core.Path.{_≡_};
+ghost use Rattle.order.specs.Found.{OrderFound};
 ghost use Rattle.rules.specs.Allowed.{Stepped, TrayRan};
 ghost use Rattle.rules.specs.Places.{placeOfTime, timeOfPlace, mirroredPlace};
 ghost use Rattle.rules.specs.State.{empty};
@@ -11,6 +12,7 @@ use bounds::tray_bounds;
 use clock_face::mirror_of;
 use clock_face::place_of;
 use clock_face::time_of;
+use order::find_order;
 use step::step_frame;
 use tray::run_tray;
 use words::rows::Words;
@@ -79,4 +81,12 @@ pub extern "C" fn space_run_tray(tray: &[u8], answers: &mut [u8]) -> u64
     ensures { λ r. ⌜ TrayRan (now (tray .entry)) (now (answers .entry)) r (now (answers .exit)) ⌝ }
 {
     run_tray(tray, answers)
+}
+
+// An order of transactions that accounts for what they did (the crate `order`).
+#[no_mangle]
+pub extern "C" fn space_find_order(actions: &[u32], order: &mut [u8]) -> u64
+    ensures { λ r. ⌜ OrderFound (now (actions .entry)) (now (order .entry)) r (now (order .exit)) ⌝ }
+{
+    find_order(actions, order)
 }
