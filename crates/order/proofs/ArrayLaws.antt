@@ -1,12 +1,11 @@
 -- Laws of lists and of arrays that are filled.
 use Prim.Native.Nat.{ℕ, zero, suc, _+_, _≤_, _<_}
-use mathlib.Core.Path.{_≡_, refl, sym, ap, _∙_, subst, subst⁻¹}
+use mathlib.Core.Path.{_≡_, refl, sym, ap, _∙_}
 use mathlib.Core.List.{List, [], _∷_, _++_, map, append-assoc, append-nil, map-append}
 use native.Mathlib.Numerals.{add-one}
-use native.Mathlib.Nat.{zero-add}
 use native.Mathlib.Omega.{arith}
 use lib.ListN.{length, getD, take, drop, set, replicate}
-use lib.Seq.{take-suc-set, paste, paste-suc}
+use lib.Seq.{take-suc-set}
 use Rattle.rules.specs.Lists.{joined}
 
 pub joined-append : {A : Type 0} (xs ys : List (List A)) → joined (xs ++ ys) ≡ joined xs ++ joined ys
@@ -38,16 +37,6 @@ filled-more {B = B} f front l j xs x e h =
     ap (λ k. take k (set l j (f x))) (add-one j)
     ∙ take-suc-set l j (f x) h ∙ ap (λ r. r ++ (f x ∷ [])) e ∙ append-assoc front (map f xs) (f x ∷ [])
     ∙ ap {B = List B} (λ r. front ++ r) (sym (map-append f xs (x ∷ [])))
-
--- one more is copied to the front
-pub copied-more : {A : Type 0} (d s : List A) (i : ℕ) (z : A) → i < length d → i < length s
-    → set (paste d 0 s i) i (getD s i z) ≡ paste d 0 s (i + 1)
-copied-more d s i z h l =
-    ap (λ k. set (paste d 0 s i) k (getD s i z)) (sym (zero-add i))
-    ∙ paste-suc d 0 s i z (omega arith) l ∙ ap (paste d 0 s) (sym (add-one i))
-
-pub copied : {A : Type 0} (d s : List A) (n : ℕ) → paste d 0 s n ≡ take n s ++ drop n d
-copied d s n = ap (λ k. take n s ++ drop k d) (zero-add n)
 
 pub getD-map : {A B : Type 0} (f : A → B) (l : List A) (i : ℕ) (d : A) (e : B) → i < length l
     → getD (map f l) i e ≡ f (getD l i d)

@@ -1,10 +1,11 @@
 -- The order that is found is the first that succeeds.
 use Prim.Native.Nat.{ℕ, _*_, _≤_, _<_}
 use mathlib.Core.Bool.{Bool, true, false, true≢false}
-use mathlib.Core.Path.{_≡_, refl, sym, ap, _∙_, subst, subst⁻¹}
+use mathlib.Core.Path.{_≡_, refl, sym, ap, ap₂, _∙_, subst, subst⁻¹}
 use mathlib.Core.List.{List, _++_}
 use native.Mathlib.Omega.{arith}
 use lib.ListN.{length, getD, take, drop, replicate, getD-replicate}
+use lib.Seq.{take-length, length-take-le}
 use Rattle.rules.specs.Numbers.{orderRefused}
 use Rattle.rules.specs.SerialRun.{start}
 use Rattle.order.specs.Export.{Action, wordsOf, Accepted}
@@ -54,6 +55,13 @@ module _ (ts : List (List Action)) (codes starts : List ℕ) (plan : Plan ts cod
 
   none-there : {order : List ℕ} → Looked codes starts (length ts) false order → NoneSucceeds ts
   none-there (search.none-found h) = λ qs q. sym (goes-there qs q) ∙ h qs (order-of ts few q)
+
+-- the first n positions, copied
+pub in-front : (n : ℕ) (positions order : List ℕ) → n ≤ length positions
+    → take (length (take n positions)) (take n positions) ++ drop (length (take n positions)) order
+    ≡ take n positions ++ drop n order
+in-front n positions order h =
+    ap₂ (λ (a b : List ℕ). a ++ b) (take-length (take n positions)) (ap (λ k. drop k order) (length-take-le n positions h))
 
 -- what is planned, and what is refused
 pub plan-within : {words codes starts : List ℕ} {ok : Bool} {n : ℕ} → Planned words ok n codes starts → ok ≡ true

@@ -1,5 +1,4 @@
 // The program's body: a tray is read from standard input, run, and its answers are printed.
-mod input;
 mod text;
 
 use input::read_input;

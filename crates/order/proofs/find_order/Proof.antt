@@ -1,13 +1,15 @@
 -- `order::find_order` meets its contract. Assumes nothing.
 use Prim.Native.Nat.{_≤_}
-use mathlib.Core.Path.{subst⁻¹}
+use mathlib.Core.Path.{_≡_, sym, _∙_, subst⁻¹}
 use native.Mathlib.Omega.{arith}
 use borrow.Author.Needs.{needs}
 use borrow.Author.Tests.{not-true, not-false}
+use lib.ListN.{length, length-map}
+use lib.Seq.{length-take-le}
 use Rattle.order.specs.Found.{OrderFound}
 use Rattle.order.specs.Plan.{Within}
 use Rattle.order.specs.Reading.{maxTxns}
-use Rattle.order.proofs.FoundLaws.{plan-within, not-planned, no-room, looked}
+use Rattle.order.proofs.FoundLaws.{in-front, plan-within, not-planned, no-room, looked}
 use Rattle.order.proofs.find_order.Statement.{statement}
 use Rattle.order.proofs.find_order.Tie as tie
 
@@ -15,6 +17,14 @@ use Rattle.order.proofs.find_order.Tie as tie
 within : (c : tie.Else2) → (c .before .before .before .plan-of .result .n ≤ maxTxns)
     × Within (c .before .before .before .plan-of .result .codes) (c .before .before .before .plan-of .result .starts)
 within c = plan-within (c .before .before .before .plan-of .ensures) (not-false _ (c .before .if1 .left))
+
+-- the positions that are copied are n
+fit : (c : tie.After-positions) → c .before .before .before .before .before .before .before .before .before .before .before .plan-of .result .n ≤ length (c .before .before .before .search .result .order)
+fit c =
+    let f = c .before .before .before .search in
+    let six : length (f .result .order) ≡ maxTxns = sym (length-map (f .result .order) _) ∙ f .ok .1 .1 .1 .0 .1 .0 .1 in
+    let w = within (c .before .before .before .before .before .before .before .before) .0 in
+    omega arith
 
 returns-3 : tie.Need-returns-3
 returns-3 c =
@@ -24,10 +34,10 @@ returns-3 c =
 
 returns-4 : tie.Need-returns-4
 returns-4 c =
-    let e = c .before .before .before .before .before .before .before .before .before .before .before .before in
-    subst⁻¹ (OrderFound _ _ 1) (c .before .before .put-positions .ensures)
+    let e = c .before .before .before .before .before .before .before .before .before .before .before .before .before in
+    subst⁻¹ (OrderFound _ _ 1) (c .before .before .copy .ensures .1 ∙ in-front _ _ _ (fit (c .before .before .before .before .before)))
     (looked _ _ _ _ (e .before .before .before .plan-of .ensures) (not-false _ (e .before .if1 .left)) (e .if2 .left)
-    (c .before .before .before .before .before .before .before .search .ensures) .1 (not-false _ (c .before .before .before .before .before .if3 .left)))
+    (c .before .before .before .before .before .before .before .before .search .ensures) .1 (not-false _ (c .before .before .before .before .before .before .if3 .left)))
 
 pub find-order-spec : {M : Type 1} → statement M
 find-order-spec =
@@ -38,6 +48,10 @@ find-order-spec =
     (λ c. no-room _ _ (c .before .before .before .plan-of .ensures) (not-false _ (c .before .if1 .left)) (c .if2 .taken))
     (λ c κs. let w = within (c .before .before .before .before) in (omega arith, w .0, w .1))
     returns-3
-    (λ c κs. let w = within (c .before .before .before .before .before .before .before .before .before) .0 in (omega arith, omega arith))
+    (λ c. fit c)
+    (λ c. sym (length-take-le _ _ (fit (c .before))))
+    (λ c κs.
+    let room = c .before .before .before .before .before .before .before .before .before .before .before .before .before .before .before .before .args .order .now in
+    subst⁻¹ (λ k. k ≤ length room) (length-take-le _ _ (fit (c .before .before))) (c .before .before .before .before .before .before .before .before .before .before .if2 .left))
     (λ c. search needs)
     returns-4)

@@ -4,13 +4,13 @@ ghost use lib.ListN.{length};
 ghost use Prim.Native.Nat.{_≤_};
 
 // Whether it could be read to its end, or to the buffer's, and how many bytes stand at the buffer's start.
-pub(crate) struct Input {
-    pub(crate) ok: bool,
-    pub(crate) len: usize,
+pub struct Input {
+    pub ok: bool,
+    pub len: usize,
 }
 
 // Unlike `io::read_full`, which takes a read that fails for the end.
-pub(crate) fn read_input(buf: &mut [u8]) -> Input
+pub fn read_input(buf: &mut [u8]) -> Input
     ensures { λ r. ⌜ Counts (r .len) (now (buf .exit)) ⌝ }
 {
     let mut len: usize = 0;

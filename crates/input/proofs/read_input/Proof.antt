@@ -1,14 +1,14 @@
--- `viewer_lib::input::read_input` meets its contract: the loop's invariant is that what is read lies within the buffer.
+-- `input::read_input` meets its contract: the loop's invariant is that what is read lies within the buffer.
 use Prim.Native.Nat.{_≤_, _-_}
 use mathlib.Core.Path.{_≡_, sym}
 use native.Mathlib.Omega.{arith}
 use borrow.Author.Needs.{needs}
 use lib.ListN.{length}
 use lib.Seq.{length-take-le}
-use Rattle.viewer_lib.proofs.input.read_input.Statement.{statement}
-use Rattle.viewer_lib.proofs.input.read_input.Tie as tie
-use Rattle.viewer_lib.proofs.input.read_input.Reads as reads
-use Rattle.viewer_lib.proofs.input.read_input.Lts as lts
+use Rattle.input.proofs.read_input.Statement.{statement}
+use Rattle.input.proofs.read_input.Tie as tie
+use Rattle.input.proofs.read_input.Reads as reads
+use Rattle.input.proofs.read_input.Lts as lts
 use Rattle.io.proofs.count.Reads as count-reads
 use Rattle.libc.proofs.read.Reads as read-reads
 
@@ -18,11 +18,9 @@ Inv-loop buf₀ len₀ buf len = (len ≤ length buf) × (length buf ≡ length 
 abbrev μ-loop : tie.MeasureT-loop
 μ-loop buf₀ len₀ buf len = length buf - len
 
--- src/input.rt:24:13
 returns-2 : tie.Need-returns-2 Inv-loop μ-loop
 returns-2 c = (omega arith, sym (length-take-le _ _ (omega arith)))
 
--- src/input.rt:13:1
 returns-3 : tie.Need-returns-3 Inv-loop μ-loop
 returns-3 c = (omega arith, sym (length-take-le _ _ (omega arith)))
 

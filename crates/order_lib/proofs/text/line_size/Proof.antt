@@ -1,0 +1,17 @@
+-- `order_lib::text::line_size` meets its contract. Assumes nothing.
+use borrow.Author.Needs.{needs}
+use Rattle.order_lib.proofs.text.line_size.Statement.{statement}
+use Rattle.order_lib.proofs.text.line_size.Tie as tie
+use Rattle.order_lib.proofs.text.line_size.Reads as reads
+use Rattle.order_lib.proofs.text.line_size.Lts as lts
+
+-- src/text.rt:20:1
+returns : tie.Need-returns
+returns c = ?
+
+-- src/text.rt:20:1
+returns-2 : tie.Need-returns-2
+returns-2 c = ?
+
+pub line-size-spec : {M : Type 1} → statement M
+line-size-spec = tie.close (tie.spec (λ c. search needs) returns returns-2)
