@@ -6,7 +6,7 @@ use native.Mathlib.Nat.{zero-add}
 use native.Mathlib.Numerals.{add-one}
 use native.Mathlib.Omega.{arith}
 use lib.ListN.{length, getD, take, drop, set, length-set}
-use lib.Seq.{paste, paste-zero, paste-suc}
+use lib.Seq.{paste, paste-zero, paste-suc, take-length, take-at}
 
 -- the first i elements of a text are copied to the front
 pub record Copying {A : Type 0} (text old new : List A) (i : ℕ) : Type 0 where
@@ -26,6 +26,14 @@ copy-more text old new i v d c is h l =
           ∙ paste-suc old 0 text i d (omega arith) l ∙ ap (paste old 0 text) (sym (add-one i));
     }
 
-pub copy-all : {A : Type 0} (text old new : List A) (i n : ℕ) → Copying text old new i → i ≡ n
-    → new ≡ take n text ++ drop n old
-copy-all text old new i n c e = c .are ∙ ap₂ (λ a b. take a text ++ drop b old) e (zero-add i ∙ e)
+-- all of it
+pub copy-whole : {A : Type 0} (text old new : List A) (i : ℕ) → Copying text old new i → i ≡ length text
+    → new ≡ text ++ drop (length text) old
+copy-whole text old new i c e =
+    c .are ∙ ap₂ (λ a b. take a text ++ drop b old) e (zero-add i ∙ e)
+    ∙ ap (λ l. l ++ drop (length text) old) (take-length text)
+
+pub copy-front : {A : Type 0} (text old new : List A) (i n : ℕ) → Copying text old new i → i ≡ n → n ≡ length text
+    → take n new ≡ text
+copy-front text old new i n c e f =
+    ap (take n) (copy-whole text old new i c (e ∙ f)) ∙ take-at text (drop (length text) old) n (sym f)

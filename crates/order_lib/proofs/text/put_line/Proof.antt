@@ -1,4 +1,10 @@
 -- `order_lib::text::put_line` meets its contract. Assumes nothing.
+use Prim.Native.Nat.{_-_, _≤_}
+use native.Mathlib.Omega.{arith}
+use borrow.Author.Needs.{needs}
+use lib.ListN.{take}
+use Rattle.order_lib.specs.Shows.{lineOf}
+use Rattle.order_lib.proofs.CopyLaws.{Copying, copy-none, copy-more, copy-whole}
 use Rattle.order_lib.proofs.text.put_line.Statement.{statement}
 use Rattle.order_lib.proofs.text.put_line.Tie as tie
 use Rattle.order_lib.proofs.text.put_line.Reads as reads
@@ -7,46 +13,22 @@ use Rattle.order_lib.proofs.text.line_byte.Reads as line-byte-reads
 use Rattle.order_lib.proofs.text.line_size.Reads as line-size-reads
 
 abbrev Inv-loop : tie.InvT-loop
-Inv-loop positions n out₀ end i₀ out i = ?
+Inv-loop positions n out₀ end i₀ out i = (i ≤ end) × Copying (lineOf (take n positions)) out₀ out i
 
 abbrev μ-loop : tie.MeasureT-loop
-μ-loop positions n out₀ end i₀ out i = ?
+μ-loop positions n out₀ end i₀ out i = end - i
 
--- src/text.rt:49:9
-line-size-requires : tie.Need-line-size-requires Inv-loop μ-loop
-line-size-requires c κs = ?
-
--- src/text.rt:51:5
-loop-holds : tie.Need-loop-holds Inv-loop μ-loop
-loop-holds c = ?
-
--- src/text.rt:52:18
-line-byte-requires : tie.Need-line-byte-requires Inv-loop μ-loop
-line-byte-requires c κs = ?
-
--- src/text.rt:52:9
-slice-write-out : tie.Need-slice-write-out Inv-loop μ-loop
-slice-write-out c = ?
-
--- src/text.rt:53:9
-add-i : tie.Need-add-i Inv-loop μ-loop
-add-i c = ?
-
--- src/text.rt:51:5
-loop-less : tie.Need-loop-less Inv-loop μ-loop
-loop-less c = ?
-
--- src/text.rt:51:5
 loop-again : tie.Need-loop-again Inv-loop μ-loop
-loop-again c = ?
+loop-again c =
+    let l = c .before .before .loop in
+    let s = c .before .before .before .line-size .ensures in
+    (omega arith, copy-more _ _ _ _ _ 0 (l .inv .1) (c .line-byte .ensures) (omega arith) (omega arith))
 
--- src/text.rt:44:1
-same-length : tie.Need-same-length Inv-loop μ-loop
-same-length c = ?
-
--- src/text.rt:44:1
 returns : tie.Need-returns Inv-loop μ-loop
-returns c = ?
+returns c =
+    let l = c .before .loop in
+    let s = c .before .before .line-size .ensures in
+    record { bytes = copy-whole _ _ _ _ (l .inv .1) (omega arith); count = s .0 }
 
 pub put-line-spec : {M : Type 1} → statement M
 put-line-spec =
@@ -54,12 +36,12 @@ put-line-spec =
     (tie.spec
     Inv-loop
     μ-loop
-    line-size-requires
-    loop-holds
-    line-byte-requires
-    slice-write-out
-    add-i
-    loop-less
+    (λ c κs. search needs)
+    (λ c. search needs)
+    (λ c κs. search needs)
+    (λ c. search needs)
+    (λ c. search needs)
+    (λ c. search needs)
     loop-again
-    same-length
+    (λ c. search needs)
     returns)

@@ -1,0 +1,2 @@
+-- What is shown.
+use Prim.Native.Nat.{ℕ}
