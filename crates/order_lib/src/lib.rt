@@ -21,7 +21,10 @@ pub fn show() {
     let mut text = [0u8; LINE_SIZE];
     let input = read_input(&mut bytes);
     if !input.ok {
-        io::write_all(libc::STDERR_FILENO, b"study_order: cannot read standard input\n");
+        io::write_all(
+            libc::STDERR_FILENO,
+            b"study_order: cannot read standard input\n",
+        );
         return;
     }
     let len = input.len;

@@ -5,8 +5,8 @@ ghost use Prim.Native.Nat.{ℕ, _*_, _≤_, _<_};
 ghost use lib.ListN.{length, getD, take};
 ghost use Rattle.codec.specs.Area.{InFront};
 ghost use Rattle.order_lib.specs.Shows.{lineOf, Shows};
-use bytes::copy;
 use crate::words::read_words;
+use bytes::copy;
 use order::find_order;
 
 const MAX_TXNS: usize = 6;

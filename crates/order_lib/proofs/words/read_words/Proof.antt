@@ -22,9 +22,11 @@ loop-again : tie.Need-loop-again Inv-loop μ-loop
 loop-again c =
     let l = c .before .before .loop in
     let bytes = c .before .before .before .before .before .args .bytes .now in
-    let many = words-length bytes in
-    (omega arith, copy-more _ _ _ _ _ 0 (l .inv .1)
-    (c .whole-number .ensures ∙ sym (words-at bytes (l .i) (omega arith))) (omega arith) (omega arith))
+    let many = words-length bytes in (
+      omega arith,
+      copy-more _ _ _ _ _ 0 (l .inv .1)
+          (c .whole-number .ensures ∙ sym (words-at bytes (l .i) (omega arith))) (omega arith) (omega arith),
+    )
 
 returns : tie.Need-returns Inv-loop μ-loop
 returns c =
