@@ -2,18 +2,18 @@
 use Prim.Native.Nat.{ℕ, zero, suc, _+_, _*_, _≤_, _<_, suc-le-suc}
 use mathlib.Core.Bool.{Bool, true, false, not, cond, _&&_, _||_, true≢false, or-false, or-comm, and-false}
 use mathlib.Core.Logic.{⊎-elim}
-use mathlib.Core.Path.{_≡_, refl, sym, ap, ap₂, _∙_, subst, subst⁻¹}
-use mathlib.Core.List.{List, [], _∷_, _++_, map, append-nil, append-assoc, map-append, List·Memᴰ, List·Memᴰ·head, List·Memᴰ·tail}
-use mathlib.Core.List.{List·Memᴰ·cases-cons, Memᴰ·append-left, Memᴰ·append-right, Memᴰ·map}
+use mathlib.Core.Path.{_≡_, refl, sym, ap, ap₂, _∙_, subst⁻¹}
+use mathlib.Core.List.{List, [], _∷_, _++_, map, append-nil, map-append, List·Memᴰ, List·Memᴰ·head, List·Memᴰ·tail}
+use mathlib.Core.List.{Memᴰ·append-right}
 use native.Mathlib.Decide.{ℕ-discrete}
 use native.Mathlib.Numerals.{add-one}
 use native.Mathlib.Omega.{arith}
 use borrow.Author.Tests.{eq-eqb, ne-eqb, eqb-true, eqb-false}
 use lib.Dec.{eqb}
-use lib.ListN.{length, getD, take, drop, set, replicate, length-set, take-append-drop}
+use lib.ListN.{length, getD, take, drop, set, replicate, length-set}
 use lib.Seq.{take-all, take-suc, split-at, getD-take, getD-set-same, getD-set-other}
-use Rattle.rules.specs.Lists.{All, anyb, distinct, joined}
-use Rattle.rules.proofs.BoolLaws.{and-left, and-right, and-cases, or-left, or-right, or-cases, bool-cases}
+use Rattle.rules.specs.Lists.{anyb, distinct, joined}
+use Rattle.rules.proofs.BoolLaws.{and-left, and-right, or-left, or-right, or-cases}
 use Rattle.rules.proofs.ListLaws.{any-append, mem-any}
 use Rattle.order.specs.Export.{Action, writes, reads, takes, writtenBy}
 use Rattle.order.specs.Reading.{kindOf, numberOf, Arrays, slots}
@@ -87,7 +87,11 @@ distinct-more (n ∷ ns) m d new =
     let other = ne-eqb n m (λ q. eqb-false m n (or-left (eqb m n) (anyb (eqb m) ns) new) (sym q)) in
     let fresh = any-append (eqb n) ns (m ∷ []) ∙ ap (λ b. anyb (eqb n) ns || (b || false)) other
     ∙ or-false (anyb (eqb n) ns) in
-    rw (fresh, distinct-more ns m (and-right (not (anyb (eqb n) ns)) (distinct ns) d) (or-right (eqb m n) (anyb (eqb m) ns) new))
+    rw (
+      fresh,
+      distinct-more ns m (and-right (not (anyb (eqb n) ns)) (distinct ns) d)
+          (or-right (eqb m n) (anyb (eqb m) ns) new),
+    )
     (ap (λ b. b && true) (and-left (not (anyb (eqb n) ns)) (distinct ns) d))
 
 pub distinct-twice : (ns : List ℕ) (m : ℕ) (rest : List ℕ) → anyb (eqb m) ns ≡ true
@@ -118,10 +122,11 @@ writes-no-other (reads m) n h = refl
 writes-no-other (takes m) n h = refl
 
 -- the first j actions are resolved
-pub record Resolving (numbers : List ℕ) (acts : List Action) (j : ℕ) (codes : List ℕ) (written : List Bool) : Type 0 where
-  pub are-codes : take j codes ≡ map (codeIn numbers) (take j acts)
-  pub once : distinct (writtenIn (take j acts)) ≡ true
-  pub agrees : Agrees numbers written (λ n. anyb (eqb n) (writtenIn (take j acts)))
+pub record Resolving (numbers : List ℕ) (acts : List Action) (j : ℕ) (codes : List ℕ) (written : List Bool) : Type 0
+  where
+    pub are-codes : take j codes ≡ map (codeIn numbers) (take j acts)
+    pub once : distinct (writtenIn (take j acts)) ≡ true
+    pub agrees : Agrees numbers written (λ n. anyb (eqb n) (writtenIn (take j acts)))
 
 pub none-resolved : (numbers codes : List ℕ) (acts : List Action) → length numbers ≡ slots
     → Resolving numbers acts 0 codes (replicate slots false)
@@ -183,12 +188,13 @@ module _ (kinds numbers codes : List ℕ) (written : List Bool) (len j slot : �
       go (takes m) k t = absurd (true≢false (sym k))
 
   pub resolved-more : (eqb (getD kinds j 0) 1 && getD written slot false) ≡ false
-      → Resolving numbers acts (j + 1) (set codes j (4 * slot + getD kinds j 0))
+      → (code : ℕ) → code ≡ 4 * slot + getD kinds j 0
+      → Resolving numbers acts (j + 1) (set codes j code)
       (set written slot (eqb (getD kinds j 0) 1 || getD written slot false))
   unfolding a before codeIn
-  resolved-more t =
+  resolved-more t code put-is =
       record {
-        are-codes = ap (λ c. take (j + 1) (set codes j c)) code
+        are-codes = ap (λ c. take (j + 1) (set codes j c)) (put-is ∙ code-is)
             ∙ filled-more (codeIn numbers) [] codes j (take j acts) a (r .are-codes) (omega (arith, fits, as-many))
             ∙ ap (map (codeIn numbers)) (sym one-more);
         once = ap distinct written-by ∙ go a (sym (ap₂ (λ k f. eqb k 1 && f) kind-is flag-is) ∙ t);
@@ -202,8 +208,8 @@ module _ (kinds numbers codes : List ℕ) (written : List Bool) (len j slot : �
       written-by : writtenIn (take (j + 1) acts) ≡ before ++ writtenBy a
       written-by = ap writtenIn one-more ∙ joined-map-more writtenBy (take j acts) a
 
-      code : 4 * slot + getD kinds j 0 ≡ codeIn numbers a
-      code = ap₂ (λ s k. 4 * s + k) slot-is kind-is
+      code-is : 4 * slot + getD kinds j 0 ≡ codeIn numbers a
+      code-is = ap₂ (λ s k. 4 * s + k) slot-is kind-is
 
       up : Bool
       up = eqb (getD kinds j 0) 1 || getD written slot false

@@ -2,14 +2,14 @@
 use Prim.Native.Nat.{ℕ, _≤_, _<_}
 use mathlib.Core.Bool.{Bool, true, false, true≢false}
 use mathlib.Core.Path.{_≡_, refl, sym, ap, _∙_, subst, subst⁻¹}
-use mathlib.Core.List.{List, map, List·Memᴰ, Memᴰ·append-left, Memᴰ·map}
+use mathlib.Core.List.{List, List·Memᴰ, Memᴰ·append-left, Memᴰ·map}
 use native.Mathlib.Omega.{arith}
 use lib.ListN.{length, getD, take, drop, replicate, take-append-drop}
 use lib.Seq.{take-length}
 use Rattle.rules.specs.Lists.{distinct, joined}
-use Rattle.order.specs.Export.{Action, wordsOf, written, Accepted}
+use Rattle.order.specs.Export.{Action, wordsOf, written}
 use Rattle.order.specs.Reading.{numberOf, Arrays, Holds, Few, ExportRead, read, broken, slots, maxTxns}
-use Rattle.order.specs.Plan.{slotIn, Begin, Resolved, Codes, maxCode, Plan, Planned, planned, unplanned}
+use Rattle.order.specs.Plan.{slotIn, Begin, Resolved, Codes, maxCode, Planned, planned, unplanned}
 use Rattle.order.proofs.ArrayLaws.{all-same}
 use Rattle.order.proofs.PlanLaws.{slot-known}
 use Rattle.order.proofs.TxnLaws.{same-words}
@@ -33,7 +33,8 @@ not-read (broken h) f =
 
 module _ (codes : List ℕ) (ok : Bool) (c : Codes codes) where
   resolved : {words kinds numbers starts : List ℕ} (ts : List (List Action)) → words ≡ wordsOf ts → Few ts
-      → Holds ts kinds numbers starts → Resolved numbers (joined ts) ok codes → Planned words ok (length ts) codes starts
+      → Holds ts kinds numbers starts → Resolved numbers (joined ts) ok codes → Planned words ok (length ts) codes
+      starts
   unfolding written
   resolved {words} {kinds} {numbers} {starts} ts e few h r = go ok refl
     where
@@ -62,7 +63,8 @@ module _ (codes : List ℕ) (ok : Bool) (c : Codes codes) where
 
   pub is-planned : {words kinds numbers starts : List ℕ} {good : Bool} {n : ℕ}
       → ExportRead words good n kinds numbers starts
-      → good ≡ true → ((acts : List Action) → Begin kinds numbers (getD starts n 0) acts → Resolved numbers acts ok codes)
+      → good ≡ true → ((acts : List Action) → Begin kinds numbers (getD starts n 0) acts → Resolved numbers acts ok
+      codes)
       → Planned words ok n codes starts
   is-planned (read {kinds} {numbers} {starts} ts e few h) t r =
       resolved ts e few h (r (joined ts) (record {

@@ -3,12 +3,11 @@ use Prim.Native.Nat.{ℕ, zero, suc, _+_, _*_, _≤_, _<_}
 use mathlib.Core.Bool.{true, false}
 use mathlib.Core.Path.{_≡_, refl, sym, ap, ap₂, _∙_, subst}
 use mathlib.Core.List.{List, [], _∷_, _++_, map, append-assoc, append-nil}
-use native.Mathlib.Numerals.{add-one}
 use native.Mathlib.Omega.{arith}
-use lib.ListN.{length, getD, take, drop, set, length-append, length-set, length-drop}
+use lib.ListN.{length, getD, take, drop, set, length-append, length-set}
 use lib.Seq.{drop-cons, getD-drop, drop-drop}
 use Rattle.rules.specs.Lists.{joined}
-use Rattle.order.specs.Export.{Action, writes, reads, takes, actionWords, txnWords, wordsOf}
+use Rattle.order.specs.Export.{Action, writes, reads, takes, actionWords}
 use Rattle.order.specs.Reading.{kindOf, numberOf, Arrays, ActionsRead, read, broken, slots}
 use Rattle.order.proofs.ArrayLaws.{joined-map-more, at-set, filled-more}
 

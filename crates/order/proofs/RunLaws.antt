@@ -1,9 +1,9 @@
 -- The run of a plan is the serial run.
-use Prim.Native.Nat.{ℕ, zero, suc, _+_, _*_, _/_, _%_, _≤_, _<_}
+use Prim.Native.Nat.{ℕ, suc, _+_, _*_, _/_, _%_, _≤_, _<_}
 use mathlib.Core.Bool.{Bool, true, false, not, cond, _&&_, _||_, true≢false, and-true, or-false, or-true}
 use mathlib.Core.Option.{Option, none, some}
-use mathlib.Core.Path.{_≡_, refl, sym, ap, ap₂, _∙_, subst, subst⁻¹}
-use mathlib.Core.List.{List, [], _∷_, _++_, map, append-assoc, map-append, List·Memᴰ, List·Memᴰ·head, List·Memᴰ·tail}
+use mathlib.Core.Path.{_≡_, refl, sym, ap, ap₂, _∙_, subst⁻¹}
+use mathlib.Core.List.{List, [], _∷_, _++_, map, map-append, List·Memᴰ, List·Memᴰ·head, List·Memᴰ·tail}
 use mathlib.Core.List.{Memᴰ·append-left, Memᴰ·append-right}
 use native.Mathlib.Omega.{arith}
 use borrow.Author.Tests.{eq-eqb, ne-eqb, eqb-true, not-true, not-false}
@@ -12,7 +12,8 @@ use lib.ListN.{length, getD, take, drop, set, length-append, length-map, take-ap
 use lib.Seq.{slice, take-take, take-at, drop-at, take-suc, split-at}
 use Rattle.rules.specs.Lists.{All, filterb, anyb, joined}
 use Rattle.rules.specs.Records.{noMark}
-use Rattle.rules.specs.SerialRun.{Kept, Operation, adds, finds, Run, sameFields, isKept, failed, taking, carryOut, carryOutAll}
+use Rattle.rules.specs.SerialRun.{Kept, Operation, adds, finds, Run, sameFields, isKept, failed, taking, carryOut}
+use Rattle.rules.specs.SerialRun.{carryOutAll}
 use Rattle.rules.proofs.BoolLaws.{and-left, cond-cases}
 use Rattle.rules.proofs.ListLaws.{any-append, all-false, mem-filter}
 use Rattle.order.specs.Export.{Action, writes, reads, takes}
@@ -71,7 +72,8 @@ kept-other n m h k t =
 written-set : (n m : ℕ) (r : Run) → inSet (carryOut (operationOf (writes n)) r) m ≡ (inSet r m || eqb n m)
 unfolding carryOut isKept sameFields
 written-set n m r =
-    any-append (isKept m noMark) (r .kept) _ ∙ ap (λ b. inSet r m || b) (or-false (eqb n m && true) ∙ and-true (eqb n m))
+    any-append (isKept m noMark) (r .kept) _ ∙ ap (λ b. inSet r m || b)
+    (or-false (eqb n m && true) ∙ and-true (eqb n m))
 
 taken-own : (n : ℕ) (r : Run) → inSet (taking n noMark r) n ≡ false
 unfolding taking
@@ -105,7 +107,8 @@ module _ (ms : List ℕ) where
     Follows a q =
         (q .succeeds ≡ r .succeeds) × Agrees ms (set flags (slotIn ms (numberOf a)) (not (eqb (kindOf a) 3))) (inSet q)
 
-    pub step-none : (a : Action) → Known a → misses (codeIn ms a) flags ≡ true → carryOut (operationOf a) r .succeeds ≡ false
+    pub step-none : (a : Action) → Known a → misses (codeIn ms a) flags ≡ true → carryOut (operationOf a) r .succeeds ≡
+        false
     unfolding failed
     step-none (writes n) k m = absurd (true≢false (sym m ∙ misses-is (writes n) flags))
     step-none (reads n) k m =
@@ -120,27 +123,34 @@ module _ (ms : List ℕ) where
         × Agrees ms (afterCode (codeIn ms a) flags) (inSet (carryOut (operationOf a) r))
     unfolding carryOut taking
     step-some a k m =
-        subst⁻¹ (λ bs. (carryOut (operationOf a) r .succeeds ≡ r .succeeds) × Agrees ms bs (inSet (carryOut (operationOf a) r)))
+        subst⁻¹ (λ bs. (carryOut (operationOf a) r .succeeds ≡ r .succeeds) × Agrees ms bs
+        (inSet (carryOut (operationOf a) r)))
         (after-is a flags) (go a k (sym (misses-is a flags) ∙ m))
       where
         there : (n : ℕ) → slotIn ms n < length ms → not (getD flags (slotIn ms n) false) ≡ false → inSet r n ≡ true
         there n k e = sym (agrees .flag-is n k) ∙ not-false _ e
 
-        go : (a : Action) → Known a → (not (eqb (kindOf a) 1) && not (getD flags (slotIn ms (numberOf a)) false)) ≡ false
+        go : (a : Action) → Known a → (not (eqb (kindOf a) 1) && not (getD flags (slotIn ms (numberOf a)) false)) ≡
+            false
             → Follows a (carryOut (operationOf a) r)
         go (writes n) k e = (
           refl,
           agrees-put agrees (inSet (carryOut (operationOf (writes n)) r)) n k true
               (sym (written-set n n r ∙ ap (λ b. inSet r n || b) (eq-eqb n n refl) ∙ or-true (inSet r n)))
-              (λ m q. sym (written-set n m r ∙ ap (λ b. inSet r m || b) (ne-eqb n m (λ p. q (sym p))) ∙ or-false (inSet r m))),
+              (λ m q. sym (written-set n m r ∙ ap (λ b. inSet r m || b) (ne-eqb n m (λ p. q (sym p))) ∙ or-false
+              (inSet r m))),
         )
         go (reads n) k e =
             let t = there n k e in
-            subst⁻¹ (Follows (reads n)) (found-is false n r t) (refl, agrees-put agrees (inSet r) n k true (sym t) (λ m q. refl))
+            subst⁻¹ (Follows (reads n)) (found-is false n r t)
+            (refl, agrees-put agrees (inSet r) n k true (sym t) (λ m q. refl))
         go (takes n) k e =
             let t = there n k e in
-            subst⁻¹ (Follows (takes n)) (found-is true n r t)
-            (refl, agrees-put agrees (inSet (taking n noMark r)) n k false (sym (taken-own n r)) (λ m q. sym (taken-other n m r q)))
+            subst⁻¹ (Follows (takes n)) (found-is true n r t) (
+              refl,
+              agrees-put agrees (inSet (taking n noMark r)) n k false (sym (taken-own n r))
+                  (λ m q. sym (taken-other n m r q)),
+            )
 
 -- a run that has failed stays so
 failed-one : (o : Operation) (r : Run) → r .succeeds ≡ false → carryOut o r .succeeds ≡ false

@@ -1,10 +1,11 @@
 -- Laws of the search.
-use Prim.Native.Nat.{ℕ, zero, suc, _+_, _-_, _*_, _/_, _%_, _≤_, _<_}
-use mathlib.Core.Bool.{Bool, true, false, not, cond, _&&_, _||_, true≢false}
+use Prim.Native.Nat.{ℕ, zero, suc, _+_, _≤_, _<_}
+use mathlib.Core.Bool.{Bool, true, false, not, _&&_, true≢false}
 use mathlib.Core.Logic.{⊎-elim}
-use mathlib.Core.Option.{Option, none, some}
+use mathlib.Core.Option.{none, some}
 use mathlib.Core.Path.{_≡_, refl, sym, ap, ap₂, _∙_, subst, subst⁻¹}
-use mathlib.Core.List.{List, [], _∷_, List·Memᴰ, List·Memᴰ·head, List·Memᴰ·tail, List·Memᴰ·cases-cons, List·Memᴰ·not-nil}
+use mathlib.Core.List.{List, [], _∷_, List·Memᴰ, List·Memᴰ·head, List·Memᴰ·tail, List·Memᴰ·cases-cons}
+use mathlib.Core.List.{List·Memᴰ·not-nil}
 use native.Mathlib.Decide.{ℕ-discrete}
 use native.Mathlib.Numerals.{add-one}
 use native.Mathlib.Omega.{arith}
@@ -12,11 +13,12 @@ use borrow.Author.Tests.{ltb-true, eqb-true, eqb-false, ne-eqb, not-true}
 use lib.Dec.{eqb, ltb}
 use lib.ListN.{length, getD, take, drop, set, length-take, length-set, drop-of-length-le}
 use lib.Seq.{slice, slice-cons, drop-cons, take-set-lt, drop-set-lt, getD-set-same, getD-set-other}
-use Rattle.rules.specs.Lists.{All, anyb, distinct}
+use Rattle.rules.specs.Lists.{anyb, distinct}
 use Rattle.rules.proofs.BoolLaws.{and-left, and-right, or-cases}
 use Rattle.rules.proofs.ListLaws.{all-false, none-mem}
 use Rattle.order.specs.Orders.{comesBefore}
-use Rattle.order.specs.Search.{misses, afterCode, afterCodes, afterTxn, told, goes, OrderOf, Searched, found, none-found}
+use Rattle.order.specs.Search.{misses, afterCode, afterCodes, afterTxn, told, goes, OrderOf, Searched, found}
+use Rattle.order.specs.Search.{none-found}
 
 -- the codes from j on: the first one's entry is missing, or it is carried out, or there is none
 module _ (codes : List ℕ) (to : ℕ) (fits : to ≤ length codes) where
@@ -67,7 +69,8 @@ order-tail {n} {d} {left} {p} {ps} o =
       positions = λ q i. let at = o .positions q (List·Memᴰ·tail i) in (
         at .0,
         getD-set-other left p q false false
-            (λ e. eqb-false p q (none-mem (eqb p) (not-true _ (and-left (not (anyb (eqb p) ps)) (distinct ps) (o .once))) i)
+            (λ e. eqb-false p q (none-mem (eqb p)
+            (not-true _ (and-left (not (anyb (eqb p) ps)) (distinct ps) (o .once))) i)
             (sym e)) ∙ at .1,
       );
       once = and-right (not (anyb (eqb p) ps)) (distinct ps) (o .once);
@@ -86,7 +89,8 @@ order-cons {n} {d} {left} {p} {ps} h l o =
     }
   where
     other : (q : ℕ) → List·Memᴰ q ps → q ≡ p → ⊥
-    other q i e = true≢false (sym (subst (λ m. getD (set left p false) m false ≡ true) e (o .positions q i .1)) ∙ placed left p)
+    other q i e = true≢false (sym (subst (λ m. getD (set left p false) m false ≡ true) e (o .positions q i .1)) ∙
+        placed left p)
 
 module _ (codes starts : List ℕ) (n d : ℕ) (left present : List Bool) where
   -- every order that begins below p fails
@@ -96,7 +100,8 @@ module _ (codes starts : List ℕ) (n d : ℕ) (left present : List Bool) where
   pub none-tried : Tried 0
   none-tried = record { fails = λ q qs h o. absurd (omega arith) }
 
-  try-more : (p : ℕ) → Tried p → ((qs : List ℕ) → OrderOf n d left (p ∷ qs) → goes codes starts (p ∷ qs) present ≡ false)
+  try-more : (p : ℕ) → Tried p → ((qs : List ℕ) → OrderOf n d left (p ∷ qs) → goes codes starts (p ∷ qs) present ≡
+      false)
       → Tried (p + 1)
   try-more p t f = record { fails = λ q qs h o. go q qs h o (ℕ-discrete q p) }
     where
@@ -147,7 +152,8 @@ module _ (codes starts : List ℕ) (n d : ℕ) (left present : List Bool) where
         (λ r. let same = eqb-true q p (and-left (eqb q p) (comesBefore qs ps) r) in
         subst⁻¹ (λ m. goes codes starts (m ∷ qs) present ≡ false) same
         (goes-on p after ok e run qs
-        ∙ first qs (order-tail (subst (λ m. OrderOf n d left (m ∷ qs)) same o)) (and-right (eqb q p) (comesBefore qs ps) r)))
+        ∙ first qs (order-tail (subst (λ m. OrderOf n d left (m ∷ qs)) same o))
+        (and-right (eqb q p) (comesBefore qs ps) r)))
         (or-cases (ltb q p) (eqb q p && comesBefore qs ps) b)
 
     pub is-found : p < n → getD left p false ≡ true → good ≡ true → d < n → n ≤ length order
@@ -161,7 +167,8 @@ module _ (codes starts : List ℕ) (n d : ℕ) (left present : List Bool) where
             ap (drop d) (take-set-lt n order d p below)
             ∙ drop-cons (set (take n order) d p) d 0 (omega (arith, length-set (take n order) d p))
             ∙ ap₂ {C = List ℕ} (λ x y. x ∷ y) (getD-set-same (take n order) d p 0 (omega arith))
-            (drop-set-lt (suc d) (take n order) d p (omega arith) ∙ ap (λ k. drop k (take n order)) (sym (add-one d)) ∙ at)
+            (drop-set-lt (suc d) (take n order) d p (omega arith) ∙ ap (λ k. drop k (take n order)) (sym (add-one d)) ∙
+            at)
 
         go : {good : Bool} {order : List ℕ} → Searched codes starts n (d + 1) (set left p false) after good order
             → good ≡ true → d < n → n ≤ length order → Searched codes starts n d left present true (set order d p)
@@ -178,7 +185,8 @@ module _ (codes starts : List ℕ) (n d : ℕ) (left present : List Bool) where
       found [] (drop-of-length-le (take n order) {i = d} (omega arith))
       (record { as-many = omega arith; positions = λ p i. absurd (List·Memᴰ·not-nil i); once = refl }) refl none-before
     where
-      none-before : (qs : List ℕ) → OrderOf n d left qs → comesBefore qs [] ≡ true → goes codes starts qs present ≡ false
+      none-before : (qs : List ℕ) → OrderOf n d left qs → comesBefore qs [] ≡ true → goes codes starts qs present ≡
+          false
       none-before [] o b = absurd (true≢false (sym b))
       none-before (q ∷ qs) o b = absurd (true≢false (sym b))
 

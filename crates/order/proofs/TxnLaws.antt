@@ -3,7 +3,7 @@ use Prim.Native.Nat.{ℕ, zero, suc, _+_, _*_, _≤_, _<_, suc-le-suc}
 use mathlib.Core.Bool.{Bool, true, false, true≢false}
 use mathlib.Core.Logic.{⊎-elim}
 use mathlib.Core.Path.{_≡_, refl, sym, ap, ap₂, _∙_, subst, subst⁻¹}
-use mathlib.Core.List.{List, [], _∷_, _++_, map, append-assoc, append-nil, map-append, List·Memᴰ, List·Memᴰ·head, List·Memᴰ·tail}
+use mathlib.Core.List.{List, [], _∷_, _++_, map, append-assoc, append-nil, map-append, List·Memᴰ, List·Memᴰ·head}
 use mathlib.Core.List.{List·Memᴰ·not-nil, List·Memᴰ·append-cases, List·Memᴰ·eq-of-singleton, Memᴰ·append-right}
 use native.Mathlib.Numerals.{add-one}
 use native.Mathlib.Omega.{arith}
@@ -13,7 +13,8 @@ use lib.ListN.{length, getD, take, drop, set, replicate, length-append, length-s
 use lib.Seq.{drop-cons, drop-drop, getD-drop, drop-at, take-all, take-append-le, getD-set-same, getD-set-other}
 use Rattle.rules.specs.Lists.{All, joined}
 use Rattle.order.specs.Export.{Action, actionWords, txnWords, wordsOf}
-use Rattle.order.specs.Reading.{kindOf, numberOf, Arrays, ActionsRead, Holds, Few, ExportRead, read, broken, slots, maxTxns, maxActions}
+use Rattle.order.specs.Reading.{kindOf, numberOf, Arrays, ActionsRead, Holds, Few, ExportRead, read, broken}
+use Rattle.order.specs.Reading.{slots, maxTxns, maxActions}
 use Rattle.order.proofs.ArrayLaws.{joined-more, joined-map-more, at-set, all-same}
 use Rattle.order.proofs.ReadLaws.{actionsIn, read-back, words-length}
 
@@ -76,7 +77,12 @@ no-txns-read words =
       short = λ x i. absurd (List·Memᴰ·not-nil i);
       count = refl;
       holds = record {
-        arrays = record { as-many-kinds = refl; as-many-numbers = refl; kinds-below = λ j. suc-le-suc (zero-at slots j 3) };
+        arrays = record {
+          as-many-kinds = refl;
+          as-many-numbers = refl;
+          kinds-below = λ j. suc-le-suc
+              (zero-at slots j 3);
+        };
         are-kinds = refl;
         are-numbers = refl;
         as-many-starts = refl;
@@ -182,7 +188,8 @@ module _ (words kinds numbers starts : List ℕ) (at len t n : ℕ) (r : Reading
 
   rest-is : t ≤ n → Behind (r .done) ts (drop at words)
   unfolding wordsOf
-  rest-is h = behind (r .done) ts (drop at words) (sym (r .stand-for) ∙ ap (drop 1) e) (omega (arith, r .as-many, count-is))
+  rest-is h = behind (r .done) ts (drop at words) (sym (r .stand-for) ∙ ap (drop 1) e)
+      (omega (arith, r .as-many, count-is))
 
   rest-count : (b : Behind (r .done) ts (drop at words)) → t + length (b .rest) ≡ n
   rest-count b = omega (arith, r .as-many, count-is, ap length (b .are), length-append (r .done) (b .rest))
@@ -205,7 +212,8 @@ module _ (words kinds numbers starts : List ℕ) (at len t n : ℕ) (r : Reading
       go (acts ∷ rest) are stand c =
           let tail = joined (map txnWords rest) in
           let size = length-append (joined (map actionWords acts)) tail in
-          wrong acts tail (sym (getD-drop at words 0 0 ∙ ap (λ m. getD words m 0) (add-zero at)) ∙ ap (λ l. getD l 0 0) stand)
+          wrong acts tail (sym (getD-drop at words 0 0 ∙ ap (λ m. getD words m 0) (add-zero at)) ∙ ap (λ l. getD l 0 0)
+          stand)
           (omega (arith, ap length stand, length-drop at words, words-length acts))
           (sym (drop-drop 1 at words) ∙ ap (drop 1) stand)
           (few .actions acts (subst⁻¹ (List·Memᴰ acts) are (Memᴰ·append-right (r .done) (List·Memᴰ·head refl))))

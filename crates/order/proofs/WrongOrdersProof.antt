@@ -14,7 +14,7 @@ use Rattle.rules.specs.SerialRun.{sameFields, isKept, failed, taking, carryOut,
 use Rattle.rules.proofs.ListLaws.{none-mem}
 use Rattle.order.specs.Export.{Action, writes, reads, takes, txnWords, wordsOf, written, Accepted}
 use Rattle.order.specs.Orders.{operationsAt, succeeds, IsOrder, comesBefore, First, NoneSucceeds}
-use Rattle.order.specs.Found.{HandedIn, OrderFound, found, none-found, refused}
+use Rattle.order.specs.Found.{OrderFound, found, none-found, refused}
 use Rattle.order.specs.WrongOrders.{WrongOrders}
 use Rattle.order.proofs.TxnLaws.{same-words}
 
@@ -85,14 +85,16 @@ take-and-write : List (List Action)
 take-and-write = (takes 5 ∷ []) ∷ (writes 5 ∷ []) ∷ []
 
 pub each-wrong : WrongOrders
-unfolding wordsOf txnWords written distinct take-and-write succeeds operationsAt carryOutAll carryOut isKept sameFields failed taking comesBefore
+unfolding wordsOf txnWords written distinct take-and-write succeeds operationsAt carryOutAll carryOut isKept sameFields
+    failed taking comesBefore
 each-wrong =
     record {
       last-order = λ a.
           let ts : List (List Action) = (writes 5 ∷ []) ∷ (writes 6 ∷ []) ∷ [] in
           let o = one ts refl a refl in
           let is = are ts refl o in
-          true≢false (subst (First ts) is (o .first) .first (0 ∷ 1 ∷ []) (is-order ts (0 ∷ 1 ∷ []) refl refl refl) refl);
+          true≢false (subst (First ts) is (o .first) .first (0 ∷ 1 ∷ []) (is-order ts (0 ∷ 1 ∷ []) refl refl refl)
+          refl);
       take-before-write = λ a.
           let o = one take-and-write refl a refl in
           let is = are take-and-write refl o in
@@ -105,7 +107,8 @@ each-wrong =
           let o = one ts refl a refl in
           let is = only-zero (o .positions) (o .first .order .as-many) (o .first .order .positions) in
           true≢false (sym (subst (First ts) is (o .first) .good));
-      twice-in-one = λ o a. true≢false (sym (one ((writes 5 ∷ writes 5 ∷ []) ∷ []) refl a refl .accepted .written-once));
+      twice-in-one = λ o a. true≢false
+          (sym (one ((writes 5 ∷ writes 5 ∷ []) ∷ []) refl a refl .accepted .written-once));
       twice-in-two = λ o a.
           true≢false (sym (one ((writes 5 ∷ []) ∷ (writes 5 ∷ []) ∷ []) refl a refl .accepted .written-once));
       seven = λ o a.

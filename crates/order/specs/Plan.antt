@@ -8,7 +8,7 @@ use lib.Dec.{eqb}
 use lib.ListN.{length, getD, take}
 use Rattle.rules.specs.Lists.{All, distinct, joined}
 use Rattle.order.specs.Export.{Action, writtenBy, wordsOf, Accepted}
-use Rattle.order.specs.Reading.{kindOf, numberOf, maxTxns, slots}
+use Rattle.order.specs.Reading.{kindOf, numberOf, slots}
 
 -- where a number stands first
 unfoldable pub slotIn : List ℕ → ℕ → ℕ

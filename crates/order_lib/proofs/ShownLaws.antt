@@ -13,7 +13,7 @@ use Rattle.rules.specs.Lists.{All}
 use Rattle.order.specs.Export.{wordsOf}
 use Rattle.order.specs.Found.{OrderFound, found, none-found, refused}
 use Rattle.order.proofs.ArrayLaws.{all-same}
-use Rattle.order_lib.specs.Shows.{wordsIn, lineOf, noneText, refusedText, textOf, Told, answered, no-words, Shows}
+use Rattle.order_lib.specs.Shows.{wordsIn, lineOf, noneText, refusedText, textOf, answered, no-words, Shows}
 
 pub not-whole : {bytes old new : List ℕ} {n : ℕ} → (length bytes % 4 ≡ 0 → ⊥) → InFront true refusedText old new n
     → Shows bytes old new n
@@ -22,7 +22,13 @@ not-whole h p = record { text = refusedText; told = no-words h; printed = p }
 -- the text lies within its buffer
 pub shown-within : {bytes old new : List ℕ} {n : ℕ} → Shows bytes old new n → n ≤ length new
 shown-within {old = old} s =
-    omega (arith, s .printed .count, ap length (s .printed .bytes), length-append (s .text) (drop (length (s .text)) old))
+    omega (
+      arith,
+      s .printed .count,
+      ap length (s .printed .bytes),
+      length-append (s .text)
+          (drop (length (s .text)) old),
+    )
 
 -- an answer to the words of some bytes
 module _ {bytes words : List ℕ} {r : ℕ} {o : List ℕ} (a : OrderFound words (replicate 6 0) r o)

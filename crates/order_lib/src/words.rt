@@ -8,7 +8,8 @@ use codec::whole_number;
 // As many whole words as the bytes have, in front of `words`. Returns how many.
 pub(crate) fn read_words(bytes: &[u8], words: &mut [u32]) -> usize
     requires { ⌜ length (now bytes) ≤ 4 * length (now words) ⌝ }
-    ensures { λ r. ⌜ (r ≡ length (now (bytes .entry)) / 4) × (take r (now (words .exit)) ≡ wordsIn (now (bytes .entry))) ⌝ }
+    ensures { λ r. ⌜ (r ≡ length (now (bytes .entry)) / 4)
+        × (take r (now (words .exit)) ≡ wordsIn (now (bytes .entry))) ⌝ }
 {
     let count = bytes.len() / 4;
     let mut i: usize = 0;

@@ -18,12 +18,13 @@ within : (c : tie.Else2) → (c .before .before .before .plan-of .result .n ≤ 
     × Within (c .before .before .before .plan-of .result .codes) (c .before .before .before .plan-of .result .starts)
 within c = plan-within (c .before .before .before .plan-of .ensures) (not-false _ (c .before .if1 .left))
 
--- the positions that are copied are n
-fit : (c : tie.After-positions) → c .before .before .before .before .before .before .before .before .before .before .before .plan-of .result .n ≤ length (c .before .before .before .search .result .order)
+-- the positions that are copied are there
+fit : (c : tie.After-search) → c .before .before .before .before .before .before .before .before .plan-of .result .n ≤
+    length (c .search .result .order)
 fit c =
-    let f = c .before .before .before .search in
-    let six : length (f .result .order) ≡ maxTxns = sym (length-map (f .result .order) _) ∙ f .ok .1 .1 .1 .0 .1 .0 .1 in
-    let w = within (c .before .before .before .before .before .before .before .before) .0 in
+    let order = c .search .result .order in
+    let six : length order ≡ maxTxns = sym (length-map order _) ∙ c .search .ok .1 .1 .1 .0 .1 .0 .1 in
+    let w = within (c .before .before .before .before .before) .0 in
     omega arith
 
 returns-3 : tie.Need-returns-3
@@ -34,10 +35,11 @@ returns-3 c =
 
 returns-4 : tie.Need-returns-4
 returns-4 c =
-    let e = c .before .before .before .before .before .before .before .before .before .before .before .before .before in
-    subst⁻¹ (OrderFound _ _ 1) (c .before .before .copy .ensures .1 ∙ in-front _ _ _ (fit (c .before .before .before .before .before)))
+    let s = c .before .before .before .before .before .before .before .before in
+    let e = s .before .before .before .before .before in
+    subst⁻¹ (OrderFound _ _ 1) (c .before .before .copy .ensures .1 ∙ in-front _ _ _ (fit s))
     (looked _ _ _ _ (e .before .before .before .plan-of .ensures) (not-false _ (e .before .if1 .left)) (e .if2 .left)
-    (c .before .before .before .before .before .before .before .before .search .ensures) .1 (not-false _ (c .before .before .before .before .before .before .if3 .left)))
+    (s .search .ensures) .1 (not-false _ (c .before .before .before .before .before .before .if3 .left)))
 
 pub find-order-spec : {M : Type 1} → statement M
 find-order-spec =
@@ -45,13 +47,17 @@ find-order-spec =
     (tie.spec
     (λ c κs. search needs)
     (λ c. not-planned _ _ (c .before .before .plan-of .ensures) (not-true _ (c .if1 .taken)))
-    (λ c. no-room _ _ (c .before .before .before .plan-of .ensures) (not-false _ (c .before .if1 .left)) (c .if2 .taken))
+    (λ c.
+    let p = c .before .before .before in
+    no-room _ _ (p .plan-of .ensures) (not-false _ (c .before .if1 .left)) (c .if2 .taken))
     (λ c κs. let w = within (c .before .before .before .before) in (omega arith, w .0, w .1))
     returns-3
-    (λ c. fit c)
-    (λ c. sym (length-take-le _ _ (fit (c .before))))
+    (λ c. fit (c .before .before .before))
+    (λ c. sym (length-take-le _ _ (fit (c .before .before .before .before))))
     (λ c κs.
-    let room = c .before .before .before .before .before .before .before .before .before .before .before .before .before .before .before .before .args .order .now in
-    subst⁻¹ (λ k. k ≤ length room) (length-take-le _ _ (fit (c .before .before))) (c .before .before .before .before .before .before .before .before .before .before .if2 .left))
+    let s = c .before .before .before .before .before in
+    let e = s .before .before .before .before .before in
+    let order = e .before .before .before .before .before .before .args .order .now in
+    subst⁻¹ (λ k. k ≤ length order) (length-take-le _ _ (fit s)) (e .if2 .left))
     (λ c. search needs)
     returns-4)

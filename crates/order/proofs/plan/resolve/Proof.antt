@@ -1,26 +1,21 @@
 -- `order::plan::resolve` meets its contract. Assumes nothing.
 use Prim.Native.Nat.{_+_, _-_, _*_, _≤_, _<_}
-use mathlib.Core.Bool.{false, _||_, true≢false}
-use mathlib.Core.Path.{_≡_, sym, subst⁻¹}
+use mathlib.Core.Bool.{true≢false}
+use mathlib.Core.Path.{sym, ap}
 use mathlib.Core.List.{List}
 use native.Mathlib.Omega.{arith}
 use borrow.Author.Needs.{needs}
-use lib.Dec.{eqb}
-use lib.ListN.{getD, set}
 use Rattle.order.specs.Export.{Action}
 use Rattle.order.specs.Reading.{slots}
 use Rattle.order.specs.Plan.{Begin, Codes}
 use Rattle.order.proofs.PlanLaws.{Resolving, none-resolved, written-twice, resolved-more, code-put, all-resolved}
 use Rattle.order.proofs.plan.resolve.Statement.{statement}
 use Rattle.order.proofs.plan.resolve.Tie as tie
-use Rattle.order.proofs.plan.resolve.Reads as reads
-use Rattle.order.proofs.plan.resolve.Lts as lts
-use Rattle.order.proofs.plan.slot_of.Reads as slot-of-reads
-use Rattle.order.proofs.plan.wide.Reads as wide-reads
 
 abbrev Inv-loop : tie.InvT-loop
 Inv-loop kinds numbers len codes₀ written₀ j₀ codes written j =
-    (j ≤ len) × Codes codes × ((acts : List Action) → Begin kinds numbers len acts → Resolving numbers acts j codes written)
+    (j ≤ len) × Codes codes
+    × ((acts : List Action) → Begin kinds numbers len acts → Resolving numbers acts j codes written)
 
 abbrev μ-loop : tie.MeasureT-loop
 μ-loop kinds numbers len codes₀ written₀ j₀ codes written j = len - j
@@ -41,9 +36,11 @@ returns c =
       l .inv .1,
     )
 
-small : (c : tie.After-wide Inv-loop μ-loop) → (c .before .before .before .slot-of .result < slots) × (c .wide .result < 4)
+small : (c : tie.After-wide Inv-loop μ-loop) → (c .before .before .before .slot-of .result < slots) ×
+    (c .wide .result < 4)
 small c =
-    let low = c .before .before .before .before .before .before .pre .1 .kinds-below (c .before .before .before .before .before .loop .j) in
+    let h = c .before .before .before .before .before in
+    let low = h .before .pre .1 .kinds-below (h .loop .j) in
     (omega (arith, c .before .before .before .slot-of .ensures .1), omega (arith, c .wide .ensures))
 
 add-codes : tie.Need-add-codes Inv-loop μ-loop
@@ -59,12 +56,9 @@ loop-again c =
     let slot = c .before .before .before .slot-of in (
       omega arith,
       code-put _ _ _ _ (l .inv .1) (small c .0) (small c .1),
-      λ acts b. subst⁻¹
-          (λ k. Resolving (s .args .numbers .now) acts (l .j + 1) (set (l .codes) (l .j) (4 * slot .result + k))
-          (set (l .written) (slot .result)
-          (eqb (getD (s .args .kinds .now) (l .j) 0) 1 || getD (l .written) (slot .result) false))) (c .wide .ensures)
-          (resolved-more _ _ _ _ _ _ _ acts (s .pre .1) (l .inv .1 .as-many) b (omega arith) (omega arith)
-          (l .inv .2 acts b) (slot .ensures .0) (small c .0) (c .before .if1 .left)),
+      λ acts b. resolved-more _ _ _ _ _ _ _ acts (s .pre .1) (l .inv .1 .as-many) b (omega arith) (omega arith)
+          (l .inv .2 acts b) (slot .ensures .0) (small c .0) (c .before .if1 .left) _
+          (ap (λ k. 4 * slot .result + k) (c .wide .ensures)),
     )
 
 returns-2 : tie.Need-returns-2 Inv-loop μ-loop

@@ -8,8 +8,6 @@ use lib.ListN.{getD}
 use Rattle.order.proofs.PlanLaws.{slot-first}
 use Rattle.order.proofs.plan.slot_of.Statement.{statement}
 use Rattle.order.proofs.plan.slot_of.Tie as tie
-use Rattle.order.proofs.plan.slot_of.Reads as reads
-use Rattle.order.proofs.plan.slot_of.Lts as lts
 
 abbrev Inv-loop : tie.InvT-loop
 Inv-loop numbers j number i₀ i = (i ≤ j) × ((m : ℕ) → m < i → getD numbers m 0 ≡ number → ⊥)
@@ -30,8 +28,11 @@ returns-2 : tie.Need-returns-2 Inv-loop μ-loop
 returns-2 c =
     let l = c .before .loop in
     let s = c .before .before .before in
-    let all : l .i ≡ s .args .j = omega arith in
-    (slot-first (s .args .numbers .now) _ (s .args .j) (omega arith) refl (λ m h. l .inv .1 m (omega arith)), omega arith)
+    let all : l .i ≡ s .args .j = omega arith in (
+      slot-first (s .args .numbers .now) _ (s .args .j) (omega arith) refl (λ m h. l .inv .1 m (omega arith)),
+      omega
+          arith,
+    )
 
 pub slot-of-spec : {M : Type 1} → statement M
 slot-of-spec =

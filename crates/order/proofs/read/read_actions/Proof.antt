@@ -1,14 +1,10 @@
 -- `order::read::read_actions` meets its contract. Assumes nothing.
-use Prim.Native.Nat.{ℕ, _-_, _≤_, _<_}
-use mathlib.Core.Path.{_≡_}
+use Prim.Native.Nat.{_-_, _≤_}
 use native.Mathlib.Omega.{arith}
 use borrow.Author.Needs.{needs}
-use lib.ListN.{length}
 use Rattle.order.proofs.ReadLaws.{Reading, none-read, one-more, all-read, no-kind}
 use Rattle.order.proofs.read.read_actions.Statement.{statement}
 use Rattle.order.proofs.read.read_actions.Tie as tie
-use Rattle.order.proofs.read.read_actions.Reads as reads
-use Rattle.order.proofs.read.read_actions.Lts as lts
 
 abbrev Inv-loop : tie.InvT-loop
 Inv-loop words at k len kinds₀ numbers₀ i₀ kinds numbers i =

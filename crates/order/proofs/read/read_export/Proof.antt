@@ -1,20 +1,16 @@
 -- `order::read::read_export` meets its contract. Assumes nothing.
-use Prim.Native.Nat.{ℕ, _-_, _*_, _≤_, _<_}
-use mathlib.Core.Path.{_≡_, sym, _∙_}
+use Prim.Native.Nat.{_-_, _*_, _≤_}
+use mathlib.Core.Path.{sym, _∙_}
 use native.Mathlib.Omega.{arith}
 use borrow.Author.Needs.{needs}
 use borrow.Author.Tests.{not-true, not-false}
 use lib.ListN.{length}
 use Rattle.order.specs.Reading.{maxActions}
-use Rattle.order.proofs.TxnLaws.{ReadingTxns, no-txns-read, one-more-txn, no-txn, left-over, no-actions, refuse, no-words}
+use Rattle.order.proofs.TxnLaws.{ReadingTxns, no-txns-read, one-more-txn, no-txn, left-over, no-actions}
+use Rattle.order.proofs.TxnLaws.{refuse, no-words}
 use Rattle.order.proofs.TxnLaws.{too-many, all-txns-read}
 use Rattle.order.proofs.read.read_export.Statement.{statement}
 use Rattle.order.proofs.read.read_export.Tie as tie
-use Rattle.order.proofs.read.read_export.Reads as reads
-use Rattle.order.proofs.read.read_export.Lts as lts
-use Rattle.order.proofs.read.no_export.Reads as no-export-reads
-use Rattle.order.proofs.read.read_actions.Reads as read-actions-reads
-use Rattle.order.proofs.read.size.Reads as size-reads
 
 abbrev Inv-loop : tie.InvT-loop
 Inv-loop words broken n kinds₀ numbers₀ starts₀ at₀ len₀ t₀ kinds numbers starts at len t =
@@ -28,7 +24,8 @@ returns c = refuse (c .before .no-export .ensures) (λ ts e few. no-words _ (c .
 
 returns-2 : tie.Need-returns-2 Inv-loop μ-loop
 returns-2 c =
-    refuse (c .before .before .before .before .no-export .ensures) (too-many _ _ (c .before .size .ensures .0) (c .if2 .taken))
+    refuse (c .before .before .before .before .no-export .ensures)
+    (too-many _ _ (c .before .size .ensures .0) (c .if2 .taken))
 
 loop-holds : tie.Need-loop-holds Inv-loop μ-loop
 loop-holds c = (

@@ -1,6 +1,6 @@
 -- `order::run::run_codes` meets its contract. Assumes nothing.
-use Prim.Native.Nat.{ℕ, _-_, _≤_, _<_}
-use mathlib.Core.Path.{_≡_, sym, ap, _∙_}
+use Prim.Native.Nat.{_-_, _<_}
+use mathlib.Core.Path.{_≡_, sym, _∙_}
 use native.Mathlib.Omega.{arith}
 use borrow.Author.Needs.{needs}
 use lib.ListN.{length, length-set}
@@ -10,9 +10,6 @@ use Rattle.order.specs.Search.{misses, afterCode, afterCodes}
 use Rattle.order.proofs.SearchLaws.{missing, carried, ended}
 use Rattle.order.proofs.run.run_codes.Statement.{statement}
 use Rattle.order.proofs.run.run_codes.Tie as tie
-use Rattle.order.proofs.run.run_codes.Reads as reads
-use Rattle.order.proofs.run.run_codes.Lts as lts
-use Rattle.order.proofs.plan.wide.Reads as wide-reads
 
 abbrev Inv-loop : tie.InvT-loop
 Inv-loop codes from to present₀ j₀ present j =
@@ -35,7 +32,8 @@ unfolding misses
 returns c =
     let l = c .before .before .before .before .loop in
     let s = c .before .before .before .before .before in
-    sym (l .inv .1 ∙ missing (s .args .codes .now) (s .args .to) (omega arith) (l .j) (omega arith) (l .present) (rw (c .before .wide .ensures) at (c .if1 .taken)))
+    sym (l .inv .1 ∙ missing (s .args .codes .now) (s .args .to) (omega arith) (l .j) (omega arith) (l .present)
+    (rw (c .before .wide .ensures) at (c .if1 .taken)))
 
 array-write-present : tie.Need-array-write-present Inv-loop μ-loop
 array-write-present c = small (c .before)
@@ -46,7 +44,8 @@ loop-again c =
     let l = c .before .before .before .before .loop in
     let s = c .before .before .before .before .before in (
       simp length-set (l .inv .0),
-      l .inv .1 ∙ carried (s .args .codes .now) (s .args .to) (omega arith) (l .j) (omega arith) (l .present) (rw (c .before .wide .ensures) at (c .if1 .left))
+      l .inv .1 ∙ carried (s .args .codes .now) (s .args .to) (omega arith) (l .j) (omega arith) (l .present)
+          (rw (c .before .wide .ensures) at (c .if1 .left))
           ∙ rw (c .before .wide .ensures),
     )
 

@@ -1,5 +1,5 @@
--- `order::search::search` meets its contract. The measure is how many transactions are left; the loop's invariant: every
--- order that begins with a position below `next` fails. Assumes nothing.
+-- `order::search::search` meets its contract. The measure is how many transactions are left; the loop's invariant:
+-- every order that begins with a position below `next` fails. Assumes nothing.
 use Prim.Native.Nat.{ℕ, _+_, _-_, _<_}
 use mathlib.Core.Path.{_≡_, sym, _∙_}
 use native.Mathlib.Omega.{arith}
@@ -59,9 +59,10 @@ pub +search-spec : {M : Type 1} → statement M
     (s .pre .1 .2 .starts-within (c .before .before .before .before .loop .next + 1), s .pre .1 .2 .codes-within))
     (λ c. omega arith)
     (λ c.
-    let r = c .before .before .run-codes in
-    not-run _ _ _ _ _ _ _ (c .before .before .before .before .before .before .before .loop .inv) (r .result .present) (r .result .ok) (r .ensures)
-    (not-true (r .result .ok) (c .if3 .taken)))
+    let r = c .before .before in
+    not-run _ _ _ _ _ _ _ (r .before .before .before .before .before .loop .inv) (r .run-codes .result .present)
+    (r .run-codes .result .ok)
+    (r .run-codes .ensures) (not-true (r .run-codes .result .ok) (c .if3 .taken)))
     (λ c. omega arith)
     (λ c. search needs)
     (λ c κs.
@@ -70,19 +71,26 @@ pub +search-spec : {M : Type 1} → statement M
     (λ c. search needs)
     (λ c. omega arith)
     (λ c.
-    let h = c .before .before .before .before .before .before .before .before .before .before .before in
-    let r = c .before .before .before .before .before .before .run-codes in
-    let f = c .before .before .search in
-    is-found _ _ _ _ _ _ _ (h .loop .inv) (r .result .present) (r .result .ok) (r .ensures)
-    (not-false (r .result .ok) (c .before .before .before .before .if3 .left)) (f .ensures) (c .before .before .before .before .before .before .before .before .before .before .loop-test .taken) (not-false _ (c .before .before .before .before .before .before .before .before .before .if2 .left))
-    (c .before .if4 .taken) (omega (arith, h .before .if1 .left, h .before .before .pre))
-    (let six : length (f .result .order) ≡ 6 = sym (length-map (f .result .order) _) ∙ f .ok .1 .1 .1 .0 .1 .0 .1 in
-    omega (arith, h .before .before .pre)))
+    let f = c .before .before in
+    let r = f .before .before .before .before in
+    let h = r .before .before .before .before .before in
+    let ran = r .run-codes .result in
+    let order = f .search .result .order in
+    let six : length order ≡ 6 = sym (length-map order _) ∙ f .search .ok .1 .1 .1 .0 .1 .0 .1 in
+    is-found _ _ _ _ _ _ _ (h .loop .inv) (ran .present) (ran .ok) (r .run-codes .ensures)
+    (not-false (ran .ok) (f .before .before .if3 .left)) (f .search .ensures)
+    (r .before .before .before .before .loop-test .taken)
+    (not-false _ (r .before .before .before .if2 .left)) (c .before .if4 .taken)
+    (omega (arith, h .before .if1 .left, h .before .before .pre)) (omega (arith, h .before .before .pre)))
     (λ c. omega arith)
     (λ c.
-    let r = c .before .before .before .before .before .run-codes in
-    not-found _ _ _ _ _ _ _ (c .before .before .before .before .before .before .before .before .before .before .loop .inv) (r .result .present) (r .result .ok) (r .ensures)
-    (not-false (r .result .ok) (c .before .before .before .if3 .left)) (c .before .search .ensures) (c .if4 .left))
+    let f = c .before in
+    let r = f .before .before .before .before in
+    let ran = r .run-codes .result in
+    not-found _ _ _ _ _ _ _ (r .before .before .before .before .before .loop .inv) (ran .present) (ran .ok)
+    (r .run-codes .ensures)
+    (not-false (ran .ok) (f .before .before .if3 .left)) (f .search .ensures) (c .if4 .left))
     (λ c.
     let h = c .before in
-    all-tried _ _ _ _ _ _ _ _ (h .loop .inv) (omega arith) (omega (arith, h .before .if1 .left, h .before .before .pre)))
+    let below = h .before .if1 .left in
+    all-tried _ _ _ _ _ _ _ _ (h .loop .inv) (omega arith) (omega (arith, h .before .before .pre)))

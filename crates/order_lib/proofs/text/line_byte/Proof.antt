@@ -5,8 +5,6 @@ use native.Mathlib.Omega.{arith}
 use Rattle.order_lib.proofs.LineLaws.{byte-none, byte-digit, byte-blank, byte-end}
 use Rattle.order_lib.proofs.text.line_byte.Statement.{statement}
 use Rattle.order_lib.proofs.text.line_byte.Tie as tie
-use Rattle.order_lib.proofs.text.line_byte.Reads as reads
-use Rattle.order_lib.proofs.text.line_byte.Lts as lts
 
 -- src/text.rt:35:9
 returns : tie.Need-returns
@@ -21,7 +19,8 @@ add-result c =
 
 -- src/text.rt:38:9
 returns-2 : tie.Need-returns-2
-returns-2 c = byte-digit _ _ (c .before .before .before .pre .0) _ (c .before .before .if1 .left) (c .before .if2 .taken)
+returns-2 c = byte-digit _ _ (c .before .before .before .pre .0) _ (c .before .before .if1 .left)
+    (c .before .if2 .taken)
 
 -- src/text.rt:28:1
 returns-3 : tie.Need-returns-3
@@ -29,7 +28,8 @@ returns-3 c = byte-blank _ _ (c .before .before .before .pre .0) _ (c .before .i
 
 -- src/text.rt:28:1
 returns-4 : tie.Need-returns-4
-returns-4 c = byte-end _ _ (c .before .before .before .pre .0) _ (c .before .before .if1 .left) (c .before .if2 .left) (c .if3 .left)
+returns-4 c = byte-end _ _ (c .before .before .before .pre .0) _ (c .before .before .if1 .left) (c .before .if2 .left)
+    (c .if3 .left)
 
 pub line-byte-spec : {M : Type 1} → statement M
 line-byte-spec =

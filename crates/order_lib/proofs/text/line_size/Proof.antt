@@ -4,8 +4,6 @@ use native.Mathlib.Omega.{arith}
 use Rattle.order_lib.proofs.LineLaws.{size-none, size-some}
 use Rattle.order_lib.proofs.text.line_size.Statement.{statement}
 use Rattle.order_lib.proofs.text.line_size.Tie as tie
-use Rattle.order_lib.proofs.text.line_size.Reads as reads
-use Rattle.order_lib.proofs.text.line_size.Lts as lts
 
 -- src/text.rt:20:1
 returns : tie.Need-returns

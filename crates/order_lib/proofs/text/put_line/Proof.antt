@@ -4,13 +4,9 @@ use native.Mathlib.Omega.{arith}
 use borrow.Author.Needs.{needs}
 use lib.ListN.{take}
 use Rattle.order_lib.specs.Shows.{lineOf}
-use Rattle.order_lib.proofs.CopyLaws.{Copying, copy-none, copy-more, copy-whole}
+use Rattle.order_lib.proofs.CopyLaws.{Copying, copy-more, copy-whole}
 use Rattle.order_lib.proofs.text.put_line.Statement.{statement}
 use Rattle.order_lib.proofs.text.put_line.Tie as tie
-use Rattle.order_lib.proofs.text.put_line.Reads as reads
-use Rattle.order_lib.proofs.text.put_line.Lts as lts
-use Rattle.order_lib.proofs.text.line_byte.Reads as line-byte-reads
-use Rattle.order_lib.proofs.text.line_size.Reads as line-size-reads
 
 abbrev Inv-loop : tie.InvT-loop
 Inv-loop positions n out₀ end i₀ out i = (i ≤ end) × Copying (lineOf (take n positions)) out₀ out i

@@ -5,12 +5,9 @@ use borrow.Author.Needs.{needs}
 use mathlib.Core.Path.{refl, sym, _∙_}
 use Rattle.order_lib.proofs.WordLaws.{words-length, words-at}
 use Rattle.order_lib.specs.Shows.{wordsIn}
-use Rattle.order_lib.proofs.CopyLaws.{Copying, copy-none, copy-more, copy-front}
+use Rattle.order_lib.proofs.CopyLaws.{Copying, copy-more, copy-front}
 use Rattle.order_lib.proofs.words.read_words.Statement.{statement}
 use Rattle.order_lib.proofs.words.read_words.Tie as tie
-use Rattle.order_lib.proofs.words.read_words.Reads as reads
-use Rattle.order_lib.proofs.words.read_words.Lts as lts
-use Rattle.codec.proofs.whole_number.Reads as whole-number-reads
 
 abbrev Inv-loop : tie.InvT-loop
 Inv-loop bytes words₀ count i₀ words i = (i ≤ count) × Copying (wordsIn bytes) words₀ words i
