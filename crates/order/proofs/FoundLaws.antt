@@ -12,10 +12,10 @@ use Rattle.order.specs.Export.{Action}
 use Rattle.order.specs.Orders.{IsOrder, succeeds, First, NoneSucceeds}
 use Rattle.order.specs.Found.{HandedIn, OrderFound, found, none-found, refused}
 use Rattle.order.specs.Reading.{slots, maxTxns}
-use Rattle.order.specs.Plan.{slotIn, Plan, Within, Planned, planned, unplanned}
+use Rattle.order.specs.Plan.{Plan, Within, Planned, planned, unplanned}
 use Rattle.order.specs.Search as search
 use Rattle.order.specs.Search.{OrderOf, Searched, goes}
-use Rattle.order.proofs.ArrayLaws.{all-same}
+use Rattle.order.proofs.PlanLaws.{no-flags}
 use Rattle.order.proofs.RunLaws.{goes-is}
 use Rattle.order.proofs.TxnLaws.{same-words}
 
@@ -36,25 +36,25 @@ order-of ts few o =
 is-order : (ts : List (List Action)) {qs : List ℕ} → OrderOf (length ts) 0 (replicate maxTxns true) qs → IsOrder ts qs
 is-order ts o = record { as-many = omega (arith, o .as-many); positions = λ q i. o .positions q i .0; once = o .once }
 
-module _ (ts : List (List Action)) (codes starts : List ℕ) (plan : Plan ts codes starts) (few : length ts ≤ maxTxns)
-  where
-    -- an order goes through exactly where it succeeds
-    goes-there : (qs : List ℕ) → IsOrder ts qs → goes codes starts qs (replicate slots false) ≡ succeeds ts qs
-    unfolding succeeds
-    goes-there qs o =
-        goes-is ts codes starts plan qs (o .positions) (replicate slots false) start
-        (record { as-many = sym (plan .as-many); flag-is = λ n k. all-same slots false (slotIn (plan .numbers) n) }) refl
+module _ (ts : List (List Action)) (codes starts : List ℕ) (plan : Plan ts codes starts)
+    (few : length ts ≤ maxTxns) where
+  -- an order goes through exactly where it succeeds
+  goes-there : (qs : List ℕ) → IsOrder ts qs → goes codes starts qs (replicate slots false) ≡ succeeds ts qs
+  unfolding succeeds
+  goes-there qs o =
+      goes-is ts codes starts plan qs (o .positions) (replicate slots false) start
+      (no-flags (plan .numbers) (plan .as-many)) refl
 
-    first-found : {order : List ℕ} → Looked codes starts (length ts) true order → First ts (take (length ts) order)
-    first-found (search.found ps at o g first) =
-        subst⁻¹ (First ts) at (record {
-          order = is-order ts o;
-          good = sym (goes-there ps (is-order ts o)) ∙ g;
-          first = λ qs q b. sym (goes-there qs q) ∙ first qs (order-of ts few q) b;
-        })
+  first-found : {order : List ℕ} → Looked codes starts (length ts) true order → First ts (take (length ts) order)
+  first-found (search.found ps at o g first) =
+      subst⁻¹ (First ts) at (record {
+        order = is-order ts o;
+        good = sym (goes-there ps (is-order ts o)) ∙ g;
+        first = λ qs q b. sym (goes-there qs q) ∙ first qs (order-of ts few q) b;
+      })
 
-    none-there : {order : List ℕ} → Looked codes starts (length ts) false order → NoneSucceeds ts
-    none-there (search.none-found h) = λ qs q. sym (goes-there qs q) ∙ h qs (order-of ts few q)
+  none-there : {order : List ℕ} → Looked codes starts (length ts) false order → NoneSucceeds ts
+  none-there (search.none-found h) = λ qs q. sym (goes-there qs q) ∙ h qs (order-of ts few q)
 
 -- the first n positions, copied
 pub in-front : (n : ℕ) (positions order : List ℕ) → n ≤ length positions

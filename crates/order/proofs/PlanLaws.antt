@@ -57,6 +57,9 @@ pub record Agrees (ms : List ℕ) (flags : List Bool) (test : ℕ → Bool) : Ty
   pub as-many : length flags ≡ length ms
   pub flag-is : (n : ℕ) → slotIn ms n < length ms → getD flags (slotIn ms n) false ≡ test n
 
+pub no-flags : (ms : List ℕ) → length ms ≡ slots → Agrees ms (replicate slots false) (λ n. false)
+no-flags ms l = record { as-many = sym l; flag-is = λ n k. all-same slots false (slotIn ms n) }
+
 -- one number's flag is put
 pub agrees-put : {ms : List ℕ} {flags : List Bool} {test : ℕ → Bool} → Agrees ms flags test
     → (test′ : ℕ → Bool) (m : ℕ) → slotIn ms m < length ms → (up : Bool) → up ≡ test′ m
@@ -135,7 +138,7 @@ none-resolved numbers codes acts l =
     record {
       are-codes = refl;
       once = refl;
-      agrees = record { as-many = sym l; flag-is = λ n k. all-same slots false (slotIn numbers n) };
+      agrees = no-flags numbers l;
     }
 
 -- the next one

@@ -59,5 +59,4 @@ find-order-spec =
     let e = s .before .before .before .before .before in
     let order = e .before .before .before .before .before .before .args .order .now in
     subst⁻¹ (λ k. k ≤ length order) (length-take-le _ _ (fit s)) (e .if2 .left))
-    (λ c. search needs)
-    returns-4)
+    (λ c. search needs) returns-4)

@@ -92,34 +92,8 @@ pub read-export-spec : {M : Type 1} → statement M
 read-export-spec =
     tie.close
     (tie.spec
-    Inv-loop
-    μ-loop
-    (λ c κs. search needs)
-    returns
-    (λ c. search needs)
-    (λ c κs. search needs)
-    returns-2
-    loop-holds
-    returns-3
-    (λ c. search needs)
-    (λ c. search needs)
-    (λ c κs. search needs)
-    returns-4
-    (λ c. search needs)
-    (λ c. search needs)
-    (λ c. search needs)
-    returns-5
-    (λ c. search needs)
-    (λ c κs. search needs)
-    returns-6
-    (λ c. search needs)
-    (λ c. search needs)
-    (λ c. search needs)
-    (λ c. search needs)
-    (λ c. search needs)
-    (λ c. search needs)
-    (λ c. search needs)
-    (λ c. search needs)
-    loop-again
-    returns-7
-    returns-8)
+    Inv-loop μ-loop (λ c κs. search needs) returns (λ c. search needs) (λ c κs. search needs) returns-2 loop-holds
+    returns-3 (λ c. search needs) (λ c. search needs) (λ c κs. search needs) returns-4 (λ c. search needs)
+    (λ c. search needs) (λ c. search needs) returns-5 (λ c. search needs) (λ c κs. search needs) returns-6
+    (λ c. search needs) (λ c. search needs) (λ c. search needs) (λ c. search needs) (λ c. search needs)
+    (λ c. search needs) (λ c. search needs) (λ c. search needs) loop-again returns-7 returns-8)

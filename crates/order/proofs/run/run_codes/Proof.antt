@@ -59,15 +59,5 @@ pub run-codes-spec : {M : Type 1} → statement M
 run-codes-spec =
     tie.close
     (tie.spec
-    Inv-loop
-    μ-loop
-    (λ c. search needs)
-    (λ c. search needs)
-    (λ c κs. search needs)
-    array-read-if1
-    returns
-    array-write-present
-    (λ c. search needs)
-    (λ c. search needs)
-    loop-again
-    returns-2)
+    Inv-loop μ-loop (λ c. search needs) (λ c. search needs) (λ c κs. search needs) array-read-if1 returns
+    array-write-present (λ c. search needs) (λ c. search needs) loop-again returns-2)

@@ -41,19 +41,12 @@ pub +search-spec : {M : Type 1} → statement M
 )
     (search-at t)
     search′.Post
-    search-Inv-loop
-    search-μ-loop
+    search-Inv-loop search-μ-loop
     (λ c. all-placed _ _ _ _ _ _ _ (c .if1 .taken))
     (λ c. none-tried _ _ _ _ _ _)
-    (λ c. search needs)
-    (λ c. omega arith)
-    (λ c. omega arith)
+    (λ c. search needs) (λ c. omega arith) (λ c. omega arith)
     (λ c. not-left _ _ _ _ _ _ _ (c .before .before .loop .inv) (not-true _ (c .if2 .taken)))
-    (λ c. search needs)
-    (λ c. omega arith)
-    (λ c. search needs)
-    (λ c. search needs)
-    (λ c. omega arith)
+    (λ c. search needs) (λ c. omega arith) (λ c. search needs) (λ c. search needs) (λ c. omega arith)
     (λ c κs.
     let s = c .before .before .before .before .before .before in
     (s .pre .1 .2 .starts-within (c .before .before .before .before .loop .next + 1), s .pre .1 .2 .codes-within))
@@ -63,13 +56,11 @@ pub +search-spec : {M : Type 1} → statement M
     not-run _ _ _ _ _ _ _ (r .before .before .before .before .before .loop .inv) (r .run-codes .result .present)
     (r .run-codes .result .ok)
     (r .run-codes .ensures) (not-true (r .run-codes .result .ok) (c .if3 .taken)))
-    (λ c. omega arith)
-    (λ c. search needs)
+    (λ c. omega arith) (λ c. search needs)
     (λ c κs.
     let s = c .before .before .before .before .before .before .before .before .before .before in
     (omega (arith, s .pre), (omega (arith, s .pre), s .pre .1 .1, s .pre .1 .2)))
-    (λ c. search needs)
-    (λ c. omega arith)
+    (λ c. search needs) (λ c. omega arith)
     (λ c.
     let f = c .before .before in
     let r = f .before .before .before .before in

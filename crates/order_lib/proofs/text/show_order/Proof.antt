@@ -68,34 +68,17 @@ unfolding read
 show-order-spec =
     tie.close
     (tie.spec
-    (λ c. search needs)
-    (λ c κs. search needs)
-    (λ c. search needs)
+    (λ c. search needs) (λ c κs. search needs) (λ c. search needs)
     (λ c. not-whole (c .before .before .before .before .before .if1 .taken)
     (record { bytes = c .before .before .copy .ensures .1; count = c .before .before .copy .ensures .0 }))
-    (λ c κs. search needs)
-    (λ c. search needs)
+    (λ c κs. search needs) (λ c. search needs)
     (λ c.
     let e = c .before .before .before .read-words .ensures in
     e .0 ∙ sym (words-length _) ∙ ap length (sym (e .1)))
-    (λ c. search needs)
-    (λ c κs. search needs)
-    (λ c. search needs)
-    (λ c κs. search needs)
-    (λ c. search needs)
-    (λ c. search needs)
-    returns-2
-    (λ c. search needs)
-    (λ c κs. search needs)
-    (λ c. search needs)
-    (λ c. search needs)
-    returns-3
-    (λ c. search needs)
+    (λ c. search needs) (λ c κs. search needs) (λ c. search needs) (λ c κs. search needs) (λ c. search needs)
+    (λ c. search needs) returns-2 (λ c. search needs) (λ c κs. search needs) (λ c. search needs) (λ c. search needs)
+    returns-3 (λ c. search needs)
     (λ c.
     let r = read (c .before .before) .read-words in
     omega (arith, found (c .before .before) .some, length-take (r .result) (r .last .1 .0)))
-    (λ c κs. search needs)
-    put-line-requires
-    (λ c. search needs)
-    (λ c. search needs)
-    returns-4)
+    (λ c κs. search needs) put-line-requires (λ c. search needs) (λ c. search needs) returns-4)
