@@ -1,6 +1,6 @@
 -- Reading transactions from words.
 use Prim.Native.Nat.{ℕ, zero, suc, _+_, _*_, _≤_, _<_, suc-le-suc}
-use mathlib.Core.Bool.{Bool, true, false, true≢false}
+use mathlib.Core.Bool.{Bool, true, false, _&&_, true≢false}
 use mathlib.Core.Logic.{⊎-elim}
 use mathlib.Core.Path.{_≡_, refl, sym, ap, ap₂, _∙_, subst, subst⁻¹}
 use mathlib.Core.List.{List, [], _∷_, _++_, map, append-assoc, append-nil, map-append, List·Memᴰ, List·Memᴰ·head}
@@ -9,14 +9,50 @@ use native.Mathlib.Numerals.{add-one}
 use native.Mathlib.Omega.{arith}
 use native.Mathlib.Decide.{ℕ-discrete}
 use native.Mathlib.Nat.{add-zero}
+use borrow.Author.Tests.{lt-ltb, le-ltb, lt-leb, le-leb, ltb-true, leb-true}
+use lib.Dec.{leb, ltb}
 use lib.ListN.{length, getD, take, drop, set, replicate, length-append, length-set, length-drop, drop-of-length-le}
 use lib.Seq.{drop-cons, drop-drop, getD-drop, drop-at, take-all, take-append-le, getD-set-same, getD-set-other}
 use Rattle.rules.specs.Lists.{All, joined}
+use Rattle.rules.proofs.BoolLaws.{and-left, and-right}
 use Rattle.order.specs.Export.{Action, actionWords, txnWords, wordsOf}
+use Rattle.order.specs.Reading.{hasTxn}
 use Rattle.order.specs.Reading.{kindOf, numberOf, Arrays, ActionsRead, Holds, Few, ExportRead, read, broken}
 use Rattle.order.specs.Reading.{slots, maxTxns, maxActions}
 use Rattle.order.proofs.ArrayLaws.{joined-more, joined-map-more, at-set, all-same}
 use Rattle.order.proofs.ReadLaws.{actionsIn, read-back, words-length}
+
+-- a transaction's count and its pairs are there, or not
+module _ (words : List ℕ) (at k : ℕ) (is : k ≡ getD words at 0) where
+  pub too-large : at < length words → maxActions < k → false ≡ hasTxn words at
+  unfolding hasTxn
+  too-large h l = sym (rw (lt-ltb at (length words) h, lt-leb (getD words at 0) maxActions (omega arith)))
+
+  pub pairs-there : at < length words → k ≤ maxActions → leb (at + 1 + 2 * k) (length words) ≡ hasTxn words at
+  unfolding hasTxn
+  pairs-there h l =
+      ap (λ m. leb (at + 1 + 2 * m) (length words)) is
+      ∙ sym (rw (lt-ltb at (length words) h, le-leb (getD words at 0) maxActions (omega arith)))
+
+  pub has-txn : hasTxn words at ≡ true → (at < length words) × (k ≤ maxActions) × (at + (1 + 2 * k) ≤ length words)
+  unfolding hasTxn
+  has-txn t =
+      let m = getD words at 0 in
+      let both = and-left (ltb at (length words) && leb m maxActions) (leb (at + 1 + 2 * m) (length words)) t in
+      let below = ltb-true at (length words) (and-left (ltb at (length words)) (leb m maxActions) both) in
+      let few = leb-true m maxActions (and-right (ltb at (length words)) (leb m maxActions) both) in
+      let fits = leb-true (at + 1 + 2 * m) (length words)
+      (and-right (ltb at (length words) && leb m maxActions) (leb (at + 1 + 2 * m) (length words)) t) in
+      (omega arith, omega arith, omega arith)
+
+  pub no-txn-there : hasTxn words at ≡ false → at + (1 + 2 * k) ≤ length words → k ≤ maxActions → ⊥
+  no-txn-there f fits l =
+      let t = pairs-there (omega arith) l in
+      true≢false (sym (le-leb (at + 1 + 2 * k) (length words) (omega arith)) ∙ t ∙ f)
+
+pub past-end : (words : List ℕ) (at : ℕ) → length words ≤ at → false ≡ hasTxn words at
+unfolding hasTxn
+past-end words at h = sym (rw (le-ltb at (length words) h))
 
 -- the words of a transaction and what follows tell both
 pub same-txn : (a b : List Action) (x y : List ℕ) → txnWords a ++ x ≡ txnWords b ++ y → (a ≡ b) × (x ≡ y)

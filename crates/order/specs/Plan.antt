@@ -18,7 +18,7 @@ slotIn (m ∷ ms) n = let later = slotIn ms n in cond (eqb m n) 0 (suc later)
 unfoldable pub codeIn : List ℕ → Action → ℕ
 codeIn numbers a = 4 * slotIn numbers (numberOf a) + kindOf a
 
--- what a code may be: its slot is one of the present ones
+-- codes are below this: a slot is below 48, and a kind below 4
 abbrev pub maxCode : ℕ
 maxCode = 4 * slots
 
@@ -33,17 +33,18 @@ pub record Resolved (numbers : List ℕ) (acts : List Action) (good : Bool) (cod
   pub once : good ≡ distinct (joined (map writtenBy acts))
   pub are-codes : good ≡ true → take (length acts) codes ≡ map (codeIn numbers) acts
 
--- an array of codes whose slots are within the arrays
+-- an array of codes
 pub record Codes (codes : List ℕ) : Type 0 where
   pub as-many : length codes ≡ slots
   pub below : (j : ℕ) → getD codes j 0 < maxCode
 
--- a plan that can be run
+-- a plan that can be run: codes and starts are within their arrays
 pub record Within (codes starts : List ℕ) : Type 0 where
   pub codes-within : Codes codes
   pub starts-within : (p : ℕ) → getD starts p 0 ≤ slots
 
--- the plan of transactions
+-- the plan of transactions: the codes of their actions, one after another, by the slots among some numbers; `starts` is
+-- as in `Holds`
 pub record Plan (ts : List (List Action)) (codes starts : List ℕ) : Type 0 where
   pub numbers : List ℕ
   pub within : Within codes starts

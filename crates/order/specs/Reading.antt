@@ -1,8 +1,9 @@
 -- What reading the words ensures: the actions, side by side in two arrays, and where each transaction's begin.
 use Prim.Native.Nat.{ℕ, _+_, _*_, _≤_, _<_}
-use mathlib.Core.Bool.{Bool, true, false}
+use mathlib.Core.Bool.{Bool, true, false, _&&_}
 use mathlib.Core.Path.{_≡_}
 use mathlib.Core.List.{List, _++_, map}
+use lib.Dec.{leb, ltb}
 use lib.ListN.{length, getD, take, drop}
 use Rattle.rules.specs.Lists.{All, joined}
 use Rattle.order.specs.Export.{Action, writes, reads, takes, actionWords, wordsOf}
@@ -16,6 +17,12 @@ maxActions = 8
 
 abbrev pub slots : ℕ
 slots = 48
+
+-- whether a number of at most 8 stands at a place, and so many pairs of words behind it
+unfoldable pub hasTxn : List ℕ → ℕ → Bool
+hasTxn words at =
+    let k = getD words at 0 in
+    ltb at (length words) && leb k maxActions && leb (at + 1 + 2 * k) (length words)
 
 -- an action's kind and number
 abbrev pub kindOf : Action → ℕ

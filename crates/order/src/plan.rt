@@ -1,4 +1,5 @@
-// The plan of a search: each action as 4 × slot + kind.
+// The plan of a search: each action as 4 × slot + kind. A number's slot is where it stands first among those handed in,
+// so that the search compares no numbers.
 ghost use mathlib.Core.Path.{_≡_};
 ghost use mathlib.Core.List.{List};
 ghost use Prim.Native.Nat.{ℕ, _≤_, _<_};
@@ -11,6 +12,7 @@ use crate::read::SLOTS;
 use crate::read::WRITE;
 use crate::read::read_export;
 
+// The codes of the actions of n transactions, laid out as in `Export`.
 pub(crate) struct Plan {
     pub(crate) ok: bool,
     pub(crate) n: usize,
@@ -24,7 +26,7 @@ pub(crate) fn wide(x: u8) -> usize
     x as usize
 }
 
-// Where the number at j stands first.
+// Where the number at j stands first: its slot.
 fn slot_of(numbers: &[u32; SLOTS], j: usize) -> usize
     requires { ⌜ (j < slots) × (length (now numbers) ≡ slots) ⌝ }
     ensures { λ r. ⌜ (r ≡ slotIn (now (numbers .entry)) (getD (now (numbers .entry)) j 0)) × (r ≤ j) ⌝ }

@@ -3,7 +3,7 @@ ghost use mathlib.Core.Path.{_≡_};
 ghost use mathlib.Core.Bool.{false};
 ghost use Prim.Native.Nat.{_+_, _*_, _≤_, _<_};
 ghost use lib.ListN.{length, drop};
-ghost use Rattle.order.specs.Reading.{Arrays, ActionsRead, ExportRead, slots};
+ghost use Rattle.order.specs.Reading.{Arrays, ActionsRead, ExportRead, hasTxn, slots};
 
 pub(crate) const MAX_TXNS: usize = 6;
 
@@ -35,6 +35,20 @@ fn size(x: u32) -> usize
     ensures { λ r. ⌜ (r ≡ x) × (r < 4294967296) ⌝ }
 {
     x as usize
+}
+
+// Whether a number of at most 8 stands at `at`, and so many pairs of words behind it.
+fn has_txn(words: &[u32], at: usize) -> bool
+    ensures { λ r. ⌜ r ≡ hasTxn (now (words .entry)) at ⌝ }
+{
+    if words.len() <= at {
+        return false;
+    }
+    let k = size(words[at]);
+    if MAX_ACTIONS < k {
+        return false;
+    }
+    at + 1 + 2 * k <= words.len()
 }
 
 // k actions from `at` on, stored from `len` on; false if one is of another kind.
@@ -97,16 +111,10 @@ pub(crate) fn read_export(words: &[u32]) -> Export
     let mut len: usize = 0;
     let mut t: usize = 0;
     while t < n {
-        if words.len() <= at {
+        if !has_txn(words, at) {
             return broken;
         }
         let k = size(words[at]);
-        if MAX_ACTIONS < k {
-            return broken;
-        }
-        if words.len() < at + 1 + 2 * k {
-            return broken;
-        }
         if !read_actions(words, at + 1, k, len, &mut kinds, &mut numbers) {
             return broken;
         }

@@ -1,6 +1,6 @@
 -- `order::read::read_export` meets its contract. Assumes nothing.
-use Prim.Native.Nat.{_-_, _*_, _≤_}
-use mathlib.Core.Path.{sym, _∙_}
+use Prim.Native.Nat.{_+_, _-_, _*_, _≤_, _<_}
+use mathlib.Core.Path.{refl, sym, _∙_}
 use native.Mathlib.Omega.{arith}
 use borrow.Author.Needs.{needs}
 use borrow.Author.Tests.{not-true, not-false}
@@ -8,7 +8,7 @@ use lib.ListN.{length}
 use Rattle.order.specs.Reading.{maxActions}
 use Rattle.order.proofs.TxnLaws.{ReadingTxns, no-txns-read, one-more-txn, no-txn, left-over, no-actions}
 use Rattle.order.proofs.TxnLaws.{refuse, no-words}
-use Rattle.order.proofs.TxnLaws.{too-many, all-txns-read}
+use Rattle.order.proofs.TxnLaws.{has-txn, no-txn-there, too-many, all-txns-read}
 use Rattle.order.proofs.read.read_export.Statement.{statement}
 use Rattle.order.proofs.read.read_export.Tie as tie
 
@@ -35,55 +35,58 @@ loop-holds c = (
   no-txns-read _,
 )
 
+-- where no transaction stands
 returns-3 : tie.Need-returns-3 Inv-loop μ-loop
 returns-3 c =
-    let h = c .before .before in
+    let h = c .before .before .before in
+    let none = sym (c .before .has-txn .ensures) ∙ not-true _ (c .if3 .taken) in
     refuse (h .before .before .before .before .before .no-export .ensures)
     (λ ts e few. no-txn _ _ _ _ _ _ _ _ (h .loop .inv .3) (h .before .before .size .ensures .0) ts e (omega arith) few
-    (λ acts tail k s b l. omega arith))
+    (λ acts tail k s b l. no-txn-there _ _ (length acts) (sym k) none s l))
+
+-- where one stands
+below : (c : tie.Else3 Inv-loop μ-loop) → c .before .before .before .loop .at < length
+    (c .before .before .before .before .before .before .before .before .before .before .args .words .now)
+below c = has-txn _ _ _ refl (sym (c .before .has-txn .ensures) ∙ not-false _ (c .if3 .left)) .0
+
+fits : (c : tie.After-size2 Inv-loop μ-loop) → (c .size2 .result ≤ maxActions)
+    × (c .before .before .before .before .before .loop .at + (1 + 2 * c .size2 .result) ≤ length
+    (c .before .before .before .before .before .before .before .before .before .before .before .before .args .words .now))
+fits c =
+    let e = c .before .before in
+    let f = has-txn _ _ _ (c .size2 .ensures .0) (sym (e .before .has-txn .ensures) ∙ not-false _ (e .if3 .left)) in
+    (f .1, f .2)
 
 returns-4 : tie.Need-returns-4 Inv-loop μ-loop
 returns-4 c =
-    let h = c .before .before .before .before .before in
+    let k = c .before .before .before .before in
+    let h = k .before .before .before .before .before in
     refuse (h .before .before .before .before .before .no-export .ensures)
     (λ ts e few. no-txn _ _ _ _ _ _ _ _ (h .loop .inv .3) (h .before .before .size .ensures .0) ts e (omega arith) few
-    (λ acts tail k s b l. omega (arith, c .before .size2 .ensures .0)))
-
-returns-5 : tie.Need-returns-5 Inv-loop μ-loop
-returns-5 c =
-    let h = c .before .before .before .before .before .before in
-    refuse (h .before .before .before .before .before .no-export .ensures)
-    (λ ts e few. no-txn _ _ _ _ _ _ _ _ (h .loop .inv .3) (h .before .before .size .ensures .0) ts e (omega arith) few
-    (λ acts tail k s b l. omega (arith, c .before .before .size2 .ensures .0)))
-
-returns-6 : tie.Need-returns-6 Inv-loop μ-loop
-returns-6 c =
-    let h = c .before .before .before .before .before .before .before .before .before .before in
-    refuse (h .before .before .before .before .before .no-export .ensures)
-    (λ ts e few. no-txn _ _ _ _ _ _ _ _ (h .loop .inv .3) (h .before .before .size .ensures .0) ts e (omega arith) few
-    (λ acts tail k s b l. no-actions (c .before .read-actions .ensures) (not-true _ (c .if6 .taken)) acts tail b
-    (sym k ∙ sym (c .before .before .before .before .before .before .size2 .ensures .0))))
+    (λ acts tail n s b l. no-actions (c .before .read-actions .ensures) (not-true _ (c .if4 .taken)) acts tail b
+    (sym n ∙ sym (k .size2 .ensures .0))))
 
 loop-again : tie.Need-loop-again Inv-loop μ-loop
 loop-again c =
-    let h = c .before .before .before .before .before .before .before .before .before .before in
-    let k = c .before .before .before .before .before .before .size2 .ensures .0 in (
+    let k = c .before .before .before .before in
+    let h = k .before .before .before .before .before in
+    let f = fits k in (
       omega arith,
       omega arith,
       omega arith,
-      one-more-txn _ _ _ _ _ _ _ _ _ _ (h .loop .inv .3) (omega arith) k (omega arith) (omega arith) (omega arith)
-          (c .before .read-actions .ensures) (not-false _ (c .if6 .left)),
+      one-more-txn _ _ _ _ _ _ _ _ _ _ (h .loop .inv .3) (below (k .before .before)) (k .size2 .ensures .0) (f .0)
+          (omega arith) (omega arith) (c .before .read-actions .ensures) (not-false _ (c .if4 .left)),
     )
 
-returns-7 : tie.Need-returns-7 Inv-loop μ-loop
-returns-7 c =
+returns-5 : tie.Need-returns-5 Inv-loop μ-loop
+returns-5 c =
     let h = c .before .before in
     refuse (h .before .before .before .before .before .no-export .ensures)
     (λ ts e few. left-over _ _ _ _ _ _ _ _ (h .loop .inv .3) (h .before .before .size .ensures .0) ts e (omega arith)
-    (c .if7 .taken))
+    (c .if5 .taken))
 
-returns-8 : tie.Need-returns-8 Inv-loop μ-loop
-returns-8 c =
+returns-6 : tie.Need-returns-6 Inv-loop μ-loop
+returns-6 c =
     let h = c .before .before in
     all-txns-read _ _ _ _ _ _ _ _ (h .loop .inv .3) (h .before .before .size .ensures .0) (omega arith) (omega arith)
     (omega arith) (omega arith)
@@ -93,7 +96,20 @@ read-export-spec =
     tie.close
     (tie.spec
     Inv-loop μ-loop (λ c κs. search needs) returns (λ c. search needs) (λ c κs. search needs) returns-2 loop-holds
-    returns-3 (λ c. search needs) (λ c. search needs) (λ c κs. search needs) returns-4 (λ c. search needs)
-    (λ c. search needs) (λ c. search needs) returns-5 (λ c. search needs) (λ c κs. search needs) returns-6
-    (λ c. search needs) (λ c. search needs) (λ c. search needs) (λ c. search needs) (λ c. search needs)
-    (λ c. search needs) (λ c. search needs) (λ c. search needs) loop-again returns-7 returns-8)
+    (λ c κs. search needs) returns-3
+    (λ c. let b = below c in omega arith)
+    (λ c. below (c .before))
+    (λ c κs. search needs)
+    (λ c. let f = fits c in omega arith)
+    (λ c κs.
+    let f = fits (c .before .before) in
+    (omega arith, omega arith, c .before .before .before .before .before .before .before .loop .inv .3 .holds .arrays))
+    returns-4
+    (λ c. let f = fits (c .before .before .before .before) in omega arith)
+    (λ c. let f = fits (c .before .before .before .before) in omega arith)
+    (λ c. let f = fits (c .before .before .before .before) in omega arith)
+    (λ c. let f = fits (c .before .before .before .before) in omega arith)
+    (λ c. search needs)
+    (λ c. search needs)
+    (λ c. search needs)
+    (λ c. search needs) loop-again returns-5 returns-6)
