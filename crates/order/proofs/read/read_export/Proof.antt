@@ -1,6 +1,7 @@
 -- `order::read::read_export` meets its contract. Assumes nothing.
-use Prim.Native.Nat.{_+_, _-_, _*_, _≤_, _<_}
+use Prim.Native.Nat.{ℕ, _+_, _-_, _*_, _≤_, _<_}
 use mathlib.Core.Path.{refl, sym, _∙_}
+use mathlib.Core.List.{List}
 use native.Mathlib.Omega.{arith}
 use borrow.Author.Needs.{needs}
 use borrow.Author.Tests.{not-true, not-false}
@@ -45,13 +46,14 @@ returns-3 c =
     (λ acts tail k s b l. no-txn-there _ _ (length acts) (sym k) none s l))
 
 -- where one stands
-below : (c : tie.Else3 Inv-loop μ-loop) → c .before .before .before .loop .at < length
-    (c .before .before .before .before .before .before .before .before .before .before .args .words .now)
+abbrev words : tie.At-loop Inv-loop μ-loop → List ℕ
+words h = h .before .before .before .before .before .before .before .args .words .now
+
+below : (c : tie.Else3 Inv-loop μ-loop) → c .before .before .before .loop .at < length (words (c .before .before .before))
 below c = has-txn _ _ _ refl (sym (c .before .has-txn .ensures) ∙ not-false _ (c .if3 .left)) .0
 
 fits : (c : tie.After-size2 Inv-loop μ-loop) → (c .size2 .result ≤ maxActions)
-    × (c .before .before .before .before .before .loop .at + (1 + 2 * c .size2 .result) ≤ length
-    (c .before .before .before .before .before .before .before .before .before .before .before .before .args .words .now))
+    × (c .before .before .before .before .before .loop .at + (1 + 2 * c .size2 .result) ≤ length (words (c .before .before .before .before .before)))
 fits c =
     let e = c .before .before in
     let f = has-txn _ _ _ (c .size2 .ensures .0) (sym (e .before .has-txn .ensures) ∙ not-false _ (e .if3 .left)) in
