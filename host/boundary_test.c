@@ -1,7 +1,7 @@
 /* Document 01's sample tray through the C boundary, byte by byte, and its printed lines to standard output; null
  * pointers; what each function leaves in its buffers; the headers' builders, names and layout of the words; the lengths
  * of frames; the oldest entry first; blanks; renewals; registrations and their bells; the clock face; how big an area a
- * tray wants. */
+ * tray wants; orders. */
 #include <stdlib.h>
 #include "lines.h"
 #include "space_frames.h"
@@ -118,7 +118,7 @@ static void build_frames(void)
         check((strcmp(space_operation_name((uint8_t)operation), "?") != 0) == there_is, "the operations' names");
         int is_kind = (operation >= 1 && operation <= 12) || operation == 15;
         check((strcmp(space_record_name((uint8_t)operation), "?") != 0) == is_kind, "the kinds'");
-        int given = operation >= 1 && operation <= 21 && operation != 14;
+        int given = operation >= 1 && operation <= 22 && operation != 14;
         check((strcmp(space_refusal_meaning((uint32_t)operation), "?") != 0) == given, "the refusals' meanings");
     }
 }
@@ -826,6 +826,71 @@ static void step_on_odd_words(void)
     }
 }
 
+enum { W = SPACE_ORDER_WRITE, R = SPACE_ORDER_READ, T = SPACE_ORDER_TAKE, GUARD = 0xa5 };
+
+/* What space_find_order gives for these words, with so many bytes for the order. It leaves the words as they were, and
+ * every byte of the order's surroundings, behind the positions too; `order` has these then. */
+static uint64_t find_order(const uint32_t *words, size_t words_len, uint8_t order[16], size_t order_len)
+{
+    uint32_t before[128];
+    memset(order, GUARD, 16);
+    memcpy(before, words, 4 * words_len);
+    uint64_t returned = space_find_order(words, words_len, order + 4, order_len);
+    size_t written = returned == 1 ? words[0] : 0;
+    check(memcmp(before, words, 4 * words_len) == 0, "an export is only read");
+    check(all(order, 4, GUARD) && all(order + 4 + written, 12 - written, GUARD), "the bytes around an order");
+    memmove(order, order + 4, 12);
+    return returned;
+}
+
+#define FIND(order, room, ...) \
+    find_order((const uint32_t[]){__VA_ARGS__}, sizeof(uint32_t[]){__VA_ARGS__} / 4, order, room)
+
+/* The first of several orders, the only one, none; own earlier actions; numbers of every size. */
+static void find_orders(void)
+{
+    uint8_t order[16];
+    check(FIND(order, 3, 3, 1, T, 7, 1, R, 7, 1, W, 7) == 1, "write, read, take");
+    check(memcmp(order, (uint8_t[]){2, 1, 0}, 3) == 0, "write, read, take: the order");
+    check(FIND(order, 5, 5, 2, T, 7, W, 9, 1, R, 9, 1, W, 7, 1, R, 7, 1, W, 11) == 1, "the program's export");
+    check(memcmp(order, (uint8_t[]){2, 3, 0, 1, 4}, 5) == 0, "the program's export: the order");
+    check(FIND(order, 8, 3, 1, W, 0, 0, 1, W, 4294967295u) == 1 && memcmp(order, (uint8_t[]){0, 1, 2}, 3) == 0,
+          "of several orders the first");
+    check(FIND(order, 1, 1, 3, W, 5, R, 5, T, 5) == 1 && order[0] == 0, "a transaction sees what it wrote");
+    check(FIND(order, 2, 2, 1, R, 5, 2, W, 5, T, 5) == 0, "and took: nobody else finds it");
+    check(FIND(order, 2, 2, 2, T, 5, R, 5, 1, W, 5) == 0, "nor itself, again");
+    check(FIND(order, 2, 2, 2, W, 1, R, 2, 2, W, 2, R, 1) == 0, "each before the other");
+    check(FIND(order, 3, 3, 1, W, 1, 1, T, 1, 1, T, 1) == 0, "two takes");
+    check(FIND(order, 1, 1, 1, R, 8) == 0, "a number that nobody writes");
+    check(FIND(order, 0, 0) == 1 && space_find_order((const uint32_t[]){0}, 1, NULL, 0) == 1, "no transactions");
+    check(FIND(order, 6, 6, 0, 0, 0, 0, 0, 0) == 1 && memcmp(order, (uint8_t[]){0, 1, 2, 3, 4, 5}, 6) == 0,
+          "transactions without actions");
+}
+
+/* Each of the limits, from both sides, and words that are no export: 22. */
+static void judge_exports(void)
+{
+    const uint64_t refused = UINT64_C(65536) * SPACE_REFUSAL_BAD_EXPORT;
+    uint8_t order[16];
+    check(space_order_number(refused) == 22 && space_order_number(1) == 0 && space_order_number(0) == 0, "its number");
+    check(FIND(order, 12, 7, 0, 0, 0, 0, 0, 0, 0) == refused, "7 transactions");
+    check(FIND(order, 1, 1, 8, W, 1, W, 2, W, 3, W, 4, W, 5, W, 6, W, 7, W, 8) == 1, "8 actions");
+    check(FIND(order, 1, 1, 9, W, 1, W, 2, W, 3, W, 4, W, 5, W, 6, W, 7, W, 8, R, 1) == refused, "9 actions");
+    check(FIND(order, 1, 1, 3, W, 5, T, 5, W, 5) == refused, "written twice in one");
+    check(FIND(order, 2, 2, 1, W, 5, 2, T, 5, W, 5) == refused, "written twice in two");
+    check(FIND(order, 2, 2, 1, W, 5, 1, R, 5) == 1 && FIND(order, 1, 2, 1, W, 5, 1, R, 5) == refused, "a short order");
+    check(FIND(order, 0, 1, 0) == refused && space_find_order((const uint32_t[]){1, 0}, 2, NULL, 0) == refused,
+          "no order to write to");
+    check(space_find_order(NULL, 0, order, sizeof order) == refused, "no words");
+    check(FIND(order, 2, 2, 1, W, 5) == refused && FIND(order, 2, 2, 1, W, 5, 1, R) == refused, "words too few");
+    check(FIND(order, 1, 1, 1, W, 5, 0) == refused && FIND(order, 1, 0, 0) == refused, "words left over");
+    check(FIND(order, 1, 1, 1, 0, 5) == refused && FIND(order, 1, 1, 1, T + 1, 5) == refused, "another kind");
+    check(FIND(order, 1, 1, 1, 256 + W, 5) == refused, "a kind beyond a byte");
+    check(FIND(order, 12, 4294967295u, 0) == refused && FIND(order, 1, 1, 4294967295u) == refused, "huge counts");
+    check(FIND(order, 1, 1, 2147483648u) == refused, "a count that is 0 if doubled in 32 bits");
+    check(FIND(order, 1, 1, 2147483649u, W, 5) == refused, "and one that is 2");
+}
+
 /* Words that no frames make: 16 look-ups wait, and none is of a party that there is. A refused frame is answered as
  * ever and changes nothing; one that is carried out ends, and keeps to its buffers (host/damaged.c has pages that may
  * not be touched around them). */
@@ -902,6 +967,8 @@ int main(void)
     bound_trays();
     bound_kinds();
     run_in_bounds();
+    find_orders();
+    judge_exports();
     step_on_odd_words();
     step_where_none_can_wait();
     use_zeroed_words();

@@ -1,5 +1,5 @@
-/* Runs damaged trays and garbled frames in buffers of the exact length: damaged COUNT SEED [fence]. A tray's answers
- * area is any, and then of the size that its bounds give.
+/* Runs damaged trays, garbled frames and exports in buffers of the exact length: damaged COUNT SEED [fence]. A tray's
+ * answers area is any, and then of the size that its bounds give.
  * Without `fence` the buffers are from malloc and stay unset, for valgrind or the address sanitizer. With it a page
  * that may not be touched adjoins each buffer, before it or behind it, so that a byte too far ends the program. */
 #define _DEFAULT_SOURCE
@@ -246,6 +246,35 @@ static void run_longest_ringing(void)
         fail("the longest step with bells", returned);
 }
 
+/* An export in words of the exact number, whole or cut off, with words changed in some cases. */
+static void find_one_order(void)
+{
+    uint32_t made[SPACE_ORDER_MAX_WORDS + 8] = {below(8)}, end = 1;
+    for (uint32_t i = 0; i < made[0] && end + SPACE_ORDER_TRANSACTION_WORDS < SPACE_ORDER_MAX_WORDS + 8; i++) {
+        uint32_t actions = made[end++] = below(SPACE_ORDER_MAX_ACTIONS + 1);
+        for (uint32_t j = 0; j < actions; j++, end += 2) {
+            made[end] = 1 + below(3);
+            made[end + 1] = below(3) ? 10 * i + j : below(60);
+        }
+    }
+    if (!below(3))
+        made[below(end)] = odd_number();
+    size_t words_len = below(4) ? end : below(end + 1), order_len = below(10);
+    uint8_t *words = buffer(0, 4 * words_len), *order = buffer(1, order_len);
+    memcpy(words, made, 4 * words_len);
+    memset(order, 0x5a, order_len);
+    uint64_t returned = space_find_order((const uint32_t *)(const void *)words, words_len, order, order_len);
+    if (returned > 1 && returned != UINT64_C(65536) * SPACE_REFUSAL_BAD_EXPORT)
+        fail("an export", returned);
+    for (size_t i = 0; i < order_len; i++)
+        if (returned == 1 && i < made[0] ? order[i] >= made[0] : order[i] != 0x5a)
+            fail("a byte of the order", i);
+    if (memcmp(words, made, 4 * words_len) != 0)
+        fail("the export was changed", returned);
+    release(words);
+    release(order);
+}
+
 /* 0, or a refusal of a frame. */
 static int is_frames_number(uint32_t number)
 {
@@ -287,6 +316,7 @@ int main(int count, char **arguments)
     fenced = count > 3 && strcmp(arguments[3], "fence") == 0;
     for (long i = 0; i < trays; i++) {
         run_one_tray();
+        find_one_order();
         if (i % 10 == 0) {
             run_steps();
             run_longest_step();

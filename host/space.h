@@ -21,8 +21,9 @@ extern "C" {
  * 7: an entry remembers the party that wrote it, which can renew it: operation 11, kind 12, refusals 18 to 20.
  * 8: a registration tells its party of new entries: operation 10, kinds 10 and 11, refusal 17, more words.
  * 9: a template may ask for an arc of the clock face, and three functions convert and mirror its places: mask bit 4,
- * refusal 21. 10: a function tells how big an area a tray wants. */
-#define SPACE_VERSION 10
+ * refusal 21. 10: a function tells how big an area a tray wants. 11: a function finds an order that accounts for
+ * transactions: refusal 22. */
+#define SPACE_VERSION 11
 
 #define SPACE_MAX_ENTRIES 64         /* entries stored at most */
 #define SPACE_MAX_TRANSACTIONS 8     /* transactions live at most */
@@ -112,7 +113,8 @@ enum space_record_kind {
     SPACE_RECORD_REFUSED = 15
 };
 
-/* Numbers 1 to 13 and 17 to 21 are of a frame, 15 and 16 of a tray; 0 is no refusal. 14 is never given out.
+/* Numbers 1 to 13 and 17 to 21 are of a frame, 15 and 16 of a tray, 22 of an export; 0 is no refusal. 14 is never given
+ * out.
  * docs/MANUAL.md says what to do about each. A look-up is judged by 1 to 5, 21, 6, 7, 8 and 10, in this order; a notify
  * by 1 to 5, 21, 6, 9, 10, 17 and 13; a renew by 1 to 6, 18, 19, 20 and 10. The functions of the clock face give 21. */
 enum space_refusal {
@@ -135,7 +137,21 @@ enum space_refusal {
     SPACE_REFUSAL_NO_ENTRY = 18,     /* no stored entry has the number that a renew names */
     SPACE_REFUSAL_NOT_WRITER = 19,   /* another party wrote it */
     SPACE_REFUSAL_ENTRY_HELD = 20,   /* it is private or held, be it by the party's own transaction */
-    SPACE_REFUSAL_BAD_PLACE = 21     /* an arc's start or length, a place, an hour or a minute is out of range */
+    SPACE_REFUSAL_BAD_PLACE = 21,    /* an arc's start or length, a place, an hour or a minute is out of range */
+    SPACE_REFUSAL_BAD_EXPORT = 22    /* space_find_order takes no such export, or `order` is too short for it */
+};
+
+/* A study export, for space_find_order: transactions without their order, as words. First the number of transactions,
+ * then for each the number of its actions, and for each action its kind and the number of the entry. */
+#define SPACE_ORDER_MAX_TRANSACTIONS 6 /* transactions of an export at most */
+#define SPACE_ORDER_MAX_ACTIONS 8      /* actions of a transaction at most */
+#define SPACE_ORDER_TRANSACTION_WORDS (1 + 2 * SPACE_ORDER_MAX_ACTIONS) /* of a transaction at most */
+#define SPACE_ORDER_MAX_WORDS (1 + SPACE_ORDER_MAX_TRANSACTIONS * SPACE_ORDER_TRANSACTION_WORDS) /* of an export */
+
+enum space_order_kind {
+    SPACE_ORDER_WRITE = 1,
+    SPACE_ORDER_READ = 2,            /* a read that found the entry */
+    SPACE_ORDER_TAKE = 3             /* a take that found it */
 };
 
 /* The words of a space, to be read only: the clock, the next numbers, the rows in use of each table, then the tables.
@@ -245,6 +261,22 @@ uint64_t time_of_place(uint32_t place);
 /* The mirror of a place from 0 to 719, (720 - place) modulo 720, for the other breast. Mirroring twice gives the place.
  * The mirror of an arc has the same length and starts at the mirror of its end. */
 uint64_t mirrored_place(uint32_t place);
+
+/* An order that accounts for the transactions of an export: one in which their actions, carried out one transaction
+ * after the other on a set of entry numbers that is empty at first, all find what they found. A write adds its number,
+ * a read needs it, a take needs and removes it; the actions of a transaction see what its own earlier ones did. Leases
+ * and fields are not considered.
+ * Returns 1, and the positions of the transactions in front of `order`, a byte each, counted from 0. Of several such
+ * orders it is the first, when they are compared place by place as lists of positions. Returns 0 exactly if there is
+ * none; an entry that nobody writes is no mistake of the export, but no order finds it. Returns
+ * 65536 * SPACE_REFUSAL_BAD_EXPORT for more than 6 transactions, more than 8 actions in one, a number that is written
+ * twice, in one transaction or in two, words that are no such list (too few, left over, another kind), and for
+ * order_len below the number of transactions. With 0 or a refusal `order` keeps its contents; so do its bytes behind
+ * the positions. `actions` is only read. */
+uint64_t space_find_order(const uint32_t *actions, size_t actions_len, uint8_t *order, size_t order_len);
+
+/* The number of the refusal, or 0, in what space_find_order returns. */
+static inline uint32_t space_order_number(uint64_t returned) { return (uint32_t)(returned / 65536u); }
 
 /* The parts of what space_step and space_run_tray return. */
 static inline uint32_t space_step_records(uint64_t returned) { return (uint32_t)(returned % 65536u); }

@@ -198,7 +198,8 @@ static inline const char *space_refusal_meaning(uint32_t number)
         "no stored entry has that number",
         "another party wrote the entry",
         "the entry is private or held",
-        "an arc's start or length, a place, an hour or a minute is out of range"};
+        "an arc's start or length, a place, an hour or a minute is out of range",
+        "no export: too many transactions or actions, a number written twice, other words, or no room for the order"};
     return number < sizeof meanings / sizeof meanings[0] ? meanings[number] : "?";
 }
 

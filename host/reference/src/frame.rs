@@ -54,6 +54,7 @@ pub enum Refusal {
     AnothersEntry = 19,
     EntryHeld = 20,
     Place = 21,
+    Export = 22,
 }
 
 /// Where the place stands among the fields.

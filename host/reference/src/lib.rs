@@ -10,12 +10,14 @@
 //! - `tray`: trays, refusals 15 and 16
 //! - `bounds`: how many entries and records a tray's run has at most
 //! - `serial`: the serial run
+//! - `order`: an order that accounts for transactions (T-12), refusal 22
 #![forbid(unsafe_code)]
 
 pub mod answer;
 pub mod bounds;
 pub mod clock_face;
 pub mod frame;
+pub mod order;
 pub mod serial;
 pub mod space;
 pub mod tray;

@@ -11,6 +11,7 @@ extern "C" {
     fn place_of_time(hour: u32, minute: u32) -> u64;
     fn time_of_place(place: u32) -> u64;
     fn mirrored_place(place: u32) -> u64;
+    fn space_find_order(actions: *const u32, actions_len: usize, order: *mut u8, order_len: usize) -> u64;
 }
 
 /// The program's answers area.
@@ -48,6 +49,11 @@ pub fn time_of(place: u32) -> u64 {
 /// The place, or 65,536 × number.
 pub fn mirror_of(place: u32) -> u64 {
     unsafe { mirrored_place(place) }
+}
+
+/// 1 and the positions in front of `order`, 0 where no order succeeds, or 65,536 × number.
+pub fn find_order(words: &[u32], order: &mut [u8]) -> u64 {
+    unsafe { space_find_order(words.as_ptr(), words.len(), order.as_mut_ptr(), order.len()) }
 }
 
 /// The parts of what `run_tray` returns.
