@@ -43,7 +43,7 @@ fn transaction(words: &[u32]) -> Option<(Transaction, &[u32])> {
 }
 
 /// The transactions that the words stand for; none if they stand for no list of these.
-fn transactions(words: &[u32]) -> Option<Vec<Transaction>> {
+pub fn transactions(words: &[u32]) -> Option<Vec<Transaction>> {
     let (&count, mut rest) = words.split_first()?;
     let mut transactions = Vec::new();
     for _ in 0..count {

@@ -14,6 +14,7 @@ pub mod history;
 pub mod line;
 pub mod needs;
 pub mod oracle;
+pub mod order;
 pub mod panes;
 pub mod prose;
 pub mod record;

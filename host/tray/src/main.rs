@@ -8,6 +8,7 @@ use tray::face;
 use tray::history::Outcome;
 use tray::line::Fault;
 use tray::needs::Needs;
+use tray::order;
 use tray::tell::tell;
 use tray::typed::{self, Typed};
 use tray::waiting::{self, Account};
@@ -120,6 +121,15 @@ const VERBS: &[Verb] = &[
         about: "a place of the clock face as time and number, and its mirror",
         help: include_str!("help/place.txt"),
         act: place_verb,
+    },
+    Verb {
+        name: "order",
+        usage: "tray order FILE [--raw | --bytes]",
+        flags: &["--raw", "--bytes"],
+        values: &[],
+        about: "an order that accounts for the transactions of an export",
+        help: include_str!("help/order.txt"),
+        act: order_verb,
     },
     Verb {
         name: "assemble",
@@ -419,6 +429,29 @@ fn place_verb(arguments: &Arguments) -> Ended {
     }
     print(asked.words().as_bytes())?;
     Ok(Status::Done)
+}
+
+fn order_verb(arguments: &Arguments) -> Ended {
+    if arguments.flag("--raw") && arguments.flag("--bytes") {
+        return Err(Failed::usage("expected --raw or --bytes, found both"));
+    }
+    let file = arguments.file()?;
+    let export = order::parse(&arguments.text()?).map_err(|fault| Failed::text(file, &fault))?;
+    if arguments.flag("--bytes") {
+        print(&export.bytes())?;
+        return Ok(Status::Done);
+    }
+    let found = export.find();
+    let told = match arguments.flag("--raw") {
+        true => order::tell::raw(&found),
+        false => order::tell::words(&export, &found),
+    };
+    print(told.as_bytes())?;
+    if let Some(fault) = order::tell::fault(&export, &found) {
+        complain(&format!("{file}: {fault}: the archive is damaged, or this tool is wrong"));
+        return Ok(Status::NotAsProved);
+    }
+    Ok(if matches!(found, order::Found::Refused(_)) { Status::TrayRefused } else { Status::Done })
 }
 
 fn assemble_verb(arguments: &Arguments) -> Ended {

@@ -8,6 +8,7 @@
 //! - `common`: what both have
 //! - `bells`: registrations
 //! - `tray`: trays, refusals 15 and 16
+//! - `order`: an order that accounts for transactions (T-12), refusal 22
 //!
 //! Of several available entries the one with the lowest number is handed out (document 02).
 #![forbid(unsafe_code)]
@@ -18,6 +19,7 @@ mod bells;
 pub mod columns;
 mod common;
 mod frame;
+pub mod order;
 pub mod rows;
 mod tray;
 
