@@ -3,25 +3,27 @@
 #   host/bench.sh [--markdown] [RUNS]   ns a frame, of so many runs (7) of each of four programs, whose code lies behind
 #                                       0, 16, 32 and 48 bytes: elsewhere in memory a loop is faster or slower
 #   host/bench.sh [--markdown] count    instructions a frame, by valgrind
+#   host/bench.sh [--markdown] order [RUNS]   ns a call of the search for an order, as the first
 set -euo pipefail
 cd "$(dirname "$0")/.."
 . host/build.sh
 
 usage() {
-    sed -n '3,5s/^# *//p' host/bench.sh
+    sed -n '3,6s/^# *//p' host/bench.sh
     exit 2
 }
 
-what=times runs='' form=()
+what=times runs='' form=() verb=()
 for word in "$@"; do
     case $word in
         --markdown) form=("$word") ;;
         count) what=$word ;;
+        order) verb=("$word") ;;
         *[!0-9]* | 0) usage ;;
         *) runs=$word ;;
     esac
 done
-[ "$what" = times ] || [ -z "$runs" ] || usage
+[ "$what" = times ] || [ -z "$runs${verb[*]}" ] || usage
 runs=${runs:-7}
 
 build_behind() { # PADDING: the program with so many bytes before its code
@@ -30,7 +32,7 @@ build_behind() { # PADDING: the program with so many bytes before its code
 }
 
 places() { # PROGRAM: where the functions lie that are timed
-    nm "$1" | awk '$3 == "space_run_tray" || $3 ~ /tuned.*run_tray/ { print $1 }' | sort
+    nm "$1" | awk '$3 == "space_run_tray" || $3 == "space_find_order" || $3 ~ /tuned.*run_tray/ { print $1 }' | sort
 }
 
 lies_behind() { # PADDING: in the last program they all lie so much further than in the first
@@ -53,4 +55,4 @@ for padding in 16 32 48; do
     lies_behind $padding || { echo "the code does not lie $padding bytes further in ${programs[-1]}"; exit 1; }
 done
 echo "$(grep -m 1 'model name' /proc/cpuinfo | sed 's/.*: //'), $(nproc) processors; $(rustc --version)"
-"${programs[0]}" "${form[@]}" "$runs" "${programs[@]}"
+"${programs[0]}" "${verb[@]}" "${form[@]}" "$runs" "${programs[@]}"

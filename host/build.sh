@@ -2,6 +2,7 @@
 # Sourced by the scripts beside it, at the repository's root: finds or builds what they use.
 #   archive  the proved library: SPACE_ARCHIVE, or what `rt staticlib space` writes
 #   program  the proved program: SPACE_PROGRAM, or what `rt check viewer` writes
+#   order_program  the one for exports: SPACE_ORDER_PROGRAM, or what `rt check study_order` writes
 #   out      where everything of the host is built
 #   built    where the Rust programs are then
 out=$PWD/target/host
@@ -30,10 +31,17 @@ find_archive() {
     export SPACE_ARCHIVE=$archive
 }
 
-find_program() {
-    program=${SPACE_PROGRAM:-target/bin/viewer}
-    [ -n "${SPACE_PROGRAM:-}" ] || rt_makes "$program" check viewer || return 1
-    [ -x "$program" ] || { echo "there is no $program"; return 1; }
+made_program() { # NAME GIVEN: says which file the program is, the one given or what rt writes
+    local file=${2:-target/bin/$1}
+    [ -n "$2" ] || rt_makes "$file" check "$1" >&2 || return 1
+    [ -x "$file" ] || { echo "there is no $file" >&2; return 1; }
+    echo "$file"
+}
+
+# shellcheck disable=SC2034
+find_programs() {
+    program=$(made_program viewer "${SPACE_PROGRAM:-}") || return 1
+    order_program=$(made_program study_order "${SPACE_ORDER_PROGRAM:-}") || return 1
 }
 
 build_rust() { # FOLDER [FLAGS]: the programs of host/FOLDER, into $built

@@ -9,6 +9,8 @@ TUNED_FRAMES=300000    # of each tuned peer
 FENCED_TRAYS=20000     # damaged trays with guard pages
 CHECKED_TRAYS=400      # damaged trays under valgrind or the address sanitizer
 RANDOM_TRAYS=60        # given to the program and to host/run_tray.c
+EXPORTS=200000         # whose orders are compared with the reference's, of the space and of the tuned peer
+RANDOM_EXPORTS=60      # given to the program for exports
 READ_ONLY_BYTES=160    # of the archive's data: the jumps of a match, seven constants
 
 fail() {
@@ -36,12 +38,12 @@ run() { # BY: a tray from standard input, by the library, the program or the ref
 
 check_builds() {
     find_archive || fail "no archive"
-    find_program || fail "no program"
+    find_programs || fail "no program"
     build_rust tray || fail "host/tray"
     build_rust harness || fail "host/harness"
     cargo test --quiet --offline --manifest-path host/harness/Cargo.toml > "$out/test.log" 2>&1 ||
         { tail -n 30 "$out/test.log"; fail "the harness's own tests"; }
-    for name in example panes run_tray boundary_test damaged; do
+    for name in example panes order run_tray boundary_test damaged; do
         build_c "$name" || fail "host/$name.c"
     done
     ! has clang || clang -std=c99 -fsyntax-only "${strict[@]}" host/*.c || fail "clang on host/*.c"
@@ -59,7 +61,7 @@ check_read_only() {
 
 check_hosts() {
     local name
-    for name in example panes; do
+    for name in example panes order; do
         "$out/$name" > "$out/$name.out" || fail "host/$name.c"
         same "host/$name.c's output" "host/$name.expected" "$out/$name.out"
     done
@@ -75,11 +77,11 @@ check_installed() {
     rm -rf "$to"
     PREFIX=$to host/install.sh > "$out/install.log" || fail "host/install.sh"
     mkdir "$to/own"
-    cp host/example.c host/panes.c host/print_record.h "$to/own"
+    cp host/example.c host/panes.c host/order.c host/print_record.h "$to/own"
     if has pkg-config; then
         read -ra where < <(PKG_CONFIG_PATH=$to/lib/pkgconfig pkg-config --cflags --libs space) || fail "space.pc"
     fi
-    for name in example panes; do
+    for name in example panes order; do
         ${CC:-cc} -std=c99 -o "$to/own/$name" "$to/own/$name.c" "${where[@]}" || fail "$name.c, installed"
         "$to/own/$name" > "$to/own/$name.out" || fail "$name.c, installed"
         same "$name.c, installed" "host/$name.expected" "$to/own/$name.out"
@@ -198,6 +200,42 @@ check_random_trays() {
     echo "ok: $RANDOM_TRAYS random trays, damaged ones too, by the program"
 }
 
+order_says() { # WHAT: the program for exports, on standard error, in one line
+    [ "$(cat "$out/order.error")" = "study_order: $1" ] || fail "study_order does not say: $1"
+}
+
+same_order() { # WHAT: the export in target/host/export, by the program and by the reference
+    "$built/test_trays" order < "$out/export" > "$out/order.reference" || fail "$1 by the reference"
+    "$order_program" < "$out/export" > "$out/order.program" 2> "$out/order.error" || fail "$1 by the program"
+    [ ! -s "$out/order.error" ] || fail "$1: study_order speaks on standard error"
+    same "$1 by the program" "$out/order.reference" "$out/order.program"
+}
+
+# Exports: every example by the tool, the reference and the program, and random ones by the last two.
+check_exports() {
+    local text seed pair exports=0
+    for text in examples/*.export; do
+        "$built/tray" order "$text" --bytes > "$out/export" || fail "$text"
+        same_order "$text"
+        "$built/tray" order "$text" --raw > "$out/order.raw" || [ $? -eq 3 ] || fail "$text"
+        same "$text by the tool" "$out/order.reference" "$out/order.raw"
+        exports=$((exports + 1))
+    done
+    for pair in study_order:order-several study_order_refused:order-refused; do
+        "$built/tray" order "examples/${pair#*:}.export" --bytes | cmp - "crates/${pair%:*}/stdin" || fail "$pair"
+    done
+    for seed in $(seq "$RANDOM_EXPORTS"); do
+        "$built/test_trays" export "$seed" > "$out/export" || fail "random export $seed"
+        same_order "random export $seed"
+    done
+    "$order_program" < host > "$out/order.program" 2> "$out/order.error" # a folder
+    order_says "cannot read standard input"
+    [ ! -s "$out/order.program" ] || fail "study_order answers what it could not read"
+    "$order_program" < crates/study_order/stdin > /dev/full 2> "$out/order.error"
+    order_says "cannot write all of standard output"
+    echo "ok: $exports example exports, $RANDOM_EXPORTS random ones, by the program for exports"
+}
+
 check_damaged() {
     local checker=valgrind
     "$out/damaged" "$FENCED_TRAYS" 1 fence > "$out/fenced.out" || fail "damaged trays with guard pages"
@@ -227,6 +265,14 @@ check_differ() { # NAME FRAMES: the last word of the name is differ's
     echo "ok: the $1, $bounds"
 }
 
+# A discrepancy is a text for `tray order`, left in target/host/differ-orders-NAME.txt.
+check_differ_orders() { # NAME: space or tuned
+    local report=$out/differ-orders-$1.txt
+    "$built/differ_orders" "$EXPORTS" 1 "$1" > "$report" ||
+        { head -n 60 "$report"; fail "the orders of $1 and the reference differ, or too little occurred: $report"; }
+    echo "ok: orders, $1: $(tail -n 1 "$report")"
+}
+
 check_builds
 check_read_only
 check_hosts
@@ -236,8 +282,11 @@ check_texts
 check_manual
 check_program
 check_random_trays
+check_exports
 check_damaged
 check_differ space "$FRAMES"
 check_differ "tuned rows" "$TUNED_FRAMES"
 check_differ "tuned columns" "$TUNED_FRAMES"
+check_differ_orders space
+check_differ_orders tuned
 echo "host/check.sh: all passed"

@@ -1,6 +1,6 @@
 #!/usr/bin/env bash
-# Checks the tool: its own tests, all lessons, all expectations, waiting lists, bounds, all drawings. The first failure
-# ends it with a non-zero status. Needs cargo, a linker, python3 and the proved archive; no browser.
+# Checks the tool: its own tests, all lessons, all expectations, waiting lists, bounds, orders, all drawings. The first
+# failure ends it with a non-zero status. Needs cargo, a linker, python3 and the proved archive; no browser.
 set -euo pipefail
 cd "$(dirname "$0")/../.."
 . host/build.sh
@@ -55,6 +55,20 @@ for stored in examples/*.bounds; do
     bounds=$((bounds + 1))
 done
 
+# The orders stored beside the exports; of those named so it is that they are refused.
+orders=0
+for order in examples/*.order; do
+    status=0
+    "$tray" order "${order%.order}.export" > "$to/order.out" || status=$?
+    case $status:$order in
+        0:*-refused* | 3:*-refused*) [ "$status" -eq 3 ] || fail "$order is not refused" ;;
+        0:*) ;;
+        *) fail "$order ended with $status" ;;
+    esac
+    cmp -s "$order" "$to/order.out" || { diff "$order" "$to/order.out" || true; fail "$order"; }
+    orders=$((orders + 1))
+done
+
 # Every example is drawn; a tray that is refused as a whole has no drawing.
 drawings=0
 for text in examples/*.txt examples/lessons/*.txt; do
@@ -88,4 +102,4 @@ files = [file for folder in sys.argv[1:] for ending in ("html", "svg") for file 
 for file in files:
     xml.dom.minidom.parse(file)
 END
-echo "ok: tray: tests, $lessons lessons, $lists waiting lists, $bounds bounds, $drawings drawings, the course"
+echo "ok: tray: tests, $lessons lessons, $lists waiting lists, $bounds bounds, $orders orders, $drawings drawings, the course"

@@ -442,12 +442,13 @@ fn order_verb(arguments: &Arguments) -> Ended {
         return Ok(Status::Done);
     }
     let found = export.find();
-    let told = match arguments.flag("--raw") {
+    let fault = order::tell::fault(&export, &found);
+    let told = match arguments.flag("--raw") || fault.is_some() {
         true => order::tell::raw(&found),
         false => order::tell::words(&export, &found),
     };
     print(told.as_bytes())?;
-    if let Some(fault) = order::tell::fault(&export, &found) {
+    if let Some(fault) = fault {
         complain(&format!("{file}: {fault}: the archive is damaged, or this tool is wrong"));
         return Ok(Status::NotAsProved);
     }

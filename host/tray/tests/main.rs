@@ -9,6 +9,7 @@ mod common;
 mod draw;
 mod explore;
 mod layout;
+mod order;
 mod renewals;
 mod run;
 mod typed;

@@ -150,6 +150,14 @@ fn as_text(actions: &[Action]) -> tray::order::Transaction {
     actions.iter().map(action).collect()
 }
 
+/// An export as the program reads it; the words of some are cut.
+pub fn export_bytes(seed: u64) -> Vec<u8> {
+    let mut random = Random::new(seed);
+    let mut bytes: Vec<u8> = export(&mut random).words.into_iter().flat_map(u32::to_le_bytes).collect();
+    bytes.truncate(bytes.len() - if random.percent(10) { random.below(4).min(bytes.len()) } else { 0 });
+    bytes
+}
+
 /// The export of this seed.
 pub fn compare<S: Search>(seed: u64, coverage: &mut Coverage) -> Result<(), Discrepancy> {
     let case = export(&mut Random::new(seed));

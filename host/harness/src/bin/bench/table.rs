@@ -28,16 +28,21 @@ impl Form {
             let columns = columns.iter().map(|column| column.to_string()).collect();
             let mut lines = vec![line(&group[0].0.group, columns)];
             lines.extend(group.iter().map(|(load, cells)| line(&load.name, cells.to_vec())));
-            println!();
-            match self {
-                Form::Text => print_text(&lines),
-                Form::Markdown => print_markdown(&lines),
-            }
+            self.print_table(&lines);
+        }
+    }
+
+    /// A line with the names of the columns, then the rows.
+    pub fn print_table(self, lines: &[Vec<String>]) {
+        println!();
+        match self {
+            Form::Text => print_text(lines),
+            Form::Markdown => print_markdown(lines),
         }
     }
 }
 
-fn line(name: &str, cells: Vec<String>) -> Vec<String> {
+pub fn line(name: &str, cells: Vec<String>) -> Vec<String> {
     [vec![name.to_string()], cells].concat()
 }
 

@@ -17,21 +17,21 @@ tables. A ratio is taken within a run. By placement: the least and the greatest 
 ratio.";
 
 /// Median and quartiles.
-struct Spread {
-    median: f64,
+pub struct Spread {
+    pub median: f64,
     low: f64,
     high: f64,
 }
 
 impl Spread {
-    fn of(values: impl Iterator<Item = f64>) -> Spread {
+    pub fn of(values: impl Iterator<Item = f64>) -> Spread {
         let mut values: Vec<f64> = values.collect();
         values.sort_by(f64::total_cmp);
         let at = |quarters: usize| values[(values.len() - 1) * quarters / 4];
         Spread { median: at(2), low: at(1), high: at(3) }
     }
 
-    fn shown(&self, digits: usize) -> String {
+    pub fn shown(&self, digits: usize) -> String {
         format!("{:.digits$} [{:.digits$}, {:.digits$}]", self.median, self.low, self.high)
     }
 }
@@ -66,8 +66,8 @@ pub fn run() {
 }
 
 /// The times that a program's run prints.
-fn run_of(program: &PathBuf) -> Vec<Each<f64>> {
-    let output = Command::new(program).arg("run").stderr(Stdio::inherit()).output().expect("the program can be run");
+pub fn run_of<const EACH: usize>(program: &PathBuf, verb: &str) -> Vec<[f64; EACH]> {
+    let output = Command::new(program).arg(verb).stderr(Stdio::inherit()).output().expect("the program can be run");
     assert!(output.status.success(), "a run has failed");
     let text = String::from_utf8(output.stdout).expect("numbers");
     let times = |line: &str| -> Vec<f64> { line.split(' ').map(|time| time.parse().expect("a time")).collect() };
@@ -107,7 +107,7 @@ pub fn print(form: Form, runs: usize, programs: &[PathBuf]) {
     let mut rows: Vec<Row> = loads.iter().map(|_| Row(vec![Vec::new(); programs.len()])).collect();
     for number in 1..=runs {
         for (place, program) in programs.iter().enumerate() {
-            rows.iter_mut().zip(run_of(program)).for_each(|(row, times)| row.0[place].push(times));
+            rows.iter_mut().zip(run_of(program, "run")).for_each(|(row, times)| row.0[place].push(times));
         }
         eprintln!("run {number} of {runs}");
     }
