@@ -226,7 +226,7 @@ wrong! {
     NineAccepted: |words, order| beyond(words, order, |list| {
         list.iter_mut().for_each(|actions| actions.truncate(MOST_ACTIONS));
     });
-    FiveRefused: |words, order| if words.first() > Some(&5) { REFUSED } else { find_order(words, order) };
+    SixRefused: |words, order| if words.first() > Some(&5) { REFUSED } else { find_order(words, order) };
     LeftOverAccepted: |words, order| match (0..=words.len()).find(|&end| transactions(&words[..end]).is_some()) {
         Some(end) => find_order(&words[..end], order),
         None => REFUSED,
