@@ -1,7 +1,7 @@
 //! Compares a search for an order with the reference: `differ_orders [EXPORTS] [SEED] [space|tuned]`.
 //!
-//! Export number k has seed SEED + k, so `differ_orders 1 S` repeats that of seed S alone. A discrepancy is printed as a
-//! text for `tray order`, shortened; what differs stands in its comments.
+//! Export number k has seed SEED + k, so `differ_orders 1 S` repeats that of seed S alone. A discrepancy is printed as
+//! a text for `tray order`, shortened; what differs stands in its comments.
 
 use harness::orders::{compare, Coverage, Proved, Search, Tuned};
 use std::process::ExitCode;

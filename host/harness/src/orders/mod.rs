@@ -10,6 +10,7 @@ use crate::random::Random;
 use exports::export;
 use reference::order::{judge, transactions, Action, Transaction};
 use std::fmt;
+use tray::order as text;
 
 /// A search that is compared with the reference.
 pub trait Search {
@@ -104,16 +105,17 @@ impl Case {
 
 /// The words of a list.
 pub fn words_of(transactions: &[Transaction]) -> Vec<u32> {
-    let mut words = vec![transactions.len() as u32];
-    for actions in transactions {
-        words.push(actions.len() as u32);
-        words.extend(actions.iter().flat_map(|&action| match action {
-            Action::Write(number) => [1, number],
-            Action::Read(number) => [2, number],
-            Action::Take(number) => [3, number],
-        }));
-    }
-    words
+    text::Export { transactions: transactions.iter().map(as_text).collect() }.words()
+}
+
+/// A transaction as the tool has it.
+fn as_text(actions: &Transaction) -> text::Transaction {
+    let action = |&action: &Action| match action {
+        Action::Write(number) => text::Action { kind: text::Kind::Write, number },
+        Action::Read(number) => text::Action { kind: text::Kind::Read, number },
+        Action::Take(number) => text::Action { kind: text::Kind::Take, number },
+    };
+    actions.iter().map(action).collect()
 }
 
 /// Where a search and the reference differ.
@@ -135,19 +137,9 @@ impl fmt::Display for Discrepancy {
             let (order, behind) = rest.split_at(*room);
             writeln!(f, "# {name}: {}, order {order:?}, before it {before:?}, behind it {behind:?}", answer.returned)?;
         }
-        let list = transactions(words).unwrap_or_default();
-        write!(f, "{}", list.iter().map(|actions| tray::order::line_of(&as_text(actions)) + "\n").collect::<String>())
+        let lines = transactions(words).unwrap_or_default();
+        lines.iter().try_for_each(|actions| writeln!(f, "{}", text::line_of(&as_text(actions))))
     }
-}
-
-/// A transaction as the tool has it.
-fn as_text(actions: &[Action]) -> tray::order::Transaction {
-    let action = |&action: &Action| match action {
-        Action::Write(number) => tray::order::Action { kind: tray::order::Kind::Write, number },
-        Action::Read(number) => tray::order::Action { kind: tray::order::Kind::Read, number },
-        Action::Take(number) => tray::order::Action { kind: tray::order::Kind::Take, number },
-    };
-    actions.iter().map(action).collect()
 }
 
 /// An export as the program reads it; the words of some are cut.

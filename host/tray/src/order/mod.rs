@@ -1,5 +1,5 @@
-//! Study exports as text and as words, and the order that accounts for one (document 02, T-12). Which order that is, the
-//! library says (`boundary`); `tell` words it.
+//! Study exports as text and as words, and the order that accounts for one (document 02, T-12). Which order that is,
+//! the library says (`boundary`); `tell` words it.
 
 pub mod tell;
 

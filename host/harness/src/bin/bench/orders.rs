@@ -2,7 +2,7 @@
 //! tuned one.
 
 use crate::table::{line, Form};
-use crate::times::{run_of, Spread};
+use crate::times::{rows, Row, Spread};
 use harness::orders::words_of;
 use reference::order::{Action, Transaction, MOST_ACTIONS, MOST_TRANSACTIONS};
 use std::path::PathBuf;
@@ -12,7 +12,10 @@ use Action::{Read, Take, Write};
 type Find = fn(&[u32], &mut [u8]) -> u64;
 type Each<T> = [T; 3];
 
-/// Here, plain, tuned.
+const HERE: usize = 0;
+const PLAIN: usize = 1;
+const TUNED: usize = 2;
+
 const CONTENDERS: Each<Find> = [tray::boundary::find_order, reference::order::find_order, tuned::order::find_order];
 
 /// Turns in a row of a run; the median of their times counts.
@@ -23,7 +26,7 @@ const TURN: f64 = 20_000.0;
 const ABOUT: &str = "\
 here: the proved library; plain: host/reference, which tries every order; tuned: host/tuned, place by place with the set
 as bits. The code of each program lies elsewhere in memory. A run is a process that times each load, the three in turn.
-A ratio is taken within a run.";
+A ratio is taken within a run. By placement: the least and the greatest of the programs' own medians of the ratio.";
 
 /// Six transactions, and what is to come of them.
 struct Load {
@@ -150,24 +153,22 @@ pub fn run() {
     }
 }
 
-/// So many runs of each program, in turn.
 pub fn print(form: Form, runs: usize, programs: &[PathBuf]) {
     let loads = loads();
-    let mut times: Vec<Vec<Each<f64>>> = loads.iter().map(|_| Vec::new()).collect();
-    for number in 1..=runs {
-        for program in programs {
-            times.iter_mut().zip(run_of(program, "run-order")).for_each(|(times, run)| times.push(run));
-        }
-        eprintln!("run {number} of {runs}");
-    }
+    let rows = rows("run-order", loads.len(), runs, programs);
     println!("ns a call, medians over {runs} runs of each of {} programs [quartiles].\n{ABOUT}", programs.len());
-    let columns = ["here", "plain", "here / plain", "tuned", "here / tuned"].map(str::to_string);
-    let mut lines = vec![line("transactions × actions", columns.to_vec())];
-    for (load, times) in loads.iter().zip(&times) {
-        let of = |place: usize| Spread::of(times.iter().map(|run| run[place]));
-        let ratio = |place: usize| Spread::of(times.iter().map(|run| run[0] / run[place])).shown(2);
-        let median = |place: usize| format!("{:.0}", of(place).median);
-        lines.push(line(load.name, vec![of(0).shown(0), median(1), ratio(1), median(2), ratio(2)]));
-    }
+    let columns = ["here", "plain", "here / plain", "by placement", "tuned", "here / tuned", "by placement"];
+    let mut lines = vec![line("transactions × actions", columns.map(str::to_string).to_vec())];
+    lines.extend(loads.iter().zip(&rows).map(|(load, row)| line(load.name, cells(row))));
     form.print_table(&lines);
+}
+
+fn cells(row: &Row<{ CONTENDERS.len() }>) -> Vec<String> {
+    let mut cells = vec![row.over_all(|run| run[HERE]).shown(0)];
+    for place in [PLAIN, TUNED] {
+        let ratio = |run: &Each<f64>| run[HERE] / run[place];
+        cells.push(format!("{:.0}", row.over_all(|run| run[place]).median));
+        cells.extend([row.over_all(ratio).shown(2), row.by_program(ratio)]);
+    }
+    cells
 }

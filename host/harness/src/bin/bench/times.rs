@@ -66,7 +66,7 @@ pub fn run() {
 }
 
 /// The times that a program's run prints.
-pub fn run_of<const EACH: usize>(program: &PathBuf, verb: &str) -> Vec<[f64; EACH]> {
+fn run_of<const EACH: usize>(program: &PathBuf, verb: &str) -> Vec<[f64; EACH]> {
     let output = Command::new(program).arg(verb).stderr(Stdio::inherit()).output().expect("the program can be run");
     assert!(output.status.success(), "a run has failed");
     let text = String::from_utf8(output.stdout).expect("numbers");
@@ -75,20 +75,22 @@ pub fn run_of<const EACH: usize>(program: &PathBuf, verb: &str) -> Vec<[f64; EAC
 }
 
 /// A load's times: for each program, of each run.
-struct Row(Vec<Vec<Each<f64>>>);
+pub struct Row<const EACH: usize>(Vec<Vec<[f64; EACH]>>);
 
-impl Row {
-    fn over_all(&self, of: impl Fn(&Each<f64>) -> f64) -> Spread {
+impl<const EACH: usize> Row<EACH> {
+    pub fn over_all(&self, of: impl Fn(&[f64; EACH]) -> f64) -> Spread {
         Spread::of(self.0.iter().flatten().map(of))
     }
 
     /// The least and the greatest of the programs' own medians.
-    fn by_program(&self, of: impl Fn(&Each<f64>) -> f64) -> String {
+    pub fn by_program(&self, of: impl Fn(&[f64; EACH]) -> f64) -> String {
         let mut medians: Vec<f64> = self.0.iter().map(|runs| Spread::of(runs.iter().map(&of)).median).collect();
         medians.sort_by(f64::total_cmp);
         format!("{:.2} to {:.2}", medians[0], medians[medians.len() - 1])
     }
+}
 
+impl Row<{ CONTENDERS.len() }> {
     fn cells(&self, form: Form) -> Vec<String> {
         let medians: Each<f64> = std::array::from_fn(|it| self.over_all(|times| times[it]).median);
         let ratio = |it: usize| move |times: &Each<f64>| times[HERE] / times[it];
@@ -101,16 +103,21 @@ impl Row {
     }
 }
 
-/// So many runs of each program, in turn.
-pub fn print(form: Form, runs: usize, programs: &[PathBuf]) {
-    let loads: Vec<Load> = all_loads();
-    let mut rows: Vec<Row> = loads.iter().map(|_| Row(vec![Vec::new(); programs.len()])).collect();
+/// So many runs of each program, in turn: a row for each load.
+pub fn rows<const EACH: usize>(verb: &str, loads: usize, runs: usize, programs: &[PathBuf]) -> Vec<Row<EACH>> {
+    let mut rows: Vec<Row<EACH>> = (0..loads).map(|_| Row(vec![Vec::new(); programs.len()])).collect();
     for number in 1..=runs {
         for (place, program) in programs.iter().enumerate() {
-            rows.iter_mut().zip(run_of(program, "run")).for_each(|(row, times)| row.0[place].push(times));
+            rows.iter_mut().zip(run_of(program, verb)).for_each(|(row, times)| row.0[place].push(times));
         }
         eprintln!("run {number} of {runs}");
     }
+    rows
+}
+
+pub fn print(form: Form, runs: usize, programs: &[PathBuf]) {
+    let loads: Vec<Load> = all_loads();
+    let rows = rows("run", loads.len(), runs, programs);
     println!("ns a frame, medians over {runs} runs of each of {} programs [quartiles].\n{ABOUT}", programs.len());
     let columns = ["here", "plain", "here / plain", "rows", "columns", "here / faster", "by placement"];
     let cells: Vec<Vec<String>> = rows.iter().map(|row| row.cells(form)).collect();
