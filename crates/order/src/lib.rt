@@ -1,6 +1,5 @@
 // An order of transactions that accounts for what they did (document 02, T-12).
 ghost use Rattle.order.specs.Found.{OrderFound};
-ghost use mathlib.Core.Path.{_≡_};
 
 mod plan;
 mod read;

@@ -2,7 +2,7 @@
 // so that the search compares no numbers.
 ghost use mathlib.Core.Path.{_≡_};
 ghost use mathlib.Core.List.{List};
-ghost use Prim.Native.Nat.{ℕ, _≤_, _<_};
+ghost use Prim.Native.Nat.{_≤_, _<_};
 ghost use lib.ListN.{getD, length};
 ghost use Rattle.order.specs.Export.{Action};
 ghost use Rattle.order.specs.Reading.{Arrays, slots};

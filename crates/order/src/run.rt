@@ -1,7 +1,6 @@
 // One transaction of a plan, carried out on the set of present entries.
 ghost use mathlib.Core.Path.{_≡_};
 ghost use Prim.Native.Nat.{_≤_};
-ghost use lib.ListN.{length};
 ghost use lib.Seq.{slice};
 ghost use Rattle.order.specs.Reading.{slots};
 ghost use Rattle.order.specs.Plan.{Codes};

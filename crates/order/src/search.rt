@@ -1,6 +1,5 @@
 // The first order that goes through, position by position.
 ghost use Prim.Native.Nat.{_≤_};
-ghost use mathlib.Core.Path.{_≡_};
 ghost use Rattle.order.specs.Reading.{maxTxns};
 ghost use Rattle.order.specs.Plan.{Within};
 ghost use Rattle.order.specs.Search.{Searched};
