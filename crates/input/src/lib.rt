@@ -1,7 +1,5 @@
 // Standard input, read whole.
 ghost use Rattle.io.specs.Counts.{Counts};
-ghost use lib.ListN.{length};
-ghost use Prim.Native.Nat.{_≤_};
 
 // Whether it could be read to its end, or to the buffer's, and how many bytes stand at the buffer's start.
 pub struct Input {
