@@ -50,6 +50,16 @@ only-zero (p ∷ []) n h =
     ap {B = List ℕ} (λ q. q ∷ []) z
 only-zero (p ∷ q ∷ ps) n h = absurd (omega arith)
 
+-- an order that fails is not given, nor one of a transaction that fails alone
+fails : (ts : List (List Action)) {order : List ℕ} (ps : List ℕ) → length ps ≡ length ts → succeeds ts ps ≡ false
+    → One ts order ps → ⊥
+fails ts ps n f a = true≢false (sym (subst (First ts) (are ts n a) (a .first) .good) ∙ f)
+
+alone-fails : (t : List Action) {order o : List ℕ} → succeeds (t ∷ []) (0 ∷ []) ≡ false → One (t ∷ []) order o → ⊥
+alone-fails t f a =
+    let is = only-zero (a .positions) (a .first .order .as-many) (a .first .order .positions) in
+    true≢false (sym (subst (First (t ∷ [])) is (a .first) .good) ∙ f)
+
 is-order : (ts : List (List Action)) (ps : List ℕ) → length ps ≡ length ts
     → anyb (λ p. not (ltb p (length ts))) ps ≡ false → distinct ps ≡ true → IsOrder ts ps
 is-order ts ps n low d =
@@ -95,18 +105,15 @@ each-wrong =
           let is = are ts refl o in
           true≢false (subst (First ts) is (o .first) .first (0 ∷ 1 ∷ []) (is-order ts (0 ∷ 1 ∷ []) refl refl refl)
           refl);
-      take-before-write = λ a.
-          let o = one take-and-write refl a refl in
-          let is = are take-and-write refl o in
-          true≢false (sym (subst (First take-and-write) is (o .first) .good));
+      take-before-write = λ a. fails take-and-write (0 ∷ 1 ∷ []) refl refl (one take-and-write refl a refl);
       none-though-one = λ o a.
           true≢false (none-found-there take-and-write refl a refl .0 (1 ∷ 0 ∷ [])
           (is-order take-and-write (1 ∷ 0 ∷ []) refl refl refl));
-      read-behind-take = λ o a.
-          let ts : List (List Action) = (writes 5 ∷ takes 5 ∷ reads 5 ∷ []) ∷ [] in
-          let o = one ts refl a refl in
-          let is = only-zero (o .positions) (o .first .order .as-many) (o .first .order .positions) in
-          true≢false (sym (subst (First ts) is (o .first) .good));
+      read-behind-take = λ o a. alone-fails (writes 5 ∷ takes 5 ∷ reads 5 ∷ []) refl (one _ refl a refl);
+      taken-twice-by-one = λ o a. alone-fails (writes 5 ∷ takes 5 ∷ takes 5 ∷ []) refl (one _ refl a refl);
+      taken-twice-by-two = λ a.
+          let ts : List (List Action) = (writes 5 ∷ takes 5 ∷ []) ∷ (takes 5 ∷ []) ∷ [] in
+          fails ts (0 ∷ 1 ∷ []) refl refl (one ts refl a refl);
       twice-in-one = λ o a. true≢false
           (sym (one ((writes 5 ∷ writes 5 ∷ []) ∷ []) refl a refl .accepted .written-once));
       twice-in-two = λ o a.

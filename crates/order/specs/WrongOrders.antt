@@ -13,6 +13,9 @@ pub record WrongOrders : Type 0 where
   pub none-though-one : (o : List ℕ) → OrderFound (2 ∷ 1 ∷ 3 ∷ 5 ∷ 1 ∷ 1 ∷ 5 ∷ []) (9 ∷ 9 ∷ []) 0 o → ⊥
   -- an entry written and taken is read
   pub read-behind-take : (o : List ℕ) → OrderFound (1 ∷ 3 ∷ 1 ∷ 5 ∷ 3 ∷ 5 ∷ 2 ∷ 5 ∷ []) (9 ∷ []) 1 o → ⊥
+  -- a write counted twice: its entry is taken twice, by one transaction and by two
+  pub taken-twice-by-one : (o : List ℕ) → OrderFound (1 ∷ 3 ∷ 1 ∷ 5 ∷ 3 ∷ 5 ∷ 3 ∷ 5 ∷ []) (9 ∷ []) 1 o → ⊥
+  pub taken-twice-by-two : OrderFound (2 ∷ 2 ∷ 1 ∷ 5 ∷ 3 ∷ 5 ∷ 1 ∷ 3 ∷ 5 ∷ []) (9 ∷ 9 ∷ []) 1 (0 ∷ 1 ∷ []) → ⊥
   -- a number written twice, in one transaction and in two
   pub twice-in-one : (o : List ℕ) → OrderFound (1 ∷ 2 ∷ 1 ∷ 5 ∷ 1 ∷ 5 ∷ []) (9 ∷ []) 1 o → ⊥
   pub twice-in-two : (o : List ℕ) → OrderFound (2 ∷ 1 ∷ 1 ∷ 5 ∷ 1 ∷ 1 ∷ 5 ∷ []) (9 ∷ 9 ∷ []) 1 o → ⊥

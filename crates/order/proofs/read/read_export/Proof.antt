@@ -49,11 +49,13 @@ returns-3 c =
 abbrev words : tie.At-loop Inv-loop μ-loop → List ℕ
 words h = h .before .before .before .before .before .before .before .args .words .now
 
-below : (c : tie.Else3 Inv-loop μ-loop) → c .before .before .before .loop .at < length (words (c .before .before .before))
+below : (c : tie.Else3 Inv-loop μ-loop)
+    → c .before .before .before .loop .at < length (words (c .before .before .before))
 below c = has-txn _ _ _ refl (sym (c .before .has-txn .ensures) ∙ not-false _ (c .if3 .left)) .0
 
 fits : (c : tie.After-size2 Inv-loop μ-loop) → (c .size2 .result ≤ maxActions)
-    × (c .before .before .before .before .before .loop .at + (1 + 2 * c .size2 .result) ≤ length (words (c .before .before .before .before .before)))
+    × (c .before .before .before .before .before .loop .at + (1 + 2 * c .size2 .result)
+    ≤ length (words (c .before .before .before .before .before)))
 fits c =
     let e = c .before .before in
     let f = has-txn _ _ _ (c .size2 .ensures .0) (sym (e .before .has-txn .ensures) ∙ not-false _ (e .if3 .left)) in
