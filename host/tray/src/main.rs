@@ -219,12 +219,15 @@ impl Arguments {
     }
 
     fn text(&self) -> Result<String, Failed> {
+        self.text_or("`tray show` makes one of a tray's bytes")
+    }
+
+    /// The file's text; for bytes, what is to be done with them.
+    fn text_or(&self, bytes: &str) -> Result<String, Failed> {
         let file = self.file()?;
         // Many a tray is UTF-8, but hardly one is without a byte of 0.
         let text = String::from_utf8(self.bytes()?).ok().filter(|text| !text.contains('\0'));
-        let why =
-            || Failed::usage(format!("{file}: expected a text in UTF-8; `tray show` makes one of a tray's bytes"));
-        let text = text.ok_or_else(why)?;
+        let text = text.ok_or_else(|| Failed::usage(format!("{file}: expected a text in UTF-8; {bytes}")))?;
         // Some editors put a mark of the byte order before the text.
         Ok(match text.strip_prefix('\u{feff}') {
             Some(rest) => rest.to_string(),
@@ -436,7 +439,8 @@ fn order_verb(arguments: &Arguments) -> Ended {
         return Err(Failed::usage("expected --raw or --bytes, found both"));
     }
     let file = arguments.file()?;
-    let export = order::parse(&arguments.text()?).map_err(|fault| Failed::text(file, &fault))?;
+    let text = arguments.text_or("`study_order` reads the bytes of an export")?;
+    let export = order::parse(&text).map_err(|fault| Failed::text(file, &fault))?;
     if arguments.flag("--bytes") {
         print(&export.bytes())?;
         return Ok(Status::Done);

@@ -210,6 +210,9 @@ fn the_verb() {
         assert_eq!((answer.status, answer.out.as_str()), (status, ""), "{}", answer.err);
     }
     assert_eq!(tray(&["order", "no/such/file"], "").status, 1);
+    let bytes = tray(&["order", "-"], "\0\0\0\0");
+    assert_eq!(bytes.err, "tray: -: expected a text in UTF-8; `study_order` reads the bytes of an export\n");
+    assert_eq!((bytes.status, bytes.out.as_str()), (2, ""));
     assert!(tray(&["order", "--help"], "").out.contains("write 1, read 2, take 3"));
 }
 
