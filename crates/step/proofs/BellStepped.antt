@@ -32,12 +32,13 @@ use Rattle.holds.specs.declared.registry.Public.the-variants.{Written, Committe
 use Rattle.holds.specs.Registry.{countOf, heardOnce, heardBy}
 use Rattle.holds.specs.Sweep.{SameBefore}
 use Rattle.holds.proofs.RegistryLaws.{heard-by}
-use Rattle.step.specs.Bells.{rungBy, heardFor, rungFor, servedAndRung}
-use Rattle.step.specs.Does.{Carries, Adds, Does}
-use Rattle.step.specs.Ending.{Service, Both, finishedBy}
-use Rattle.step.specs.From.{serviceFrom}
-use Rattle.step.proofs.BellLaws.{rung-for, heard-fits, commit-heard, commit-rung, write-heard, write-rung}
-use Rattle.step.proofs.FinishLaws.{service-ends, both-registrations}
+use Rattle.finish.specs.Bells.{rungBy, heardFor, rungFor, servedAndRung}
+use Rattle.finish.specs.Does.{Adds, Does}
+use Rattle.step.specs.Carries.{Carries}
+use Rattle.finish.specs.Ending.{Service, Both, finishedBy}
+use Rattle.finish.specs.From.{serviceFrom}
+use Rattle.finish.proofs.BellLaws.{rung-for, heard-fits, commit-heard, commit-rung, write-heard, write-rung}
+use Rattle.finish.proofs.FinishLaws.{service-ends, both-registrations}
 use Rattle.step.proofs.KindLaws.{write-serves, commit-ends}
 use Rattle.step.proofs.SteppedLaws.{bells, asked, asked-frame, ends-same, stepped-sound, stepped-rung}
 

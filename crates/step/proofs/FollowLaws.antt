@@ -23,8 +23,8 @@ use Rattle.sound.proofs.Becomes.{endsEntry}
 use Rattle.hints.specs.Hints.{least, acted, NotBefore, Weaker, Knows, Reliable}
 use Rattle.hints.proofs.HintLaws.{weaker-same, weaker-then, sooner-still}
 use Rattle.hints.proofs.ReliableLaws.{Follows, reliable-step}
-use Rattle.step.specs.Does.{StaysReliable}
-use Rattle.step.proofs.KindLaws.{kind-cases}
+use Rattle.step.specs.Carries.{StaysReliable}
+use Rattle.rules.proofs.LookUpKinds.{kind-cases}
 use Rattle.step.proofs.SteppedLaws.{asked-frame}
 
 -- a frame that is carried out, or refused

@@ -30,8 +30,8 @@ use Rattle.sound.proofs.FreedLaws.{live-without}
 use Rattle.sound.proofs.HolderLaws.{live-found}
 use Rattle.sound.proofs.SoundProof.{available-same}
 use Rattle.hints.specs.Hints.{EndsFrom, Idle}
-use Rattle.step.specs.Ending.{ended}
-use Rattle.step.proofs.FromLaws.{service-idle}
+use Rattle.finish.specs.Ending.{ended}
+use Rattle.finish.proofs.FromLaws.{service-idle}
 
 -- where nothing ends, nobody has an available entry, and nobody is over
 module _ (f : Frame) (m : Model) where

@@ -30,10 +30,10 @@ use Rattle.rules.proofs.RefusalLaws.{clear}
 use Rattle.sound.proofs.Events.{Admitted}
 use Rattle.sound.proofs.EventsProof.{admitted}
 use Rattle.hints.specs.Hints.{least, acted, Idle, Reliable}
-use Rattle.step.specs.Does.{Adds}
-use Rattle.step.specs.Ending.{ended, advanced}
-use Rattle.step.proofs.AddsLaws.{does-nothing}
-use Rattle.step.proofs.BellLaws.{heard-none}
+use Rattle.finish.specs.Does.{Adds}
+use Rattle.finish.specs.Ending.{ended, advanced}
+use Rattle.finish.proofs.AddsLaws.{does-nothing}
+use Rattle.finish.proofs.BellLaws.{heard-none}
 use Rattle.step.proofs.IdleEnds.{none-end, tick-idle, commit-idle, public-idle, abort-idle, end-idle}
 use Rattle.step.proofs.SteppedLaws.{Silent, asked, asked-frame, stepped-silent}
 

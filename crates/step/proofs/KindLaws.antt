@@ -1,49 +1,21 @@
--- The frames of the four look-ups: what holds of each kind's operation.
+-- How the frames of each kind end.
 use Prim.Native.Nat.{ℕ}
-use mathlib.Core.Bool.{Bool, true, false, not, _&&_, _||_, or-false}
+use mathlib.Core.Bool.{Bool, false, not, _&&_, _||_, or-false}
 use mathlib.Core.Path.{_≡_, refl, sym, ap, _∙_}
 use borrow.Author.Tests.{eq-eqb, ne-eqb}
 use lib.Dec.{eqb}
-use Rattle.step.specs.Ending as Ending
+use Rattle.finish.specs.Ending as Ending
 use Rattle.rules.specs.declared.FindRequest.{FindRequest}
 use Rattle.rules.specs.declared.EntryId.{EntryId}
 use Rattle.rules.specs.declared.TxnId.{TxnId}
 use Rattle.rules.specs.declared.NotifyRequest.{NotifyRequest}
 use Rattle.rules.specs.declared.WriteRequest.{WriteRequest}
 use Rattle.rules.specs.declared.Request.the-variants.{Write, Find, Create, Commit, Abort, Notify, Tick}
-use Rattle.rules.specs.Numbers.{opRead, opTake, opReadIfExists, opTakeIfExists}
-use Rattle.rules.specs.State.{Model}
-use Rattle.rules.specs.Frame.{Frame, layoutOf, serves, isLookUp, isTick, isTake, endsTxn, isIfExists, lookUpOp}
-use Rattle.rules.specs.LookUp.{lookUp}
-use Rattle.rules.specs.Requests.{frame, frameOf, renewOf}
-use Rattle.rules.specs.Step.{ownPart}
+use Rattle.rules.specs.Frame.{layoutOf, serves, isTick, isTake, endsTxn}
+use Rattle.rules.specs.Requests.{frameOf, renewOf}
 use Rattle.rules.proofs.LayoutLaws.{lookUp-serves}
-use Rattle.step.specs.Ending.{Ending, Quiet, Service, Both, inTick, served, closing, EndsAs}
-
-pub kind-cases : (P : ℕ → Type 0) (takes ifExists : Bool) → P opRead → P opTake → P opReadIfExists → P opTakeIfExists
-    → P (lookUpOp takes ifExists)
-kind-cases P false false r t re te = r
-kind-cases P true false r t re te = t
-kind-cases P false true r t re te = re
-kind-cases P true true r t re te = te
-
-pub looks-up : (takes ifExists : Bool) → isLookUp (lookUpOp takes ifExists) ≡ true
-looks-up takes ifExists = kind-cases (λ op. isLookUp op ≡ true) takes ifExists refl refl refl refl
-
--- the kind is read back
-pub kind-back : (takes ifExists : Bool)
-    → (isTake (lookUpOp takes ifExists) ≡ takes) × (isIfExists (lookUpOp takes ifExists) ≡ ifExists)
-kind-back false false = (refl, refl)
-kind-back true false = (refl, refl)
-kind-back false true = (refl, refl)
-kind-back true true = (refl, refl)
-
--- a look-up's own part is one
-pub own-find : (m : Model) (l : FindRequest) → lookUp m (frameOf (Find l)) ≡ ownPart m (frameOf (Find l))
-unfolding ownPart
-own-find m l =
-    let f : ℕ → Frame = λ op. frame op (l .party) (l .mask) (l .txn .0) (l .timeout) (l .fields) in
-    kind-cases (λ op. lookUp m (f op) ≡ ownPart m (f op)) (l .takes) (l .«if_exists») refl refl refl refl
+use Rattle.rules.proofs.LookUpKinds.{kind-cases, looks-up, kind-back}
+use Rattle.finish.specs.Ending.{Ending, Quiet, Service, Both, inTick, served, closing, EndsAs}
 
 -- how it ends: of those who wait, only a take inside a transaction can leave one without a conflict
 pub find-ends : (l : FindRequest) (e : Ending) → inTick e ≡ false → served e ≡ false

@@ -1,19 +1,10 @@
 -- Proofs of what each frame does.
-pub mod AddsLaws
-pub mod AnsweredLaws
 pub mod KindLaws
-pub mod RefusalParts
 pub mod RenewLaws
 pub mod PassedLaws
 pub mod LookUpAnswers
-pub mod ServingLaws
-pub mod FromLaws
-pub mod IdleEnds
-pub mod TurnLaws
-pub mod AbortingLaws
-pub mod FinishLaws
-pub mod BellLaws
 pub mod SteppedLaws
+pub mod IdleEnds
 pub mod IdleStepped
 pub mod BellStepped
 pub mod FollowLaws

@@ -14,7 +14,7 @@ use Rattle.rules.specs.Done.{Carried}
 use Rattle.rules.specs.LookUp.{lookUpOf, givesNothing, answerFound, answerNothing, answerWaiting, answer, lookUp}
 use Rattle.rules.specs.Records.{found, nothing, waiting}
 use Rattle.rules.specs.Words.{view}
-use Rattle.step.specs.Does.{Carries}
+use Rattle.step.specs.Carries.{Carries}
 
 -- the same, said of an equal own part
 pub carries-as : {c c′ : Carried} (ws′ : List ℕ) (r : Record) → c ≡ c′ → Carries c ws′ r → Carries c′ ws′ r

@@ -18,8 +18,8 @@ use Rattle.rules.specs.Requests.{frame, frameOf, spaceRefusal}
 use Rattle.rules.proofs.BoolLaws.{and-false-right, or-left}
 use Rattle.rules.proofs.RefusalLaws.{testAt, none-applies}
 use Rattle.words.specs.Ends.{InTime}
-use Rattle.step.specs.Judge.{late}
-use Rattle.step.proofs.KindLaws.{kind-cases}
+use Rattle.judge.specs.Judge.{late}
+use Rattle.rules.proofs.LookUpKinds.{kind-cases}
 
 -- none of the rows applies: 10 to 12, 17 and 13 stand at the places 7 to 11
 passed : (m : Model) (f : Frame) → spaceRefusal m f ≡ 0 → (k : ℕ) → testAt (admissionRows m f ++ roomRows m f) k ≡ false

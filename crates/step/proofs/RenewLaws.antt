@@ -24,7 +24,7 @@ use Rattle.rules.proofs.RefusalLaws.{none-applies}
 use Rattle.words.specs.Ends.{InTime}
 use Rattle.holds.specs.Renew.{renewedAt}
 use Rattle.holds.proofs.RenewLaws.{by-row}
-use Rattle.step.specs.Judge.{partyWaiting, late, entryRefusal}
+use Rattle.judge.specs.Judge.{partyWaiting, late, entryRefusal}
 
 module _ (m : Model) (party : ℕ) (id : EntryId) (lease : ℕ) where
   -- 6; else 18, if no stored entry has the number; else by that entry

@@ -31,11 +31,12 @@ use Rattle.rules.proofs.ViewLaws.{view-bounded}
 use Rattle.sound.proofs.Events.{Admitted}
 use Rattle.sound.proofs.EventsProof.{admitted}
 use Rattle.holds.specs.Sweep.{SameBefore}
-use Rattle.step.specs.Does.{Carries, Adds, Does}
-use Rattle.step.specs.Judge.{ReadyFor}
-use Rattle.step.specs.Ending.{Ending, EndsAs, finishedBy}
-use Rattle.step.proofs.AddsLaws.{adds-then, does-ending}
-use Rattle.step.proofs.FinishLaws.{finish-same}
+use Rattle.finish.specs.Does.{Adds, Does}
+use Rattle.step.specs.Carries.{Carries}
+use Rattle.judge.specs.Judge.{ReadyFor}
+use Rattle.finish.specs.Ending.{Ending, EndsAs, finishedBy}
+use Rattle.finish.proofs.AddsLaws.{adds-then, does-ending}
+use Rattle.finish.proofs.FinishLaws.{finish-same}
 
 -- ---- which refusal applies
 pub asked-frame : {bs : List ℕ} {q : Request} → Decodes bs (Asks q) → frameOf q ≡ decode bs

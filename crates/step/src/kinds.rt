@@ -10,7 +10,7 @@ ghost use Rattle.rules.specs.declared.Decoded.the-variants.{Asks};
 ghost use Rattle.rules.specs.declared.Request.the-variants.{Write, Find, Create, Commit, Abort};
 ghost use Rattle.rules.specs.declared.Request.the-variants.{Notify, Tick};
 ghost use Rattle.hints.specs.Hints.{Reliable};
-ghost use Rattle.step.specs.Does.{StaysReliable};
+ghost use Rattle.step.specs.Carries.{StaysReliable};
 use crate::step::take_abort;
 use crate::step::take_commit;
 use crate::step::take_create;

@@ -1,21 +1,14 @@
 // Frames in, records out: what each frame does to one lent array of words.
-mod answers;
-mod bells;
-mod closing;
-mod finish;
-mod judge;
 mod kinds;
 mod look_up;
 mod own;
-mod service;
 mod step;
-mod tick;
 mod write;
 
 ghost use Rattle.rules.specs.Allowed.{Stepped};
 ghost use Rattle.rules.specs.Words.{view};
 ghost use Rattle.hints.specs.Hints.{Reliable};
-ghost use Rattle.step.specs.Does.{StaysReliable};
+ghost use Rattle.step.specs.Carries.{StaysReliable};
 use crate::kinds::take_up;
 use crate::step::NUMBER;
 use crate::step::refuse;

@@ -7,7 +7,7 @@ ghost use Rattle.rules.specs.declared.Request.the-variants.{Write};
 ghost use Rattle.words.specs.Ends.{InTime};
 ghost use Rattle.words.specs.Rows.{FitsWord};
 ghost use Rattle.holds.specs.Sweep.{SameBefore};
-ghost use Rattle.step.specs.Does.{Carries};
+ghost use Rattle.step.specs.Carries.{Carries};
 use crate::own::Own;
 use codec::records::mark_of;
 use codec::records::written_record;

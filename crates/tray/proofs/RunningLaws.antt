@@ -19,7 +19,7 @@ use Rattle.rules.proofs.Capacity.{step-fits}
 use Rattle.sound.proofs.SoundProof.{sound-empty, sound-step}
 use Rattle.rules.proofs.ViewLaws.{view-bounded}
 use Rattle.hints.specs.Hints.{Reliable}
-use Rattle.step.specs.Does.{StaysReliable}
+use Rattle.step.specs.Carries.{StaysReliable}
 use Rattle.tray.proofs.RunLaws.{Ran, ran-none, ran-more, ran-all, ran-stops}
 use Rattle.tray.specs.Pairs.{pairAt}
 use Rattle.tray.proofs.PairLaws.{frames-length, frames-next}

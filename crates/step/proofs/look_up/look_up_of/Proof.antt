@@ -1,7 +1,7 @@
 -- `step::look_up::look_up_of` meets its contract. Assumes nothing.
 use borrow.Author.Needs.{needs}
 use Rattle.rules.specs.LookUp.{lookUpOf}
-use Rattle.step.proofs.KindLaws.{kind-back}
+use Rattle.rules.proofs.LookUpKinds.{kind-back}
 use Rattle.step.proofs.look_up.look_up_of.Statement.{statement}
 use Rattle.step.proofs.look_up.look_up_of.Tie as tie
 

@@ -2,7 +2,7 @@
 use mathlib.Core.Path.{refl, subst}
 use mathlib.Core.List.{[], _∷_}
 use borrow.Author.Needs.{needs}
-use Rattle.step.specs.Does.{Adds}
+use Rattle.finish.specs.Does.{Adds}
 use Rattle.step.proofs.step.refuse.Statement.{statement}
 use Rattle.step.proofs.step.refuse.Tie as tie
 

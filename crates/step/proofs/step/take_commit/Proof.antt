@@ -5,9 +5,9 @@ use borrow.Author.Needs.{needs}
 use Rattle.step.proofs.step.take_commit.Tie as tie
 use Rattle.rules.specs.Words.{view}
 use Rattle.rules.proofs.ViewLaws.{view-bounded}
-use Rattle.step.proofs.AddsLaws.{adds-length}
+use Rattle.finish.proofs.AddsLaws.{adds-length}
 use Rattle.step.proofs.BellStepped.{stepped-committed}
-use Rattle.step.proofs.FinishLaws.{both-few}
+use Rattle.finish.proofs.FinishLaws.{both-few}
 use Rattle.step.proofs.IdleStepped.{stepped-commit}
 use Rattle.step.proofs.SteppedLaws.{stepped-judged}
 use Rattle.step.proofs.step.take_commit.Statement.{statement}

@@ -6,8 +6,8 @@ use Rattle.rules.specs.Step.{ownPart}
 use Rattle.rules.specs.Words.{view}
 use Rattle.rules.proofs.NotifyLaws.{none-rung}
 use Rattle.rules.proofs.ViewLaws.{view-bounded}
-use Rattle.step.proofs.AddsLaws.{does-nothing, does-as}
-use Rattle.step.proofs.FinishLaws.{quiet-ends}
+use Rattle.finish.proofs.AddsLaws.{does-nothing, does-as}
+use Rattle.finish.proofs.FinishLaws.{quiet-ends}
 use Rattle.step.proofs.KindLaws.{create-quiet}
 use Rattle.step.proofs.SteppedLaws.{stepped-judged, stepped-done}
 use Rattle.step.proofs.step.take_create.Statement.{statement}

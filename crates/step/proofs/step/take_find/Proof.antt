@@ -6,10 +6,11 @@ use Rattle.step.proofs.step.take_find.Tie as tie
 use Rattle.rules.specs.Words.{view}
 use Rattle.rules.proofs.NotifyLaws.{lookUp-silent}
 use Rattle.rules.proofs.ViewLaws.{view-bounded}
-use Rattle.step.specs.Ending.{Nothings, Quiet}
-use Rattle.step.proofs.AddsLaws.{does-nothing, does-as}
-use Rattle.step.proofs.FinishLaws.{nothings-end, quiet-ends}
-use Rattle.step.proofs.KindLaws.{find-ends, own-find, looks-up}
+use Rattle.finish.specs.Ending.{Nothings, Quiet}
+use Rattle.finish.proofs.AddsLaws.{does-nothing, does-as}
+use Rattle.finish.proofs.FinishLaws.{nothings-end, quiet-ends}
+use Rattle.rules.proofs.LookUpKinds.{own-find, looks-up}
+use Rattle.step.proofs.KindLaws.{find-ends}
 use Rattle.step.proofs.LookUpAnswers.{carries-as}
 use Rattle.step.proofs.SteppedLaws.{ready-for, stepped-judged, stepped-done}
 use Rattle.step.proofs.step.take_find.Statement.{statement}

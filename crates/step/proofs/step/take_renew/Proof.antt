@@ -14,8 +14,8 @@ use Rattle.rules.proofs.ViewLaws.{view-bounded}
 use Rattle.words.specs.Rows.{entryRow}
 use Rattle.words.proofs.Tables.{length-entries, entry-in}
 use Rattle.holds.specs.Find.{matchOf, InRow}
-use Rattle.step.proofs.AddsLaws.{does-nothing, does-as}
-use Rattle.step.proofs.FinishLaws.{quiet-ends}
+use Rattle.finish.proofs.AddsLaws.{does-nothing, does-as}
+use Rattle.finish.proofs.FinishLaws.{quiet-ends}
 use Rattle.step.proofs.KindLaws.{renew-quiet}
 use Rattle.step.proofs.RenewLaws.{renew-waits, renew-none, renew-some, renew-in-time, renew-row}
 use Rattle.step.proofs.SteppedLaws.{stepped-judged, stepped-done}

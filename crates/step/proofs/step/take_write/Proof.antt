@@ -12,11 +12,11 @@ use Rattle.rules.specs.Step.{ownPart, writeFrame}
 use Rattle.rules.specs.Words.{view}
 use Rattle.rules.proofs.BoolLaws.{and-right}
 use Rattle.rules.proofs.ViewLaws.{view-bounded}
-use Rattle.step.specs.Ending.{Quiet}
-use Rattle.step.proofs.AddsLaws.{adds-length, does-nothing, does-as}
-use Rattle.step.proofs.BellLaws.{silent-inside, silent-write}
+use Rattle.finish.specs.Ending.{Quiet}
+use Rattle.finish.proofs.AddsLaws.{adds-length, does-nothing, does-as}
+use Rattle.finish.proofs.BellLaws.{silent-inside, silent-write}
 use Rattle.step.proofs.BellStepped.{stepped-written}
-use Rattle.step.proofs.FinishLaws.{service-ends, quiet-ends}
+use Rattle.finish.proofs.FinishLaws.{service-ends, quiet-ends}
 use Rattle.step.proofs.KindLaws.{write-serves, write-quiet}
 use Rattle.step.proofs.SteppedLaws.{stepped-judged, stepped-done}
 use Rattle.step.proofs.step.take_write.Statement.{statement}

@@ -1,0 +1,2 @@
+-- Proofs of the refusals.
+pub mod RefusalParts

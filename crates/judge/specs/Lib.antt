@@ -1,0 +1,2 @@
+-- Refusals as the code judges them.
+pub mod Judge
