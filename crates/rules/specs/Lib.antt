@@ -30,6 +30,7 @@ pub mod Step
 pub mod Sound
 -- The serial run
 pub mod SerialRun
+pub mod Log
 -- Trays, what is printed
 pub mod Tray
 pub mod Print

@@ -214,3 +214,11 @@ pairsRefused = 16
 -- more than 6 transactions, more than 8 actions, or a number written twice is handed in (document 02, T-12)
 abbrev pub orderRefused : ℕ
 orderRefused = 22
+
+-- of a trial (document 02, T-13): panes are not 1-4, or starting entries exceed 8
+abbrev pub panesRefused : ℕ
+panesRefused = 23
+
+-- rounds exceed 1,000
+abbrev pub roundsRefused : ℕ
+roundsRefused = 24

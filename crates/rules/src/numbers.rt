@@ -125,3 +125,7 @@ pub const HELD_REFUSED: u8 = 20;
 pub const PLACE_REFUSED: u8 = 21;
 
 pub const ORDER_REFUSED: u8 = 22;
+
+pub const PANES_REFUSED: u8 = 23;
+
+pub const ROUNDS_REFUSED: u8 = 24;
