@@ -65,5 +65,9 @@ hears p a s =
 -- "A hold counts whole ticks, without the tick that itself served the found": one less with each tick that comes while
 -- it holds
 unfoldable pub ticked : Stage → Stage
+ticked Creates = Creates
+ticked (Takes t) = Takes t
+ticked (Waits t) = Waits t
 ticked (Holds t n) = Holds t (n - 1)
-ticked s = s
+ticked (Commits t) = Commits t
+ticked (Aborts t) = Aborts t
