@@ -1,6 +1,13 @@
 // Trial panes: what designers try leases with.
+mod hearing;
+mod machine;
+mod rounds;
+mod setup;
+
 ghost use Rattle.trial.specs.Trial.{Tried};
 ghost use mathlib.Core.Path.{_≡_};
+use crate::rounds::count_trial;
+use crate::setup::refusal;
 use rules::TxnId;
 
 // A pane's own leases, timeout, kinds and hold.
@@ -26,8 +33,24 @@ pub enum Stage {
     Aborts(TxnId),
 }
 
+// A pane on its way: what it does next, and what has been counted of it.
+pub struct Progress {
+    pub stage: Stage,
+    pub commits: u32,
+    pub exceptions: u32,
+    pub nothings: u32,
+}
+
+// A refusal's number stands above the lower 16 bits of what is returned.
+const NUMBER: u64 = 65536;
+
 pub fn run(setup: &[u32], counts: &mut [u32]) -> u64
     ensures { λ r. ⌜ Tried (now (setup .entry)) (now (counts .entry)) r (now (counts .exit)) ⌝ }
 {
+    let number = refusal(setup, counts.len());
+    if number != 0 {
+        return NUMBER * number as u64;
+    }
+    count_trial(setup, counts);
     0
 }

@@ -1,0 +1,6 @@
+-- Laws that the proofs of several functions cite.
+mod UpToMore
+mod WordLaws
+mod HeardLaws
+mod LogLaws
+mod TryingLaws
