@@ -3,4 +3,5 @@ mod UpToMore
 mod WordLaws
 mod HeardLaws
 mod LogLaws
+mod SetupLaws
 mod TryingLaws

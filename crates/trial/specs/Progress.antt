@@ -17,7 +17,7 @@ use Rattle.trial.specs.declared.Stage.the-variants.{Creates}
 use Rattle.trial.specs.declared.machine.Next.{Next}
 use Rattle.trial.specs.declared.machine.Next.the-variants.{Sends, Rests}
 use Rattle.trial.specs.Setup.{paneCount, startingCount, paneAt}
-use Rattle.trial.specs.Panes.{hears, ticked}
+use Rattle.trial.specs.Panes.{sends, hears, ticked}
 
 -- the code's answer, as a request or none
 abbrev pub asked : Next → Option Request
@@ -36,6 +36,10 @@ fresh = record { stage = Creates; commits = 0; exceptions = 0; nothings = 0 }
 
 abbrev pub at : List Progress → ℕ → Progress
 at xs i = getD xs i fresh
+
+-- what the pane at a place sends next
+abbrev pub nextAt : List ℕ → List Progress → ℕ → Option Request
+nextAt ws xs i = sends (paneAt ws i) (suc i) (at xs i .stage)
 
 -- what has been counted of a pane; and room for n records more, of each
 abbrev pub total : Progress → ℕ

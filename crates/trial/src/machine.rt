@@ -1,10 +1,8 @@
 // A pane as a small machine: what it sends next, and what a record or a tick does to it.
 ghost use mathlib.Core.Path.{_≡_};
-ghost use Prim.Native.Nat.{ℕ};
 ghost use Rattle.rules.specs.Template.{fourFields};
 ghost use Rattle.trial.specs.declared.Stage.the-variants.{Takes, Holds};
 ghost use Rattle.trial.specs.Panes.{sends, hears, ticked, refusedIn};
-ghost use Rattle.trial.specs.Trial.{isSome};
 ghost use Rattle.trial.specs.Progress.{asked};
 use crate::Pane;
 use crate::Stage;
@@ -95,17 +93,6 @@ pub(crate) fn next_of(pane: Pane, party: u8, stage: Stage) -> Next
     }
 }
 
-// "Each round every pane not waiting or holding sends one frame."
-pub(crate) fn is_ready(stage: Stage) -> bool
-    ensures { λ r. ⌜ ((p : Pane) (party : ℕ) → r ≡ isSome (sends p party stage)) ⌝ }
-{
-    match stage {
-        Stage::Waits(_) => false,
-        Stage::Holds(_, ticks) => ticks == 0,
-        _ => true,
-    }
-}
-
 // After a refused frame: in a transaction it aborts next.
 fn refused_in(stage: Stage) -> Stage
     ensures { λ r. ⌜ r ≡ refusedIn stage ⌝ }
@@ -132,7 +119,9 @@ pub(crate) fn hears(pane: Pane, a: Record, stage: Stage) -> Stage
         KIND_FOUND => Stage::Holds(txn, pane.hold),
         KIND_NOTHING => Stage::Aborts(txn),
         KIND_WRITTEN => Stage::Commits(txn),
-        KIND_COMMITTED | KIND_ABORTED | KIND_EXCEPTION => Stage::Creates,
+        KIND_COMMITTED => Stage::Creates,
+        KIND_ABORTED => Stage::Creates,
+        KIND_EXCEPTION => Stage::Creates,
         KIND_REFUSED => refused_in(stage),
         _ => stage,
     }
@@ -143,6 +132,9 @@ pub(crate) fn ticked(stage: Stage) -> Stage
     ensures { λ r. ⌜ r ≡ ticked stage ⌝ }
 {
     match stage {
+        Stage::Creates => Stage::Creates,
+        Stage::Takes(txn) => Stage::Takes(txn),
+        Stage::Waits(txn) => Stage::Waits(txn),
         Stage::Holds(txn, ticks) => {
             if ticks == 0 {
                 Stage::Holds(txn, 0)
@@ -150,6 +142,7 @@ pub(crate) fn ticked(stage: Stage) -> Stage
                 Stage::Holds(txn, ticks - 1)
             }
         }
-        _ => stage,
+        Stage::Commits(txn) => Stage::Commits(txn),
+        Stage::Aborts(txn) => Stage::Aborts(txn),
     }
 }

@@ -9,16 +9,13 @@ ghost use Rattle.rules.specs.Words.{upTo};
 ghost use Rattle.rules.specs.Frame.{frameBytes};
 ghost use Rattle.rules.specs.Requests.{frameOf};
 ghost use Rattle.trial.specs.Setup.{roundsIn, paneCount, startingCount, startingFrames, setupRefusal};
-ghost use Rattle.trial.specs.Panes.{sends};
 ghost use Rattle.trial.specs.Trial.{Round, isSome, isReady, nextOf, sendsNow, send, turns, round, rounds, sendAll};
 ghost use Rattle.trial.specs.Trial.{countsIn};
-ghost use Rattle.trial.specs.Progress.{at, fresh, countsAt};
+ghost use Rattle.trial.specs.Progress.{asked, WellFormed, at, fresh, countsAt, nextAt};
 ghost use Rattle.trial.specs.Trying.{Underway, Goes};
-use crate::Pane;
 use crate::Progress;
 use crate::Stage;
 use crate::machine::Next;
-use crate::machine::is_ready;
 use crate::machine::next_of;
 use crate::hearing::Panes;
 use crate::hearing::hear_all;
@@ -55,28 +52,38 @@ fn send(setup: &[u32], space: &mut Words, hints: &mut Hints, panes: Panes, q: Re
     hear_all(setup, &area, (answer % 65536) as usize, panes)
 }
 
+// What the pane at a place sends next, unless it waits or holds.
+fn next_at(setup: &[u32], panes: Panes, i: usize) -> Next
+    requires { ⌜ WellFormed (now setup) × (i < paneCount (now setup)) ⌝ }
+    ensures { λ r. ⌜ asked r ≡ nextAt (now (setup .entry)) panes i ⌝ }
+{
+    let x = panes[i];
+    let stage = x.stage;
+    next_of(pane_at(setup, i), (i + 1) as u8, stage)
+}
+
+fn is_ready_at(setup: &[u32], panes: Panes, i: usize) -> bool
+    requires { ⌜ WellFormed (now setup) × (i < paneCount (now setup)) ⌝ }
+    ensures { λ r. ⌜ r ≡ isSome (nextAt (now (setup .entry)) panes i) ⌝ }
+{
+    let next = next_at(setup, panes, i);
+    match next {
+        Next::Sends(_) => true,
+        Next::Rests => false,
+    }
+}
+
 // The pane at a place sends what it sends next.
 fn turn(setup: &[u32], space: &mut Words, hints: &mut Hints, panes: Panes, i: usize) -> Panes
     requires { ⌜ Underway (now setup) 1 (now space) (now hints) panes × (i < paneCount (now setup)) ⌝ }
     ensures { λ r. ⌜ Goes (now (setup .entry)) 1 (λ n. sendsNow true (nextOf (n .panes) i) n)
         (now (space .entry)) (now (hints .entry)) panes (now (space .exit)) (now (hints .exit)) r ⌝ }
 {
-    let x = panes[i];
-    let stage = x.stage;
-    let next = next_of(pane_at(setup, i), (i + 1) as u8, stage);
+    let next = next_at(setup, panes, i);
     match next {
         Next::Sends(q) => send(setup, space, hints, panes, q),
         Next::Rests => panes,
     }
-}
-
-fn is_ready_at(panes: Panes, i: usize) -> bool
-    requires { ⌜ i < 4 ⌝ }
-    ensures { λ r. ⌜ ((p : Pane) (party : ℕ) → r ≡ isSome (sends p party (at panes i .stage))) ⌝ }
-{
-    let x = panes[i];
-    let stage = x.stage;
-    is_ready(stage)
 }
 
 // The panes that are ready now send one frame each, by number.
@@ -89,7 +96,7 @@ fn take_turns(setup: &[u32], space: &mut Words, hints: &mut Hints, panes: Panes)
     let mut after = panes;
     let mut i: usize = 0;
     while i < count {
-        if is_ready_at(panes, i) {
+        if is_ready_at(setup, panes, i) {
             let next = turn(setup, space, hints, after, i);
             after = next;
         }

@@ -1,0 +1,13 @@
+-- `trial::machine::write_in` meets its contract. Assumes nothing.
+use mathlib.Core.Path.{_≡_, refl, sym, ap, _∙_}
+use borrow.Author.Needs.{needs}
+use Rattle.trial.specs.Panes.{sends}
+use Rattle.trial.proofs.machine.write_in.Statement.{statement}
+use Rattle.trial.proofs.machine.write_in.Tie as tie
+
+returns : tie.Need-returns
+unfolding sends
+returns c = rw (c .of-kind .ensures)
+
+pub write-in-spec : {M : Type 1} → statement M
+write-in-spec = tie.close (tie.spec (λ c κs. search needs) returns)
