@@ -5,3 +5,5 @@ mod HeardLaws
 mod LogLaws
 mod SetupLaws
 mod TryingLaws
+mod TurnLaws
+mod FrameLaws

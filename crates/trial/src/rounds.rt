@@ -1,6 +1,5 @@
 // A trial: frames are handed to a space of its own in rounds, and what the panes are answered is counted.
 ghost use mathlib.Core.Path.{_≡_};
-ghost use mathlib.Core.Bool.{true};
 ghost use mathlib.Core.List.{_++_, map};
 ghost use Prim.Native.Nat.{ℕ, _*_, _≤_, _<_};
 ghost use lib.ListN.{length, drop};
@@ -73,12 +72,22 @@ fn is_ready_at(setup: &[u32], panes: Panes, i: usize) -> bool
     }
 }
 
-// The pane at a place sends what it sends next.
-fn turn(setup: &[u32], space: &mut Words, hints: &mut Hints, panes: Panes, i: usize) -> Panes
+// The pane at a place sends what it sends next, if it was ready when the round began.
+fn turn(
+    setup: &[u32],
+    space: &mut Words,
+    hints: &mut Hints,
+    panes: Panes,
+    i: usize,
+    ready: bool,
+) -> Panes
     requires { ⌜ Underway (now setup) 1 (now space) (now hints) panes × (i < paneCount (now setup)) ⌝ }
-    ensures { λ r. ⌜ Goes (now (setup .entry)) 1 (λ n. sendsNow true (nextOf (n .panes) i) n)
+    ensures { λ r. ⌜ Goes (now (setup .entry)) 1 (λ n. sendsNow ready (nextOf (n .panes) i) n)
         (now (space .entry)) (now (hints .entry)) panes (now (space .exit)) (now (hints .exit)) r ⌝ }
 {
+    if !ready {
+        return panes;
+    }
     let next = next_at(setup, panes, i);
     match next {
         Next::Sends(q) => send(setup, space, hints, panes, q),
@@ -96,10 +105,8 @@ fn take_turns(setup: &[u32], space: &mut Words, hints: &mut Hints, panes: Panes)
     let mut after = panes;
     let mut i: usize = 0;
     while i < count {
-        if is_ready_at(setup, panes, i) {
-            let next = turn(setup, space, hints, after, i);
-            after = next;
-        }
+        let next = turn(setup, space, hints, after, i, is_ready_at(setup, panes, i));
+        after = next;
         i += 1;
     }
     after

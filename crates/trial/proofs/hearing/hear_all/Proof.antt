@@ -1,48 +1,49 @@
 -- `trial::hearing::hear_all` meets its contract. Assumes nothing.
+use mathlib.Core.Path.{_≡_, refl, sym, ap, _∙_}
+use native.Mathlib.Omega.{arith}
+use Prim.Native.Nat.{_-_, _≤_}
+use Rattle.trial.specs.Progress.{Room, follows, recordsAt, Each}
+use Rattle.trial.proofs.HeardLaws.{each-more, room-less}
 use Rattle.trial.proofs.hearing.hear_all.Statement.{statement}
 use Rattle.trial.proofs.hearing.hear_all.Tie as tie
-use Rattle.trial.proofs.hearing.hear_all.Reads as reads
-use Rattle.trial.proofs.hearing.hear_all.Lts as lts
-use Rattle.codec.proofs.record_at.Reads as record-at-reads
-use Rattle.trial.proofs.hearing.hear_record.Reads as hear-record-reads
 
 abbrev Inv-loop : tie.InvT-loop
-Inv-loop setup area count heard₀ i₀ heard i = ?
+Inv-loop setup area count heard₀ i₀ heard i =
+    Each setup (follows setup (recordsAt area i)) heard₀ heard × Room setup (count - i) heard × (i ≤ count)
 
 abbrev μ-loop : tie.MeasureT-loop
-μ-loop setup area count heard₀ i₀ heard i = ?
+μ-loop setup area count heard₀ i₀ heard i = count - i
 
--- src/hearing.rt:79:5
 loop-holds : tie.Need-loop-holds Inv-loop μ-loop
-loop-holds c = ?
+unfolding follows
+loop-holds c = let start = c .before .before in
+    (record { each = λ i h. refl }, λ i h. omega (arith, start .pre .2 i h), omega arith)
 
--- src/hearing.rt:80:62
 mul-record-at : tie.Need-mul-record-at Inv-loop μ-loop
-mul-record-at c = ?
+mul-record-at c = omega (arith, c .before .before .before .before .pre .1)
 
--- src/hearing.rt:80:46
 record-at-requires : tie.Need-record-at-requires Inv-loop μ-loop
-record-at-requires c κs = ?
+record-at-requires c κs = tt
 
--- src/hearing.rt:80:13
 hear-record-requires : tie.Need-hear-record-requires Inv-loop μ-loop
-hear-record-requires c κs = ?
+hear-record-requires c κs = let l = c .before .before .loop in
+    (c .before .before .before .before .before .pre .0, λ i h. omega (arith, l .inv .1 i h, c .before .loop-test .taken))
 
--- src/hearing.rt:82:9
 add-i : tie.Need-add-i Inv-loop μ-loop
-add-i c = ?
+add-i c = omega arith
 
--- src/hearing.rt:79:5
 loop-less : tie.Need-loop-less Inv-loop μ-loop
-loop-less c = ?
+loop-less c = omega arith
 
--- src/hearing.rt:79:5
 loop-again : tie.Need-loop-again Inv-loop μ-loop
-loop-again c = ?
+loop-again c = let l = c .before .before .before .loop in
+    let one = c .hear-record .ensures in
+    (each-more _ _ _ (l .inv .0) (c .before .record-at .ensures) one, room-less _ _ _ one (l .inv .1) (omega arith), omega arith)
 
--- src/hearing.rt:72:1
 returns : tie.Need-returns Inv-loop μ-loop
-returns c = ?
+returns c = let l = c .before .loop in
+    let done : l .i ≡ c .before .before .before .before .args .count = omega arith in
+    rw done at (l .inv .0)
 
 pub hear-all-spec : {M : Type 1} → statement M
 hear-all-spec =

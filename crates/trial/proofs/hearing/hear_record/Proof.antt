@@ -1,28 +1,26 @@
 -- `trial::hearing::hear_record` meets its contract. Assumes nothing.
+use mathlib.Core.Path.{_≡_, refl, sym, ap, _∙_}
+use native.Mathlib.Omega.{arith}
 use borrow.Author.Needs.{needs}
+use Prim.Native.Nat.{_-_}
+use Rattle.trial.specs.Progress.{at, heardBy}
+use Rattle.trial.proofs.HeardLaws.{each-same, each-set}
 use Rattle.trial.proofs.hearing.hear_record.Statement.{statement}
 use Rattle.trial.proofs.hearing.hear_record.Tie as tie
-use Rattle.trial.proofs.hearing.hear_record.Reads as reads
-use Rattle.trial.proofs.hearing.hear_record.Lts as lts
-use Rattle.trial.proofs.hearing.hear.Reads as hear-reads
-use Rattle.trial.proofs.setup.pane_at.Reads as pane-at-reads
-use Rattle.trial.proofs.setup.pane_count.Reads as pane-count-reads
 
--- src/hearing.rt:60:9
 returns : tie.Need-returns
-returns c = ?
+returns c = each-same _ (λ i h e. omega (arith, c .if1 .taken))
 
--- src/hearing.rt:63:9
 returns-2 : tie.Need-returns-2
-returns-2 c = ?
+returns-2 c = each-same _ (λ i h e. omega (arith, c .if2 .taken, c .before .pane-count .ensures .0))
 
--- src/hearing.rt:67:15
 hear-requires : tie.Need-hear-requires
-hear-requires c κs = ?
+hear-requires c κs = let start = c .before .before .before .before .before .before .before in
+    omega (arith, start .pre .1 (start .args .a .party - 1) (omega (arith, c .before .before .if2 .left, c .before .before .before .pane-count .ensures .0, c .before .before .before .before .if1 .left)))
 
--- src/hearing.rt:54:1
 returns-3 : tie.Need-returns-3
-returns-3 c = ?
+returns-3 c = let start = c .before .before .before .before .before .before .before .before in
+    each-set _ (start .args .a .party - 1) (omega (arith, start .good .1 .0 .1 .0 .1, c .before .before .before .if2 .left, c .before .before .before .before .pane-count .ensures .0, start .pre .0 .few)) (omega (arith, c .before .before .before .before .before .if1 .left)) (c .hear .ensures ∙ ap (λ p. heardBy p (start .args .a) (at (start .args .t2) (start .args .a .party - 1))) (c .before .before .pane-at .ensures))
 
 pub hear-record-spec : {M : Type 1} → statement M
 hear-record-spec =

@@ -1,14 +1,13 @@
 -- `trial::hearing::hold_all` meets its contract. Assumes nothing.
+use mathlib.Core.Path.{_≡_, refl, sym, ap, _∙_}
 use borrow.Author.Needs.{needs}
+use Rattle.trial.specs.Progress.{heldBy}
+use Rattle.trial.proofs.HeardLaws.{four-by}
 use Rattle.trial.proofs.hearing.hold_all.Statement.{statement}
 use Rattle.trial.proofs.hearing.hold_all.Tie as tie
-use Rattle.trial.proofs.hearing.hold_all.Reads as reads
-use Rattle.trial.proofs.hearing.hold_all.Lts as lts
-use Rattle.trial.proofs.hearing.hold.Reads as hold-reads
 
--- src/hearing.rt:101:1
 returns : tie.Need-returns
-returns c = ?
+returns c = four-by heldBy _ (c .before .before .before .before .before .before .hold .ensures) (c .before .before .before .before .hold2 .ensures) (c .before .before .hold3 .ensures) (c .hold4 .ensures)
 
 pub hold-all-spec : {M : Type 1} → statement M
 hold-all-spec =
