@@ -7,7 +7,7 @@ use Rattle.trial.proofs.hearing.hold_all.Statement.{statement}
 use Rattle.trial.proofs.hearing.hold_all.Tie as tie
 
 returns : tie.Need-returns
-returns c = four-by heldBy _ (c .before .before .before .before .before .before .hold .ensures) (c .before .before .before .before .hold2 .ensures) (c .before .before .hold3 .ensures) (c .hold4 .ensures)
+returns c = four-by heldBy (c .before .before .before .before .before .before .before .before .args .t1) (c .before .before .before .before .before .before .hold .ensures) (c .before .before .before .before .hold2 .ensures) (c .before .before .hold3 .ensures) (c .hold4 .ensures)
 
 pub hold-all-spec : {M : Type 1} → statement M
 hold-all-spec =

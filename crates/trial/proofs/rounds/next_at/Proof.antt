@@ -1,15 +1,15 @@
 -- `trial::rounds::next_at` meets its contract. Assumes nothing.
+use mathlib.Core.Path.{_≡_, ap₂, _∙_}
+use native.Mathlib.Numerals.{add-one}
 use borrow.Author.Needs.{needs}
+use Rattle.trial.specs.Panes.{sends}
+use Rattle.trial.specs.Progress.{at}
 use Rattle.trial.proofs.rounds.next_at.Statement.{statement}
 use Rattle.trial.proofs.rounds.next_at.Tie as tie
-use Rattle.trial.proofs.rounds.next_at.Reads as reads
-use Rattle.trial.proofs.rounds.next_at.Lts as lts
-use Rattle.trial.proofs.machine.next_of.Reads as next-of-reads
-use Rattle.trial.proofs.setup.pane_at.Reads as pane-at-reads
 
--- src/rounds.rt:56:1
 returns : tie.Need-returns
-returns c = ?
+returns c = let a = c .before .before .before .before .args in
+    c .next-of .ensures ∙ ap₂ (λ p k. sends p k (at (a .t2) (a .i) .stage)) (c .before .pane-at .ensures) (add-one (a .i))
 
 pub next-at-spec : {M : Type 1} → statement M
 next-at-spec =

@@ -1,49 +1,63 @@
 -- `trial::rounds::write_starting` meets its contract. Assumes nothing.
+use Prim.Native.Nat.{_-_, _≤_}
+use mathlib.Core.Path.{_≡_, refl, sym, ap, _∙_}
+use native.Mathlib.Omega.{arith}
+use Rattle.rules.specs.Words.{upTo}
+use Rattle.trial.specs.Setup.{startingCount, startingFrame}
+use Rattle.trial.specs.Trial.{send, sendAll}
+use Rattle.trial.specs.Trying.{Goes}
+use Prim.Native.Nat.{_+_}
+use Rattle.trial.proofs.TurnLaws.{sends-more}
+use Rattle.trial.proofs.TryingLaws.{underway-on, goes-then, goes-as, goes-none}
+use Rattle.trial.proofs.UpToMore.{as-upTo}
 use Rattle.trial.proofs.rounds.write_starting.Statement.{statement}
 use Rattle.trial.proofs.rounds.write_starting.Tie as tie
-use Rattle.trial.proofs.rounds.write_starting.Reads as reads
-use Rattle.trial.proofs.rounds.write_starting.Lts as lts
-use Rattle.trial.proofs.rounds.send.Reads as send-reads
-use Rattle.trial.proofs.setup.starting_count.Reads as starting-count-reads
-use Rattle.trial.proofs.setup.starting_write.Reads as starting-write-reads
 
 abbrev Inv-loop : tie.InvT-loop
-Inv-loop setup space₀ hints₀ count after₀ i₀ space hints after i = ?
+Inv-loop setup space₀ hints₀ count after₀ i₀ space hints after i =
+    Goes setup i (sendAll (upTo (startingFrame setup) i)) space₀ hints₀ after₀ space hints after
+    × (i ≤ count)
+    × (count ≡ startingCount setup)
 
 abbrev μ-loop : tie.MeasureT-loop
-μ-loop setup space₀ hints₀ count after₀ i₀ space hints after i = ?
+μ-loop setup space₀ hints₀ count after₀ i₀ space hints after i = count - i
 
--- src/rounds.rt:140:9
 starting-count-requires : tie.Need-starting-count-requires Inv-loop μ-loop
-starting-count-requires c κs = ?
+starting-count-requires c κs = omega (arith, c .before .pre .setup .size)
 
--- src/rounds.rt:143:5
 loop-holds : tie.Need-loop-holds Inv-loop μ-loop
-loop-holds c = ?
+unfolding sendAll
+loop-holds c = (goes-none 0, omega arith, c .starting-count .ensures .0)
 
--- src/rounds.rt:144:53
 starting-write-requires : tie.Need-starting-write-requires Inv-loop μ-loop
-starting-write-requires c κs = ?
+starting-write-requires c κs = let l = c .before .before .before .loop in omega (arith, l .inv .2, c .before .before .before .before .before .before .pre .setup .size)
 
--- src/rounds.rt:144:13
 send-requires : tie.Need-send-requires Inv-loop μ-loop
-send-requires c κs = ?
+send-requires c κs = let l = c .before .before .before .before .loop in underway-on (l .i) 1 (c .before .before .before .before .before .before .before .pre) (l .inv .0) (omega (arith, l .inv .2))
 
--- src/rounds.rt:146:9
 add-i : tie.Need-add-i Inv-loop μ-loop
-add-i c = ?
+add-i c = omega arith
 
--- src/rounds.rt:143:5
 loop-less : tie.Need-loop-less Inv-loop μ-loop
-loop-less c = ?
+loop-less c = omega arith
 
--- src/rounds.rt:143:5
 loop-again : tie.Need-loop-again Inv-loop μ-loop
-loop-again c = ?
+loop-again c = let l = c .before .before .before .before .before .loop in
+    let frames = startingFrame (c .before .before .before .before .before .before .before .before .args .setup .now) in (
+      goes-as (l .i + 1)
+          (λ r. ap (λ bs. send bs (sendAll (upTo frames (l .i)) r)) (c .before .starting-write .ensures)
+          ∙ sym (sends-more frames (l .i) r))
+          (goes-then (l .i) 1 (l .i + 1) (l .inv .0) (c .send .ensures) (omega arith)),
+      omega arith,
+      l .inv .2,
+    )
 
--- src/rounds.rt:135:1
 returns : tie.Need-returns Inv-loop μ-loop
-returns c = ?
+returns c = let l = c .before .loop in
+    let ws = c .before .before .before .before .args .setup .now in
+    let done : l .i ≡ startingCount ws = omega (arith, l .inv .2) in
+    goes-as (startingCount ws) (λ r. ap (λ l. sendAll l r) (sym (as-upTo (startingFrame ws) (startingCount ws))))
+    (rw done at (l .inv .0))
 
 pub write-starting-spec : {M : Type 1} → statement M
 write-starting-spec =
