@@ -308,6 +308,11 @@ module _ {ws space hints : List ℕ} {xs : List Progress} {space′ hints′ : L
 pub goes-none : {ws space hints : List ℕ} {xs : List Progress} (n : ℕ) → Goes ws n (λ r. r) space hints xs space hints xs
 goes-none n k r t = trying-more t (omega arith)
 
+-- a tick has come
+pub goes-held : {ws space hints : List ℕ} {xs ys : List Progress}
+    → ((i : ℕ) → i < paneCount ws → at ys i ≡ heldBy (at xs i)) → Goes ws 0 held space hints xs space hints ys
+goes-held each k r t = trying-more (trying-held t each) (omega arith)
+
 -- the counts of a trial that is over
 pub counts-are : {ws : List ℕ} {k : ℕ} {space hints : List ℕ} {xs : List Progress}
     → Trying ws k (trial ws) space hints xs → joined (upTo (λ i. countsAt (at xs i)) (paneCount ws)) ≡ countsIn ws

@@ -1,24 +1,24 @@
 -- `trial::rounds::round` meets its contract. Assumes nothing.
+use native.Mathlib.Omega.{arith}
 use borrow.Author.Needs.{needs}
+use Rattle.trial.specs.Trial.{round, tick}
+use Rattle.trial.proofs.TryingLaws.{underway-on, goes-then, goes-none, goes-held}
 use Rattle.trial.proofs.rounds.round.Statement.{statement}
 use Rattle.trial.proofs.rounds.round.Tie as tie
-use Rattle.trial.proofs.rounds.round.Reads as reads
-use Rattle.trial.proofs.rounds.round.Lts as lts
-use Rattle.trial.proofs.hearing.hold_all.Reads as hold-all-reads
-use Rattle.trial.proofs.rounds.send.Reads as send-reads
-use Rattle.trial.proofs.rounds.take_turns.Reads as take-turns-reads
 
--- src/rounds.rt:121:9
 take-turns-requires : tie.Need-take-turns-requires
-take-turns-requires c κs = ?
+take-turns-requires c κs = underway-on 0 4 (c .before .before .before .pre) (goes-none 0) (omega arith)
 
--- src/rounds.rt:122:5
 send-requires : tie.Need-send-requires
-send-requires c κs = ?
+send-requires c κs = let u = c .before .before .before .before .before .before .before .pre in
+    underway-on 4 1 u (goes-then 4 0 4 (c .before .before .before .take-turns .ensures)
+    (goes-held (λ i h. c .hold-all .ensures i (omega (arith, h, u .setup .few)))) (omega arith)) (omega arith)
 
--- src/rounds.rt:116:1
 returns : tie.Need-returns
-returns c = ?
+unfolding round tick
+returns c = let u = c .before .before .before .before .before .before .before .before .pre in
+    goes-then 4 1 5 (goes-then 4 0 4 (c .before .before .before .before .take-turns .ensures) (goes-held (λ i h. c .before .hold-all .ensures i (omega (arith, h, u .setup .few)))) (omega arith)) (c .send .ensures)
+    (omega arith)
 
 pub round-spec : {M : Type 1} → statement M
 round-spec = tie.close (tie.spec take-turns-requires (λ c κs. search needs) send-requires returns)

@@ -1,44 +1,51 @@
 -- `trial::rounds::run_rounds` meets its contract. Assumes nothing.
+use Prim.Native.Nat.{_+_, _-_, _*_, _≤_}
+use mathlib.Core.Path.{_≡_, sym, ap}
+use native.Mathlib.Numerals.{add-one}
+use native.Mathlib.Omega.{arith}
+use Rattle.trial.specs.Setup.{roundsIn}
+use Rattle.trial.specs.Trial.{rounds}
+use Rattle.trial.specs.Trying.{Goes}
+use Rattle.trial.proofs.TryingLaws.{underway-on, goes-then, goes-as, goes-none}
 use Rattle.trial.proofs.rounds.run_rounds.Statement.{statement}
 use Rattle.trial.proofs.rounds.run_rounds.Tie as tie
-use Rattle.trial.proofs.rounds.run_rounds.Reads as reads
-use Rattle.trial.proofs.rounds.run_rounds.Lts as lts
-use Rattle.trial.proofs.rounds.round.Reads as round-reads
-use Rattle.trial.proofs.setup.rounds_in.Reads as rounds-in-reads
 
 abbrev Inv-loop : tie.InvT-loop
-Inv-loop setup space₀ hints₀ count after₀ i₀ space hints after i = ?
+Inv-loop setup space₀ hints₀ count after₀ i₀ space hints after i =
+    Goes setup (5 * i) (rounds i) space₀ hints₀ after₀ space hints after × (i ≤ count) × (count ≡ roundsIn setup)
 
 abbrev μ-loop : tie.MeasureT-loop
-μ-loop setup space₀ hints₀ count after₀ i₀ space hints after i = ?
+μ-loop setup space₀ hints₀ count after₀ i₀ space hints after i = count - i
 
--- src/rounds.rt:130:9
 rounds-in-requires : tie.Need-rounds-in-requires Inv-loop μ-loop
-rounds-in-requires c κs = ?
+rounds-in-requires c κs = omega (arith, c .before .pre .setup .size)
 
--- src/rounds.rt:133:5
 loop-holds : tie.Need-loop-holds Inv-loop μ-loop
-loop-holds c = ?
+unfolding rounds
+loop-holds c = (goes-none 0, omega arith, c .rounds-in .ensures)
 
--- src/rounds.rt:134:13
 round-requires : tie.Need-round-requires Inv-loop μ-loop
-round-requires c κs = ?
+round-requires c κs = let l = c .before .before .before .loop in underway-on (5 * l .i) 5 (c .before .before .before .before .before .before .pre) (l .inv .0) (omega (arith, l .inv .2))
 
--- src/rounds.rt:136:9
 add-i : tie.Need-add-i Inv-loop μ-loop
-add-i c = ?
+add-i c = omega arith
 
--- src/rounds.rt:133:5
 loop-less : tie.Need-loop-less Inv-loop μ-loop
-loop-less c = ?
+loop-less c = omega arith
 
--- src/rounds.rt:133:5
 loop-again : tie.Need-loop-again Inv-loop μ-loop
-loop-again c = ?
+unfolding rounds
+loop-again c = let l = c .before .before .before .before .loop in (
+      goes-as (5 * (l .i + 1)) (λ r. ap (λ n. rounds n r) (sym (add-one (l .i))))
+          (goes-then (5 * l .i) 5 (5 * (l .i + 1)) (l .inv .0) (c .round .ensures) (omega arith)),
+      omega arith,
+      l .inv .2,
+    )
 
--- src/rounds.rt:125:1
 returns : tie.Need-returns Inv-loop μ-loop
-returns c = ?
+returns c = let l = c .before .loop in
+    let done : l .i ≡ roundsIn (c .before .before .before .before .args .setup .now) = omega (arith, l .inv .2) in
+    rw done at (l .inv .0)
 
 pub run-rounds-spec : {M : Type 1} → statement M
 run-rounds-spec =
