@@ -87,33 +87,33 @@ heard-total ws a i x =
 -- a count `get` to which each record to the pane adds one if it is of a kind
 module _ (get : Progress → ℕ) (kind : ℕ)
     (adds : (p : Pane) (a : Record) (x : Progress) → get (heardBy p a x) ≡ get x + cond (eqb (a .kind) kind) 1 0)
-    where
-  abbrev counts : ℕ → Record → Bool
-  counts i a = eqb (a .kind) kind && eqb (a .party) (suc i)
+  where
+    abbrev counts : ℕ → Record → Bool
+    counts i a = eqb (a .kind) kind && eqb (a .party) (suc i)
 
-  adds-one : (ws : List ℕ) (a : Record) (i : ℕ) (x : Progress)
-      → get (heardAs ws a i x) ≡ get x + cond (counts i a) 1 0
-  unfolding heardAs
-  adds-one ws a i x = go (eqb (a .party) (suc i)) (eqb (a .kind) kind) (adds (paneAt ws i) a x)
-    where
-      go : (b k : Bool) → get (heardBy (paneAt ws i) a x) ≡ get x + cond k 1 0
-          → get (cond b (heardBy (paneAt ws i) a x) x) ≡ get x + cond (k && b) 1 0
-      go true true e = e
-      go true false e = e
-      go false true e = omega arith
-      go false false e = omega arith
+    adds-one : (ws : List ℕ) (a : Record) (i : ℕ) (x : Progress)
+        → get (heardAs ws a i x) ≡ get x + cond (counts i a) 1 0
+    unfolding heardAs
+    adds-one ws a i x = go (eqb (a .party) (suc i)) (eqb (a .kind) kind) (adds (paneAt ws i) a x)
+      where
+        go : (b k : Bool) → get (heardBy (paneAt ws i) a x) ≡ get x + cond k 1 0
+            → get (cond b (heardBy (paneAt ws i) a x) x) ≡ get x + cond (k && b) 1 0
+        go true true e = e
+        go true false e = e
+        go false true e = omega arith
+        go false false e = omega arith
 
-  pub follows-adds : (ws : List ℕ) (rs : List Record) (i : ℕ) (x : Progress)
-      → get (follows ws (map inRecord rs) i x) ≡ get x + count (counts i) rs
-  unfolding follows inRecord
-  follows-adds ws [] i x = omega arith
-  follows-adds ws (a ∷ rs) i x =
-      omega (
-        arith,
-        follows-adds ws rs i (heardAs ws (inRecord a) i x),
-        adds-one ws (inRecord a) i x,
-        count-cons (counts i) a rs,
-      )
+    pub follows-adds : (ws : List ℕ) (rs : List Record) (i : ℕ) (x : Progress)
+        → get (follows ws (map inRecord rs) i x) ≡ get x + count (counts i) rs
+    unfolding follows inRecord
+    follows-adds ws [] i x = omega arith
+    follows-adds ws (a ∷ rs) i x =
+        omega (
+          arith,
+          follows-adds ws rs i (heardAs ws (inRecord a) i x),
+          adds-one ws (inRecord a) i x,
+          count-cons (counts i) a rs,
+        )
 
 -- a record to another, and to the pane itself
 heard-not : (ws : List ℕ) (a : Record) (i : ℕ) (x : Progress) → (a .party ≡ suc i → ⊥) → heardAs ws a i x ≡ x

@@ -31,7 +31,7 @@ use Rattle.trial.specs.Setup.{paneCount, paneAt, panesIn}
 use Rattle.trial.specs.Panes.{ticked}
 use Rattle.trial.specs.Trial.{Trier, inStage, Round, hearsAll, send, triers, tally}
 use Rattle.trial.specs.Trial.{trial, countsOf, countsIn}
-use Rattle.trial.specs.Progress.{fresh, at, countsAt, Room, total, heardBy, follows, recordsAt, heldBy, Each}
+use Rattle.trial.specs.Progress.{WellFormed, fresh, at, countsAt, Room, total, heardBy, follows, recordsAt, heldBy, Each}
 use Rattle.trial.specs.Trying.{inWords, trierAt, triersAt, recordsOf, Counted, Trying, Underway}
 use Rattle.trial.specs.Trying.{mostFrames, Goes}
 use Rattle.trial.proofs.UpToMore.{as-upTo, map-upTo}
@@ -255,9 +255,12 @@ triers-upTo f (suc n) =
     (triers-upTo f n) (omega (arith, length-upTo f n))
 
 -- before the first frame
+abbrev pub firstRound : List ℕ → Round
+firstRound ws = record { model = empty; panes = triers 1 (panesIn ws); sent = [] }
+
 pub trying-none : {ws space hints : List ℕ} {xs : List Progress} → view space ≡ empty → Reliable hints empty
     → ((i : ℕ) → i < paneCount ws → at xs i ≡ fresh)
-    → Trying ws 0 (record { model = empty; panes = triers 1 (panesIn ws); sent = [] }) space hints xs
+    → Trying ws 0 (firstRound ws) space hints xs
 unfolding logFrom tally inWords
 trying-none {ws} {hints = hints} {xs} e h each =
     record {
@@ -280,6 +283,10 @@ trying-none {ws} {hints = hints} {xs} e h each =
     }
 
 -- ---- under way
+pub underway-first : {ws space hints : List ℕ} {xs : List Progress} {n : ℕ} {r : Round} → WellFormed ws
+    → Trying ws 0 r space hints xs → n ≤ mostFrames → Underway ws n space hints xs
+underway-first {r = r} w t h = record { setup = w; sent = 0; round = r; trying = t; left = omega (arith, h) }
+
 module _ {ws space hints : List ℕ} {xs : List Progress} {space′ hints′ : List ℕ} {ys : List Progress} where
   -- it has gone on with m frames, and j more may be sent
   pub underway-on : {f : Round → Round} {n : ℕ} (m j : ℕ) → Underway ws n space hints xs

@@ -28,11 +28,7 @@ fn counted(n: u32, kind: u8, wanted: u8) -> u32
     requires { ⌜ n + 1 < 4294967296 ⌝ }
     ensures { λ r. ⌜ r ≡ n + cond (eqb kind wanted) 1 0 ⌝ }
 {
-    if kind == wanted {
-        n + 1
-    } else {
-        n
-    }
+    if kind == wanted { n + 1 } else { n }
 }
 
 // A record to a pane: it goes on, and commits, exceptions and nothings are counted.
@@ -101,5 +97,10 @@ fn hold(x: Progress) -> Progress
 pub(crate) fn hold_all(panes: Panes) -> Panes
     ensures { λ r. ⌜ ((i : ℕ) → i < 4 → at r i ≡ heldBy (at panes i)) ⌝ }
 {
-    [hold(panes[0]), hold(panes[1]), hold(panes[2]), hold(panes[3])]
+    [
+        hold(panes[0]),
+        hold(panes[1]),
+        hold(panes[2]),
+        hold(panes[3]),
+    ]
 }

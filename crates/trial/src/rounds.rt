@@ -14,11 +14,11 @@ ghost use Rattle.trial.specs.Progress.{asked, WellFormed, at, fresh, cou
 ghost use Rattle.trial.specs.Trying.{Underway, Goes};
 use crate::Progress;
 use crate::Stage;
-use crate::machine::Next;
-use crate::machine::next_of;
 use crate::hearing::Panes;
 use crate::hearing::hear_all;
 use crate::hearing::hold_all;
+use crate::machine::Next;
+use crate::machine::next_of;
 use crate::setup::pane_at;
 use crate::setup::pane_count;
 use crate::setup::rounds_in;

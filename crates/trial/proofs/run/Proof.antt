@@ -1,19 +1,26 @@
 -- `trial::run` meets its contract. Assumes nothing.
+use Prim.Native.Nat.{_*_}
+use mathlib.Core.Path.{_≡_, refl, sym, ap, _∙_}
+use native.Mathlib.Omega.{arith}
 use borrow.Author.Needs.{needs}
 use Rattle.trial.proofs.run.Statement.{statement}
 use Rattle.trial.proofs.run.Tie as tie
-use Rattle.trial.proofs.run.Reads as reads
-use Rattle.trial.proofs.run.Lts as lts
-use Rattle.trial.proofs.rounds.count_trial.Reads as count-trial-reads
-use Rattle.trial.proofs.setup.refusal.Reads as refusal-reads
 
--- src/lib.rt:52:9
 returns : tie.Need-returns
-returns c = ?
+returns c = let e = c .before .refusal .ensures in
+    record {
+      number = ap (λ n. 65536 * n) e;
+      refused = λ _. refl;
+      counted = λ none. absurd (c .if1 .taken (e ∙ none));
+    }
 
--- src/lib.rt:47:1
 returns-2 : tie.Need-returns-2
-returns-2 c = ?
+returns-2 c = let none = sym (c .before .before .before .before .before .refusal .ensures) ∙ c .before .before .before .before .if1 .left in
+    record {
+      number = omega (arith, none);
+      refused = λ some. absurd (some none);
+      counted = λ _. c .before .before .count-trial .ensures;
+    }
 
 pub run-spec : {M : Type 1} → statement M
 run-spec =

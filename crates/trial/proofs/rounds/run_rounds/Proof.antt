@@ -36,11 +36,11 @@ loop-less c = omega arith
 loop-again : tie.Need-loop-again Inv-loop μ-loop
 unfolding rounds
 loop-again c = let l = c .before .before .before .before .loop in (
-      goes-as (5 * (l .i + 1)) (λ r. ap (λ n. rounds n r) (sym (add-one (l .i))))
-          (goes-then (5 * l .i) 5 (5 * (l .i + 1)) (l .inv .0) (c .round .ensures) (omega arith)),
-      omega arith,
-      l .inv .2,
-    )
+  goes-as (5 * (l .i + 1)) (λ r. ap (λ n. rounds n r) (sym (add-one (l .i))))
+      (goes-then (5 * l .i) 5 (5 * (l .i + 1)) (l .inv .0) (c .round .ensures) (omega arith)),
+  omega arith,
+  l .inv .2,
+)
 
 returns : tie.Need-returns Inv-loop μ-loop
 returns c = let l = c .before .loop in
