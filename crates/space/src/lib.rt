@@ -7,6 +7,7 @@ ghost use Rattle.rules.specs.State.{empty};
 ghost use Rattle.rules.specs.Words.{view};
 ghost use Rattle.words.specs.Rows.{emptyWords};
 ghost use Rattle.bounds.specs.Bounds.{boundsNumber};
+ghost use Rattle.trial.specs.Trial.{Tried};
 ghost use Rattle.space.specs.Version.{version};
 use bounds::tray_bounds;
 use clock_face::mirror_of;
@@ -73,6 +74,14 @@ pub extern "C" fn space_tray_bounds(tray: &[u8]) -> u64
     ensures { λ r. ⌜ r ≡ boundsNumber (now (tray .entry)) ⌝ }
 {
     tray_bounds(tray)
+}
+
+// Trial panes (the crate `trial`): commits, exceptions and nothings of each pane.
+#[no_mangle]
+pub extern "C" fn space_trial(setup: &[u32], counts: &mut [u32]) -> u64
+    ensures { λ r. ⌜ Tried (now (setup .entry)) (now (counts .entry)) r (now (counts .exit)) ⌝ }
+{
+    trial::run(setup, counts)
 }
 
 // The host hands in a tray and an answers area, and gets frames done, records and a number in one.

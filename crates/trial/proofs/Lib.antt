@@ -7,3 +7,5 @@ mod SetupLaws
 mod TryingLaws
 mod TurnLaws
 mod FrameLaws
+pub mod HoldsProof
+pub mod WrongTrialsProof

@@ -5,3 +5,5 @@ pub mod Panes
 pub mod Trial
 pub mod Progress
 pub mod Trying
+pub mod Holds
+pub mod WrongTrials
