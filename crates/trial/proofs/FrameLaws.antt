@@ -25,7 +25,8 @@ pub put-front : (f : Frame) (old new : List ℕ) (n : ℕ) → length old ≡ 28
     → (take n new ≡ frameBytes f) × (n ≤ length new)
 put-front f old new n long p =
     let bs = frameBytes f in
-    let room : leb (length bs) (length old) ≡ true = le-leb (length bs) (length old) (omega (arith, frame-short f, long)) in
+    let room : leb (length bs) (length old) ≡ true =
+    le-leb (length bs) (length old) (omega (arith, frame-short f, long)) in
     let bytes = p .bytes ∙ ap (λ b. cond b (bs ++ drop (length bs) old) old) room in
     let count = p .count ∙ ap (λ b. cond b (length bs) 0) room in (
       ap₂ (λ k l. take k l) count bytes ∙ take-at bs (drop (length bs) old) (length bs) refl,

@@ -1,7 +1,7 @@
 -- The log of one frame more, and what is counted of it.
 use Prim.Native.Nat.{ℕ, _+_}
 use mathlib.Core.Bool.{Bool, _&&_}
-use mathlib.Core.Path.{_≡_, refl, sym, ap, _∙_}
+use mathlib.Core.Path.{_≡_, sym, ap, _∙_}
 use mathlib.Core.List.{List, [], _∷_, _++_, append-assoc, map, map-append}
 use lib.Dec.{eqb}
 use Rattle.rules.specs.declared.Record.{Record}

@@ -1,11 +1,11 @@
 -- A trial under way: how it begins, and how it goes on with a frame and with a tick.
 use Prim.Native.Nat.{ℕ, zero, suc, _+_, _*_, _%_, _≤_, _<_}
-use mathlib.Core.Bool.{Bool, cond, _&&_}
+use mathlib.Core.Bool.{cond, _&&_}
 use mathlib.Core.Path.{_≡_, refl, sym, ap, ap₂, _∙_, fun-ext, subst, subst⁻¹}
 use mathlib.Core.List.{List, [], _∷_, _++_, map, map-map}
 use native.Mathlib.Omega.{arith}
 use lib.Dec.{eqb}
-use lib.ListN.{length, drop, replicate, length-append, getD-replicate}
+use lib.ListN.{length, drop, length-append}
 use Rattle.rules.specs.declared.Record.{Record}
 use Rattle.rules.specs.Lists.{joined}
 use Rattle.rules.specs.Numbers.{recordSize, stepRecords, stepArea, kindNothing, kindCommitted, kindException}
@@ -16,7 +16,7 @@ use Rattle.rules.specs.Sound.{Sound}
 use Rattle.rules.specs.Step.{Outcome, step}
 use Rattle.rules.specs.SerialRun.{Logged}
 use Rattle.rules.specs.Log.{logFrom}
-use Rattle.rules.specs.Allowed.{Answered, Allowed, Stepped}
+use Rattle.rules.specs.Allowed.{Allowed, Stepped}
 use Rattle.rules.proofs.ListLaws.{count, length-filter}
 use Rattle.rules.proofs.Capacity.{step-fits}
 use Rattle.rules.proofs.ViewLaws.{view-bounded}
@@ -31,8 +31,8 @@ use Rattle.trial.specs.Setup.{paneCount, paneAt, panesIn}
 use Rattle.trial.specs.Panes.{ticked}
 use Rattle.trial.specs.Trial.{Trier, inStage, Round, hearsAll, send, triers, tally}
 use Rattle.trial.specs.Trial.{trial, countsOf, countsIn}
-use Rattle.trial.specs.Progress.{WellFormed, fresh, at, countsAt, Room, total, heardBy, follows, recordsAt, heldBy, Each}
-use Rattle.trial.specs.Trying.{inWords, trierAt, triersAt, recordsOf, Counted, Trying, Underway}
+use Rattle.trial.specs.Progress.{WellFormed, fresh, at, countsAt, Room, heardBy, follows, recordsAt, heldBy, Each}
+use Rattle.trial.specs.Trying.{inWords, trierAt, triersAt, recordsOf, Trying, Underway}
 use Rattle.trial.specs.Trying.{mostFrames, Goes}
 use Rattle.trial.proofs.UpToMore.{as-upTo, map-upTo}
 use Rattle.trial.proofs.WordLaws.{inRecord, records-back, ticked-same}
@@ -312,13 +312,14 @@ module _ {ws space hints : List ℕ} {xs : List Progress} {space′ hints′ : L
   goes-as n e go k r t = subst (λ x. Trying ws (k + n) x space′ hints′ ys) (e r) (go k r t)
 
 -- it has not gone on
-pub goes-none : {ws space hints : List ℕ} {xs : List Progress} (n : ℕ) → Goes ws n (λ r. r) space hints xs space hints xs
+pub goes-none : {ws space hints : List ℕ} {xs : List Progress} (n : ℕ)
+    → Goes ws n (λ r. r) space hints xs space hints xs
 goes-none n k r t = trying-more t (omega arith)
 
 -- a tick has come
-pub goes-held : {ws space hints : List ℕ} {xs ys : List Progress}
-    → ((i : ℕ) → i < paneCount ws → at ys i ≡ heldBy (at xs i)) → Goes ws 0 held space hints xs space hints ys
-goes-held each k r t = trying-more (trying-held t each) (omega arith)
+pub goes-held : {ws space hints : List ℕ} {xs ys : List Progress} → paneCount ws ≤ 4
+    → ((i : ℕ) → i < 4 → at ys i ≡ heldBy (at xs i)) → Goes ws 0 held space hints xs space hints ys
+goes-held few each k r t = trying-more (trying-held t (λ i h. each i (omega (arith, few, h)))) (omega arith)
 
 -- the counts of a trial that is over
 pub counts-are : {ws : List ℕ} {k : ℕ} {space hints : List ℕ} {xs : List Progress}

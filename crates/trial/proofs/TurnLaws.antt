@@ -1,5 +1,5 @@
 -- The turns of a round, and the starting entries: one more of them.
-use Prim.Native.Nat.{ℕ, zero, suc, _+_, _≤_, _<_}
+use Prim.Native.Nat.{ℕ, zero, suc, _+_, _<_}
 use mathlib.Core.Bool.{Bool, true}
 use mathlib.Core.Path.{_≡_, refl, sym, ap, _∙_, fun-ext}
 use mathlib.Core.List.{List, [], _∷_, _++_, map, map-map}
@@ -17,7 +17,7 @@ use Rattle.trial.specs.Setup.{paneCount}
 use Rattle.trial.specs.Panes.{sends}
 use Rattle.trial.specs.Trial.{Trier, isSome, isReady, Round, send, sendsNow, nextOf, turns, sendAll}
 use Rattle.trial.specs.Progress.{asked, at, nextAt}
-use Rattle.trial.specs.Trying.{trierAt, triersAt, Trying}
+use Rattle.trial.specs.Trying.{trierAt, Trying}
 use Rattle.trial.proofs.UpToMore.{map-upTo}
 use Rattle.trial.proofs.WordLaws.{sends-same, ready-same}
 use Rattle.trial.proofs.HeardLaws.{inTrier}

@@ -1,13 +1,13 @@
 -- Numbers as four bytes tell them: records are read back so, and a pane that knows its transaction so sends the same
 -- frames, and hears the same.
-use Prim.Native.Nat.{ℕ, _+_, _*_, _/_, _%_, _≤_, _<_}
+use Prim.Native.Nat.{ℕ, _+_, _*_, _/_, _%_, _<_}
 use mathlib.Core.Bool.{Bool, true, false, cond, _||_}
 use mathlib.Core.Path.{_≡_, refl, sym, ap, ap₂, _∙_, subst⁻¹}
 use mathlib.Core.List.{List, [], _∷_, _++_, map}
 use mathlib.Core.Option.{Option, none, some}
 use native.Mathlib.Omega.{arith}
 use lib.Dec.{eqb}
-use lib.ListN.{length, getD, take, length-map, List·getD-map}
+use lib.ListN.{length, getD, length-map, List·getD-map}
 use Rattle.rules.specs.declared.Fields.{Fields}
 use Rattle.rules.specs.declared.Record.{Record}
 use Rattle.rules.specs.declared.TxnId.{TxnId}
@@ -16,7 +16,7 @@ use Rattle.rules.specs.declared.Request.the-variants.{Write}
 use Rattle.rules.specs.Numbers.{recordSize, kindWritten, kindFound, kindNothing, kindWaiting, kindCreated}
 use Rattle.rules.specs.Numbers.{kindCommitted, kindAborted, kindException, kindRefused}
 use Rattle.rules.specs.Template.{fourFields, markOf}
-use Rattle.rules.specs.Frame.{fourBytes, frameLength, frameBytes}
+use Rattle.rules.specs.Frame.{fourBytes, frameBytes}
 use Rattle.rules.specs.Records.{recordBytes, recordAt, answerBytes, plain}
 use Rattle.rules.specs.Requests.{frame}
 use Rattle.rules.specs.Fits.{RecordFits}

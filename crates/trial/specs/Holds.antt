@@ -1,5 +1,5 @@
--- How long a pane holds: "A hold counts whole ticks, without the tick that itself served the found; hold 0 writes in the
--- next round" (document 02, T-13), as a table of the rounds in which panes write.
+-- How long a pane holds: "A hold counts whole ticks, without the tick that itself served the found; hold 0 writes in
+-- the next round" (document 02, T-13), as a table of the rounds in which panes write.
 use Prim.Native.Nat.{ℕ, zero, suc}
 use mathlib.Core.Bool.{Bool, cond, _&&_}
 use mathlib.Core.Path.{_≡_}

@@ -2,7 +2,7 @@
 use Prim.Native.Nat.{ℕ, zero, suc, _-_}
 use mathlib.Core.Bool.{not, true}
 use mathlib.Core.Path.{_≡_}
-use mathlib.Core.List.{List, [], _∷_, map}
+use mathlib.Core.List.{List, [], map}
 use lib.Dec.{eqb}
 use Rattle.rules.specs.declared.Record.{Record}
 use Rattle.rules.specs.declared.Request.the-variants.{Tick}
@@ -45,7 +45,8 @@ tickCounting r =
 unfoldable pub tickUnheard : Round → Round
 tickUnheard r =
     let n = tick r in
-    let rs = filterb (λ (a : Record). not (eqb (a .kind) kindException)) (step (r .model) tickFrame stepArea .records) in
+    let all = step (r .model) tickFrame stepArea .records in
+    let rs = filterb (λ (a : Record). not (eqb (a .kind) kindException)) all in
     record { model = n .model; panes = map (hearsAll rs) (heldAll (r .panes)); sent = n .sent }
 
 -- the rounds so made; and those in which a pane that is served in the middle of a round sends in it

@@ -1,14 +1,14 @@
 // A trial: frames are handed to a space of its own in rounds, and what the panes are answered is counted.
 ghost use mathlib.Core.Path.{_≡_};
 ghost use mathlib.Core.List.{_++_, map};
-ghost use Prim.Native.Nat.{ℕ, _*_, _≤_, _<_};
+ghost use Prim.Native.Nat.{_*_, _≤_, _<_};
 ghost use lib.ListN.{length, drop};
 ghost use Rattle.rules.specs.Lists.{joined};
 ghost use Rattle.rules.specs.Words.{upTo};
 ghost use Rattle.rules.specs.Frame.{frameBytes};
 ghost use Rattle.rules.specs.Requests.{frameOf};
 ghost use Rattle.trial.specs.Setup.{roundsIn, paneCount, startingCount, startingFrames, setupRefusal};
-ghost use Rattle.trial.specs.Trial.{Round, isSome, isReady, nextOf, sendsNow, send, turns, round, rounds, sendAll};
+ghost use Rattle.trial.specs.Trial.{isSome, isReady, nextOf, sendsNow, send, turns, round, rounds, sendAll};
 ghost use Rattle.trial.specs.Trial.{countsIn};
 ghost use Rattle.trial.specs.Progress.{asked, WellFormed, at, fresh, countsAt, nextAt};
 ghost use Rattle.trial.specs.Trying.{Underway, Goes};
@@ -124,7 +124,8 @@ fn round(setup: &[u32], space: &mut Words, hints: &mut Hints, panes: Panes) -> P
 
 fn run_rounds(setup: &[u32], space: &mut Words, hints: &mut Hints, panes: Panes) -> Panes
     requires { ⌜ Underway (now setup) (5 * roundsIn (now setup)) (now space) (now hints) panes ⌝ }
-    ensures { λ r. ⌜ Goes (now (setup .entry)) (5 * roundsIn (now (setup .entry))) (rounds (roundsIn (now (setup .entry))))
+    ensures { λ r. ⌜ Goes (now (setup .entry)) (5 * roundsIn (now (setup .entry)))
+        (rounds (roundsIn (now (setup .entry))))
         (now (space .entry)) (now (hints .entry)) panes (now (space .exit)) (now (hints .exit)) r ⌝ }
 {
     let count = rounds_in(setup);
@@ -141,7 +142,8 @@ fn run_rounds(setup: &[u32], space: &mut Words, hints: &mut Hints, panes: Panes)
 // The starting entries are written first.
 fn write_starting(setup: &[u32], space: &mut Words, hints: &mut Hints, panes: Panes) -> Panes
     requires { ⌜ Underway (now setup) (startingCount (now setup)) (now space) (now hints) panes ⌝ }
-    ensures { λ r. ⌜ Goes (now (setup .entry)) (startingCount (now (setup .entry))) (sendAll (startingFrames (now (setup .entry))))
+    ensures { λ r. ⌜ Goes (now (setup .entry)) (startingCount (now (setup .entry)))
+        (sendAll (startingFrames (now (setup .entry))))
         (now (space .entry)) (now (hints .entry)) panes (now (space .exit)) (now (hints .exit)) r ⌝ }
 {
     let count = starting_count(setup);

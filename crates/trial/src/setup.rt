@@ -1,8 +1,7 @@
 // The words of a setup: rounds, panes, starting entries, then six words for each pane and five for each starting entry.
 ghost use mathlib.Core.Path.{_≡_};
-ghost use mathlib.Core.Bool.{false};
 ghost use Prim.Native.Nat.{_+_, _*_, _≤_, _<_};
-ghost use lib.ListN.{length, getD};
+ghost use lib.ListN.{length};
 ghost use Rattle.rules.specs.Frame.{frameBytes};
 ghost use Rattle.rules.specs.Requests.{frameOf};
 ghost use Rattle.trial.specs.Setup.{roundsIn, paneCount, startingCount, badSetup, setupRefusal, paneAt};

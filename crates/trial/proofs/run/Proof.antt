@@ -1,13 +1,14 @@
 -- `trial::run` meets its contract. Assumes nothing.
 use Prim.Native.Nat.{_*_}
-use mathlib.Core.Path.{_≡_, refl, sym, ap, _∙_}
+use mathlib.Core.Path.{refl, sym, ap, _∙_}
 use native.Mathlib.Omega.{arith}
 use borrow.Author.Needs.{needs}
 use Rattle.trial.proofs.run.Statement.{statement}
 use Rattle.trial.proofs.run.Tie as tie
 
 returns : tie.Need-returns
-returns c = let e = c .before .refusal .ensures in
+returns c =
+    let e = c .before .refusal .ensures in
     record {
       number = ap (λ n. 65536 * n) e;
       refused = λ _. refl;
@@ -15,7 +16,9 @@ returns c = let e = c .before .refusal .ensures in
     }
 
 returns-2 : tie.Need-returns-2
-returns-2 c = let none = sym (c .before .before .before .before .before .refusal .ensures) ∙ c .before .before .before .before .if1 .left in
+returns-2 c =
+    let test = c .before .before .before .before in
+    let none = sym (test .before .refusal .ensures) ∙ test .if1 .left in
     record {
       number = omega (arith, none);
       refused = λ some. absurd (some none);
@@ -26,10 +29,5 @@ pub run-spec : {M : Type 1} → statement M
 run-spec =
     tie.close
     (tie.spec
-    (λ c κs. search needs)
-    (λ c. search needs)
-    (λ c. search needs)
-    returns
-    (λ c κs. search needs)
-    (λ c. search needs)
+    (λ c κs. search needs) (λ c. search needs) (λ c. search needs) returns (λ c κs. search needs) (λ c. search needs)
     returns-2)

@@ -1,7 +1,6 @@
 -- `trial::hearing::counted` meets its contract. Assumes nothing.
-use mathlib.Core.Path.{_≡_, refl, sym, ap, _∙_}
 use native.Mathlib.Omega.{arith}
-use borrow.Author.Tests.{lt-ltb, le-ltb, eq-eqb, ne-eqb}
+use borrow.Author.Tests.{eq-eqb, ne-eqb}
 use borrow.Author.Needs.{needs}
 use Rattle.trial.proofs.hearing.counted.Statement.{statement}
 use Rattle.trial.proofs.hearing.counted.Tie as tie

@@ -1,5 +1,4 @@
 -- `trial::hearing::hold` meets its contract. Assumes nothing.
-use mathlib.Core.Path.{_≡_, refl, sym, ap, _∙_}
 use borrow.Author.Needs.{needs}
 use Rattle.trial.specs.Progress.{heldBy}
 use Rattle.trial.proofs.hearing.hold.Statement.{statement}

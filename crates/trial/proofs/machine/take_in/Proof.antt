@@ -1,5 +1,4 @@
 -- `trial::machine::take_in` meets its contract. Assumes nothing.
-use mathlib.Core.Path.{_≡_, refl, sym, ap, _∙_}
 use borrow.Author.Needs.{needs}
 use Rattle.trial.specs.Panes.{sends}
 use Rattle.trial.proofs.machine.take_in.Statement.{statement}

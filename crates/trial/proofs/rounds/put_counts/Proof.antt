@@ -1,6 +1,6 @@
 -- `trial::rounds::put_counts` meets its contract. Assumes nothing.
 use Prim.Native.Nat.{_-_, _*_, _≤_}
-use mathlib.Core.Path.{_≡_, refl, sym, ap, _∙_}
+use mathlib.Core.Path.{_≡_}
 use native.Mathlib.Omega.{arith}
 use lib.ListN.{length, length-set}
 use Rattle.trial.proofs.FrameLaws.{Fronted, fronted-none, fronted-more}
@@ -77,24 +77,6 @@ pub put-counts-spec : {M : Type 1} → statement M
 put-counts-spec =
     tie.close
     (tie.spec
-    Inv-loop
-    μ-loop
-    loop-holds
-    mul-x
-    array-copy-out-x
-    mul-counts
-    mul-counts-2
-    slice-write-counts
-    mul-counts-3
-    add-counts
-    mul-counts-4
-    slice-write-counts-2
-    mul-counts-5
-    add-counts-2
-    mul-counts-6
-    slice-write-counts-3
-    add-i
-    loop-less
-    loop-again
-    same-length
-    returns)
+    Inv-loop μ-loop loop-holds mul-x array-copy-out-x mul-counts mul-counts-2 slice-write-counts mul-counts-3
+    add-counts mul-counts-4 slice-write-counts-2 mul-counts-5 add-counts-2 mul-counts-6 slice-write-counts-3 add-i
+    loop-less loop-again same-length returns)

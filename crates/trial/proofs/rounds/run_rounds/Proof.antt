@@ -25,25 +25,24 @@ unfolding rounds
 loop-holds c = (goes-none 0, omega arith, c .rounds-in .ensures)
 
 round-requires : tie.Need-round-requires Inv-loop μ-loop
-round-requires c κs = let l = c .before .before .before .loop in underway-on (5 * l .i) 5 (c .before .before .before .before .before .before .pre) (l .inv .0) (omega (arith, l .inv .2))
-
-add-i : tie.Need-add-i Inv-loop μ-loop
-add-i c = omega arith
-
-loop-less : tie.Need-loop-less Inv-loop μ-loop
-loop-less c = omega arith
+round-requires c κs =
+    let loop = c .before .before .before in
+    let l = loop .loop in
+    underway-on (5 * l .i) 5 (loop .before .before .before .pre) (l .inv .0) (omega (arith, l .inv .2))
 
 loop-again : tie.Need-loop-again Inv-loop μ-loop
 unfolding rounds
-loop-again c = let l = c .before .before .before .before .loop in (
-  goes-as (5 * (l .i + 1)) (λ r. ap (λ n. rounds n r) (sym (add-one (l .i))))
-      (goes-then (5 * l .i) 5 (5 * (l .i + 1)) (l .inv .0) (c .round .ensures) (omega arith)),
-  omega arith,
-  l .inv .2,
-)
+loop-again c =
+    let l = c .before .before .before .before .loop in (
+      goes-as (5 * (l .i + 1)) (λ r. ap (λ n. rounds n r) (sym (add-one (l .i))))
+          (goes-then (5 * l .i) 5 (5 * (l .i + 1)) (l .inv .0) (c .round .ensures) (omega arith)),
+      omega arith,
+      l .inv .2,
+    )
 
 returns : tie.Need-returns Inv-loop μ-loop
-returns c = let l = c .before .loop in
+returns c =
+    let l = c .before .loop in
     let done : l .i ≡ roundsIn (c .before .before .before .before .args .setup .now) = omega (arith, l .inv .2) in
     rw done at (l .inv .0)
 
@@ -51,12 +50,5 @@ pub run-rounds-spec : {M : Type 1} → statement M
 run-rounds-spec =
     tie.close
     (tie.spec
-    Inv-loop
-    μ-loop
-    rounds-in-requires
-    loop-holds
-    round-requires
-    add-i
-    loop-less
-    loop-again
-    returns)
+    Inv-loop μ-loop rounds-in-requires loop-holds round-requires
+    (λ c. omega arith) (λ c. omega arith) loop-again returns)

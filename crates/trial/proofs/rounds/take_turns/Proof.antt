@@ -1,14 +1,13 @@
 -- `trial::rounds::take_turns` meets its contract. Assumes nothing.
-use Prim.Native.Nat.{_-_, _≤_}
-use mathlib.Core.Path.{_≡_, refl, sym, ap, _∙_}
+use Prim.Native.Nat.{ℕ, _+_, _-_, _≤_}
+use mathlib.Core.Bool.{Bool}
+use mathlib.Core.Path.{_≡_, sym, ap, _∙_}
 use native.Mathlib.Omega.{arith}
 use Rattle.rules.specs.Words.{upTo}
 use Rattle.trial.specs.Setup.{paneCount}
 use Rattle.trial.specs.Trial.{isSome, Round, sendsNow, nextOf, turns}
 use Rattle.trial.specs.Progress.{nextAt}
 use Rattle.trial.specs.Trying.{Goes}
-use Prim.Native.Nat.{ℕ, _+_}
-use mathlib.Core.Bool.{Bool}
 use Rattle.trial.proofs.TurnLaws.{ready-are, turns-more}
 use Rattle.trial.proofs.TryingLaws.{trying-more, underway-on, goes-then, goes-as, goes-none}
 use Rattle.trial.proofs.rounds.take_turns.Statement.{statement}
@@ -31,21 +30,19 @@ unfolding turns
 loop-holds c = (goes-none 0, omega arith, c .pane-count .ensures .0)
 
 is-ready-at-requires : tie.Need-is-ready-at-requires Inv-loop μ-loop
-is-ready-at-requires c κs = let l = c .before .before .before .loop in (c .before .before .before .before .before .before .pre .setup, omega (arith, l .inv .2))
+is-ready-at-requires c κs =
+    let l = c .before .before .before .loop in
+    (c .before .before .before .before .before .before .pre .setup, omega (arith, l .inv .2))
 
 turn-requires : tie.Need-turn-requires Inv-loop μ-loop
-turn-requires c κs = let l = c .before .before .before .before .loop in
+turn-requires c κs =
+    let l = c .before .before .before .before .loop in
     let u = c .before .before .before .before .before .before .before .pre in
     (underway-on (l .i) 1 u (l .inv .0) (omega (arith, l .inv .2, u .setup .few)), omega (arith, l .inv .2))
 
-add-i : tie.Need-add-i Inv-loop μ-loop
-add-i c = omega arith
-
-loop-less : tie.Need-loop-less Inv-loop μ-loop
-loop-less c = omega arith
-
 loop-again : tie.Need-loop-again Inv-loop μ-loop
-loop-again c = let l = c .before .before .before .before .before .loop in
+loop-again c =
+    let l = c .before .before .before .before .before .loop in
     let a = c .before .before .before .before .before .before .before .before .args in
     let ready : ℕ → Bool = λ j. isSome (nextAt (a .setup .now) (a .panes) j) in
     let now : Round → Round = turns (upTo ready (l .i)) 0 in (
@@ -58,7 +55,8 @@ loop-again c = let l = c .before .before .before .before .before .loop in
     )
 
 returns : tie.Need-returns Inv-loop μ-loop
-returns c = let l = c .before .loop in
+returns c =
+    let l = c .before .loop in
     let start = c .before .before .before .before in
     let a = start .args in
     let ready : ℕ → Bool = λ j. isSome (nextAt (a .setup .now) (a .panes) j) in
@@ -71,13 +69,5 @@ pub take-turns-spec : {M : Type 1} → statement M
 take-turns-spec =
     tie.close
     (tie.spec
-    Inv-loop
-    μ-loop
-    pane-count-requires
-    loop-holds
-    is-ready-at-requires
-    turn-requires
-    add-i
-    loop-less
-    loop-again
-    returns)
+    Inv-loop μ-loop pane-count-requires loop-holds is-ready-at-requires turn-requires
+    (λ c. omega arith) (λ c. omega arith) loop-again returns)

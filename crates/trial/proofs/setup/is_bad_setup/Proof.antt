@@ -1,6 +1,5 @@
 -- `trial::setup::is_bad_setup` meets its contract. Assumes nothing.
-use mathlib.Core.Path.{_≡_, refl, sym, ap, _∙_}
-use borrow.Author.Tests.{lt-ltb, le-ltb, eq-eqb, ne-eqb}
+use borrow.Author.Tests.{lt-ltb, le-ltb}
 use borrow.Author.Needs.{needs}
 use Rattle.trial.specs.Setup.{badSetup}
 use Rattle.trial.proofs.setup.is_bad_setup.Statement.{statement}
@@ -12,18 +11,13 @@ returns c = simp (lt-ltb _ _ (c .if1 .taken))
 
 returns-2 : tie.Need-returns-2
 unfolding badSetup
-returns-2 c = rw (le-ltb _ _ (c .before .before .if1 .left), c .before .pane-count .ensures .0, c .starting-count .ensures .0)
+returns-2 c =
+    let panes = c .before in
+    rw (le-ltb _ _ (panes .before .if1 .left), panes .pane-count .ensures .0, c .starting-count .ensures .0)
 
 pub is-bad-setup-spec : {M : Type 1} → statement M
 is-bad-setup-spec =
     tie.close
     (tie.spec
-    returns
-    (λ c κs. search needs)
-    (λ c κs. search needs)
-    (λ c. search needs)
-    (λ c. search needs)
-    (λ c. search needs)
-    (λ c. search needs)
-    (λ c. search needs)
-    returns-2)
+    returns (λ c κs. search needs) (λ c κs. search needs) (λ c. search needs) (λ c. search needs) (λ c. search needs)
+    (λ c. search needs) (λ c. search needs) returns-2)
