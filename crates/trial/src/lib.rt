@@ -5,7 +5,6 @@ mod rounds;
 mod setup;
 
 ghost use Rattle.trial.specs.Trial.{Tried};
-ghost use mathlib.Core.Path.{_≡_};
 use crate::rounds::count_trial;
 use crate::setup::refusal;
 use rules::TxnId;
