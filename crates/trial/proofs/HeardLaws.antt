@@ -115,7 +115,7 @@ module _ (get : Progress → ℕ) (kind : ℕ)
           count-cons (counts i) a rs,
         )
 
--- a record to another, and to the pane itself
+-- a record to another
 heard-not : (ws : List ℕ) (a : Record) (i : ℕ) (x : Progress) → (a .party ≡ suc i → ⊥) → heardAs ws a i x ≡ x
 unfolding heardAs
 heard-not ws a i x h = rw (ne-eqb (a .party) (suc i) h)
