@@ -2,4 +2,4 @@
 use Prim.Native.Nat.{ℕ}
 
 abbrev pub version : ℕ
-version = 11
+version = 12
