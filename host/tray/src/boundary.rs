@@ -12,6 +12,7 @@ extern "C" {
     fn time_of_place(place: u32) -> u64;
     fn mirrored_place(place: u32) -> u64;
     fn space_find_order(actions: *const u32, actions_len: usize, order: *mut u8, order_len: usize) -> u64;
+    fn space_trial(setup: *const u32, setup_len: usize, counts: *mut u32, counts_len: usize) -> u64;
 }
 
 /// The program's answers area.
@@ -54,6 +55,11 @@ pub fn mirror_of(place: u32) -> u64 {
 /// 1 and the positions in front of `order`, 0 where no order succeeds, or 65,536 × number.
 pub fn find_order(words: &[u32], order: &mut [u8]) -> u64 {
     unsafe { space_find_order(words.as_ptr(), words.len(), order.as_mut_ptr(), order.len()) }
+}
+
+/// 0 and commits, exceptions and nothings of each pane in front of `counts`, or 65,536 × number.
+pub fn trial(setup: &[u32], counts: &mut [u32]) -> u64 {
+    unsafe { space_trial(setup.as_ptr(), setup.len(), counts.as_mut_ptr(), counts.len()) }
 }
 
 /// The parts of what `run_tray` returns.
