@@ -31,13 +31,13 @@ use Rattle.rules.specs.Closing.{closeWaits}
 use Rattle.rules.specs.Refusals.{refusal}
 use Rattle.rules.specs.Step.{Outcome, step}
 use Rattle.rules.specs.SerialRun.{Logged, wasRefused}
+use Rattle.rules.specs.Log.{recordsOf}
 use Rattle.rules.specs.Sound.{Consistent, Sound}
 use Rattle.rules.proofs.BoolLaws.{cond-cases, bool-cases}
 use Rattle.rules.proofs.ListLaws.{filter-mem, any-append, count, count-append, count-cons}
 use Rattle.rules.proofs.LayoutLaws.{abort-ends}
 use Rattle.demands.specs.Machine.{Input}
 use Rattle.demands.specs.Answers.{AnsweredNow, Permitted, NothingLeft, closes}
-use Rattle.demands.specs.History.{recordsOf}
 use Rattle.demands.proofs.Runs.{runs, made, answersTo, runs-keep as keep-runs}
 use Rattle.sound.proofs.AllLaws.{out-or}
 use Rattle.sound.proofs.HoldLaws.{equal-or, eqb-cases}

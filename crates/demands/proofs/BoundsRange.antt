@@ -28,13 +28,13 @@ use Rattle.rules.specs.Tick.{tick, unregistered, dropEnded}
 use Rattle.rules.specs.Refusals.{badBlanks, malformed, refusal}
 use Rattle.rules.specs.Step.{step}
 use Rattle.rules.specs.SerialRun.{Kept, keptOf, wasRefused}
+use Rattle.rules.specs.Log.{recordsOf}
 use Rattle.rules.specs.Lists.{All}
 use Rattle.rules.specs.Sound.{Consistent, Sound}
 use Rattle.rules.proofs.BoolLaws.{cond-cases, or-left, or-right}
 use Rattle.rules.proofs.LayoutLaws.{write-form}
 use Rattle.demands.specs.Machine.{Input}
 use Rattle.demands.specs.Bounds.{InRange, AllInRange, AreBytes}
-use Rattle.demands.specs.History.{recordsOf}
 use Rattle.demands.proofs.Runs.{runs, answersTo}
 use Rattle.sound.proofs.AllLaws.{all-none, all-cons, all-append, out-mem}
 use Rattle.sound.proofs.Events.{Heard, asking, saying, heard, Event, refuses, asks, writes, is-found, is-nothing}

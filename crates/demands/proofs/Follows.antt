@@ -21,11 +21,12 @@ use Rattle.rules.specs.Step.{Outcome, step}
 use Rattle.rules.specs.Sound.{Sound, ByNumber}
 use Rattle.rules.specs.Allowed.{Answered}
 use Rattle.rules.specs.SerialRun.{Logged, serialRun, Serial}
+use Rattle.rules.specs.Log.{recordsOf}
 use Rattle.rules.proofs.BoolLaws.{bool-cases}
 use Rattle.rules.proofs.Capacity.{step-fits}
 use Rattle.rules.proofs.AreaLaws.{area-length, area-front, area-rest}
 use Rattle.demands.specs.Machine.{Handed, frameIn, Input, inputOf, Machine}
-use Rattle.demands.specs.History.{recordsOf, History, handedOf, Made, inputsOf, EveryState, EveryStep}
+use Rattle.demands.specs.History.{History, handedOf, Made, inputsOf, EveryState, EveryStep}
 use Rattle.demands.specs.Judged.{CarriedOut, Judged}
 use Rattle.demands.specs.Answers.{AnsweredNow, NothingLeft, closes}
 use Rattle.demands.specs.Said.{Said}

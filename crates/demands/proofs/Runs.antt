@@ -5,8 +5,8 @@ use Rattle.rules.specs.declared.Record.{Record}
 use Rattle.rules.specs.State.{Model, empty}
 use Rattle.rules.specs.Step.{step}
 use Rattle.rules.specs.SerialRun.{Logged}
+use Rattle.rules.specs.Log.{recordsOf}
 use Rattle.demands.specs.Machine.{Input}
-use Rattle.demands.specs.History.{recordsOf}
 
 -- the last model, and what the serial run is fed
 pub record Ran : Type 0 where

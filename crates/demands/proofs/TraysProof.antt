@@ -18,13 +18,14 @@ use Rattle.rules.specs.Tray.{pairsOf, frameCount, pairsEnd, pairs, badTray, bad
 use Rattle.rules.specs.Tray.{stopped, runFrames, runPairs, runTray, hostNumber}
 use Rattle.rules.specs.Allowed.{Answered}
 use Rattle.rules.specs.SerialRun.{Logged}
+use Rattle.rules.specs.Log.{recordsOf}
 use Rattle.rules.specs.Frame.{numberAt}
 use Rattle.rules.proofs.BoolLaws.{cond-cases, or-left, or-right}
 use Rattle.rules.proofs.Capacity.{step-fits}
 use Rattle.rules.proofs.AreaLaws.{area-length}
 use Rattle.rules.proofs.NumberLaws.{word-is}
 use Rattle.demands.specs.Machine.{StepsBy, answeredBy, theRules}
-use Rattle.demands.specs.History.{recordsOf, History, begun, handed}
+use Rattle.demands.specs.History.{History, begun, handed}
 use Rattle.demands.specs.Trays.{HandedIn, none-left, one-more, TraysAreHistories, ReadBack, NumbersAreReadBack}
 use Rattle.demands.specs.Trays.{BytesTellRecords}
 use Rattle.demands.specs.Bounds.{InRange}

@@ -25,12 +25,13 @@ use Rattle.rules.specs.Notify.{notify, heardOf}
 use Rattle.rules.specs.Tick.{tick, unregistered, dropEnded}
 use Rattle.rules.specs.Refusals.{refusal}
 use Rattle.rules.specs.SerialRun.{Logged}
+use Rattle.rules.specs.Log.{recordsOf}
 use Rattle.rules.specs.Sound.{Consistent}
 use Rattle.rules.proofs.ListLaws.{count, count-cons, count-append, count-map, length-split, filter-agree, filter-pass}
 use Rattle.rules.proofs.BoolLaws.{or-left, or-right, bool-cases}
 use Rattle.rules.proofs.LayoutLaws.{abort-ends}
 use Rattle.demands.specs.Machine.{Input, theRules}
-use Rattle.demands.specs.History.{recordsOf, EveryState}
+use Rattle.demands.specs.History.{EveryState}
 use Rattle.demands.specs.Book.{names}
 use Rattle.demands.specs.Answers.{closes}
 use Rattle.demands.specs.Consequences.{ConsequencesFollow}

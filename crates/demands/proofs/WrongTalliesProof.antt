@@ -6,7 +6,7 @@ use native.Mathlib.Omega.{arith}
 use Rattle.rules.specs.State.{empty}
 use Rattle.rules.specs.Step.{step}
 use Rattle.rules.specs.SerialRun.{Logged, wasRefused}
-use Rattle.demands.specs.History.{recordsOf}
+use Rattle.rules.specs.Log.{recordsOf}
 use Rattle.demands.specs.Frames.{take-by, create-by, abort-by}
 use Rattle.demands.specs.WaitingList.{closedAs, fates, Tally, Balances, Explains, WrongTallies}
 use Rattle.rules.proofs.Computed.{all-rules}

@@ -18,8 +18,9 @@ use Rattle.rules.specs.Holds.{readByOther, available, conflicts}
 use Rattle.rules.specs.Refusals.{badBlanks}
 use Rattle.rules.specs.Sound.{ByNumber}
 use Rattle.rules.specs.SerialRun.{Logged}
+use Rattle.rules.specs.Log.{recordsOf}
 use Rattle.demands.specs.Machine.{Machine}
-use Rattle.demands.specs.History.{recordsOf, Made}
+use Rattle.demands.specs.History.{Made}
 
 -- "no live transaction other than its own holds a read on it": what the rules tell by bits
 abbrev pub ReadByLive : Model → Type 0

@@ -11,9 +11,10 @@ use Rattle.rules.specs.Frame.{isLookUp}
 use Rattle.rules.specs.LookUp.{lookUpOf, asked}
 use Rattle.rules.specs.Sound.{OneEach}
 use Rattle.rules.specs.SerialRun.{Logged}
+use Rattle.rules.specs.Log.{recordsOf}
 use Rattle.rules.specs.Records.{isTicked}
 use Rattle.demands.specs.Machine.{frameIn, Machine}
-use Rattle.demands.specs.History.{recordsOf, History, EveryState, EveryStep}
+use Rattle.demands.specs.History.{History, EveryState, EveryStep}
 use Rattle.demands.specs.Judged.{CarriedOut}
 use Rattle.demands.specs.Answers.{AnsweredNow, NothingLeft, Settled, closes}
 use Rattle.demands.specs.Demands.{Demand1, Demand2}

@@ -1,18 +1,12 @@
 -- Histories: lists of frames handed in order, each to the space that the one before it left. Refused ones stand in
 -- them.
 use mathlib.Core.List.{List, [], _∷_, map}
-use Rattle.rules.specs.declared.Record.{Record}
-use Rattle.rules.specs.Lists.{joined}
 use Rattle.rules.specs.Allowed.{Answered}
 use Rattle.rules.specs.SerialRun.{Logged}
 use Rattle.demands.specs.Machine.{Handed, Input, inputOf, Machine}
 
 abbrev pub logged : Handed → Answered → Logged
 logged h a = record { frame = h .frame; records = a .records }
-
--- the records of a history, in order
-unfoldable pub recordsOf : List Logged → List Record
-recordsOf log = joined (map (λ (l : Logged). l .records) log)
 
 -- from a state to a state
 pub data History (S : Machine) : S .State → List Logged → S .State → Type 0 where

@@ -13,8 +13,9 @@ use Rattle.rules.specs.Step.{step}
 use Rattle.rules.specs.Allowed.{Answered}
 use Rattle.rules.specs.Tray.{TrayOutcome, runFrames, runTray, hostNumber}
 use Rattle.rules.specs.SerialRun.{Logged}
+use Rattle.rules.specs.Log.{recordsOf}
 use Rattle.demands.specs.Machine.{StepsBy, theRules}
-use Rattle.demands.specs.History.{logged, recordsOf, History}
+use Rattle.demands.specs.History.{logged, History}
 use Rattle.demands.specs.Bounds.{AllInRange}
 
 -- the frames are handed in one after another, each with the part of the answers area that the records before it left,

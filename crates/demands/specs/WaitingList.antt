@@ -15,8 +15,9 @@ use Rattle.rules.specs.State.{Model}
 use Rattle.rules.specs.Holds.{someAvailable}
 use Rattle.rules.specs.Frame.{decode, isLookUp}
 use Rattle.rules.specs.SerialRun.{Logged, wasRefused}
+use Rattle.rules.specs.Log.{recordsOf}
 use Rattle.demands.specs.Machine.{Machine, theRules}
-use Rattle.demands.specs.History.{recordsOf, EveryState}
+use Rattle.demands.specs.History.{EveryState}
 use Rattle.demands.specs.Answers.{closes}
 use Rattle.demands.specs.Demands.{Demand1, Demand2}
 

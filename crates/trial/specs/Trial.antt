@@ -16,7 +16,7 @@ use Rattle.rules.specs.Frame.{frameBytes}
 use Rattle.rules.specs.Requests.{frameOf}
 use Rattle.rules.specs.Step.{step}
 use Rattle.rules.specs.SerialRun.{Logged}
-use Rattle.rules.specs.Log.{logFrom}
+use Rattle.rules.specs.Log.{logFrom, recordsOf}
 use Rattle.trial.specs.declared.Pane.{Pane}
 use Rattle.trial.specs.declared.Stage.{Stage}
 use Rattle.trial.specs.declared.Stage.the-variants.{Creates}
@@ -105,8 +105,7 @@ trial ws =
 -- the records of a kind to a party in a log: "Every record of kind 6, 8 or 3 to the pane counts, in whatever step"
 unfoldable pub tally : ℕ → ℕ → List Logged → ℕ
 tally kind party log =
-    length (filterb (λ (a : Record). eqb (a .kind) kind && eqb (a .party) party)
-    (joined (map (λ (l : Logged). l .records) log)))
+    length (filterb (λ (a : Record). eqb (a .kind) kind && eqb (a .party) party) (recordsOf log))
 
 -- "counts commits, exceptions and nothings per pane"
 abbrev pub countsOf : List Logged → ℕ → List ℕ

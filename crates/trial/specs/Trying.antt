@@ -12,7 +12,7 @@ use Rattle.rules.specs.State.{empty}
 use Rattle.rules.specs.Words.{upTo, view}
 use Rattle.rules.specs.Sound.{Sound}
 use Rattle.rules.specs.SerialRun.{Logged}
-use Rattle.rules.specs.Log.{logFrom}
+use Rattle.rules.specs.Log.{logFrom, recordsOf}
 use Rattle.hints.specs.Hints.{Reliable}
 use Rattle.trial.specs.declared.Progress.{Progress}
 use Rattle.trial.specs.declared.Stage.{Stage}
@@ -42,10 +42,6 @@ trierAt ws i x = record { party = suc i; pane = paneAt ws i; stage = x .stage }
 
 abbrev pub triersAt : List ℕ → List Progress → List Trier
 triersAt ws xs = upTo (λ i. trierAt ws i (at xs i)) (paneCount ws)
-
--- all records of a log
-abbrev pub recordsOf : List Logged → List Record
-recordsOf log = joined (map (λ (l : Logged). l .records) log)
 
 -- a pane's counts are those of a log
 pub record Counted (log : List Logged) (party : ℕ) (x : Progress) : Type 0 where
