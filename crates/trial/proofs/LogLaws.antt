@@ -10,10 +10,9 @@ use Rattle.rules.specs.Numbers.{stepArea}
 use Rattle.rules.specs.State.{Model, empty}
 use Rattle.rules.specs.Step.{step}
 use Rattle.rules.specs.SerialRun.{Logged}
-use Rattle.rules.specs.Log.{logFrom}
+use Rattle.rules.specs.Log.{logFrom, recordsOf}
 use Rattle.rules.proofs.ListLaws.{count, count-append}
 use Rattle.trial.specs.Trial.{tally}
-use Rattle.trial.specs.Trying.{recordsOf}
 use Rattle.trial.proofs.UpToMore.{joined-more}
 
 -- the frames sent lead to a space: whatever is sent next is logged behind theirs
@@ -39,6 +38,7 @@ log-more sent m logs f more =
     ∙ ap (λ l. l ++ rest) (sym (log-one sent m logs f))
 
 pub records-more : (log : List Logged) (l : Logged) → recordsOf (log ++ (l ∷ [])) ≡ recordsOf log ++ l .records
+unfolding recordsOf
 records-more log l =
     ap joined (map-append (λ (x : Logged). x .records) log (l ∷ []))
     ∙ joined-more (map (λ (x : Logged). x .records) log) (l .records)

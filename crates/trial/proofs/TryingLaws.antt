@@ -15,7 +15,7 @@ use Rattle.rules.specs.Records.{areaAfter}
 use Rattle.rules.specs.Sound.{Sound}
 use Rattle.rules.specs.Step.{Outcome, step}
 use Rattle.rules.specs.SerialRun.{Logged}
-use Rattle.rules.specs.Log.{logFrom}
+use Rattle.rules.specs.Log.{logFrom, recordsOf}
 use Rattle.rules.specs.Allowed.{Allowed, Stepped}
 use Rattle.rules.proofs.ListLaws.{count, length-filter}
 use Rattle.rules.proofs.Capacity.{step-fits}
@@ -32,7 +32,7 @@ use Rattle.trial.specs.Panes.{ticked}
 use Rattle.trial.specs.Trial.{Trier, inStage, Round, hearsAll, send, triers, tally}
 use Rattle.trial.specs.Trial.{trial, countsOf, countsIn}
 use Rattle.trial.specs.Progress.{WellFormed, fresh, at, countsAt, Room, heardBy, follows, recordsAt, heldBy, Each}
-use Rattle.trial.specs.Trying.{inWords, trierAt, triersAt, recordsOf, Trying, Underway}
+use Rattle.trial.specs.Trying.{inWords, trierAt, triersAt, Trying, Underway}
 use Rattle.trial.specs.Trying.{mostFrames, Goes}
 use Rattle.trial.proofs.UpToMore.{as-upTo, map-upTo}
 use Rattle.trial.proofs.WordLaws.{inRecord, records-back, ticked-same}
@@ -261,7 +261,7 @@ firstRound ws = record { model = empty; panes = triers 1 (panesIn ws); sent = []
 pub trying-none : {ws space hints : List ℕ} {xs : List Progress} → view space ≡ empty → Reliable hints empty
     → ((i : ℕ) → i < paneCount ws → at xs i ≡ fresh)
     → Trying ws 0 (firstRound ws) space hints xs
-unfolding logFrom tally inWords
+unfolding logFrom recordsOf tally inWords
 trying-none {ws} {hints = hints} {xs} e h each =
     record {
       model = e;

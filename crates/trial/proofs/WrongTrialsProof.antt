@@ -5,7 +5,7 @@ use mathlib.Core.List.{List, [], _∷_, _++_}
 use native.Mathlib.Omega.{arith}
 use lib.ListN.{getD, drop}
 use Rattle.rules.specs.Numbers.{forever}
-use Rattle.rules.specs.Log.{logFrom}
+use Rattle.rules.specs.Log.{logFrom, recordsOf}
 use Rattle.trial.specs.Trial.{trial, tally, countsIn}
 use Rattle.trial.specs.Holds.{othersFound, tickFound}
 use Rattle.trial.specs.WrongTrials.{roundsBy, countsBy, tickCounting, tickUnheard, roundWith, roundServed}
@@ -21,8 +21,8 @@ abbrev shortLease : List ℕ
 shortLease = (4 ∷ 1 ∷ 1 ∷ []) ++ (2 ∷ 0 ∷ 7 ∷ forever ∷ 8 ∷ 50 ∷ []) ++ (7 ∷ 0 ∷ 0 ∷ 0 ∷ forever ∷ [])
 
 pub wrong-trials : WrongTrials
-unfolding all-trials logFrom trial tally countsIn roundsBy countsBy tickCounting tickUnheard roundWith roundServed
-    countsTurned
+unfolding all-trials logFrom recordsOf trial tally countsIn roundsBy countsBy tickCounting tickUnheard roundWith
+    roundServed countsTurned
 wrong-trials =
     record {
       -- hold 2, found by the tick of round 3: it commits in round 7, not in round 6

@@ -4,9 +4,7 @@ use Prim.Native.Nat.{ℕ, suc, _+_, _*_, _%_, _≤_, _<_}
 use mathlib.Core.Path.{_≡_}
 use mathlib.Core.List.{List, _++_, map}
 use lib.ListN.{length}
-use Rattle.rules.specs.declared.Record.{Record}
 use Rattle.rules.specs.declared.TxnId.{TxnId}
-use Rattle.rules.specs.Lists.{joined}
 use Rattle.rules.specs.Numbers.{stepRecords, kindNothing, kindCommitted, kindException}
 use Rattle.rules.specs.State.{empty}
 use Rattle.rules.specs.Words.{upTo, view}
