@@ -207,11 +207,14 @@ impl<'a> Line<'a> {
         Ok(operation)
     }
 
-    /// A number, or a name, which is handed out.
+    /// A number, or a name, which is handed out. The word that comes behind an entry is no name of one.
     fn number_or_name(&mut self, what: &str, number: &mut u32) -> Result<Option<String>, Fault> {
         if let Some(given) = self.number_if_any() {
             *number = given;
             return Ok(None);
+        }
+        if self.peek() == Some("lease") {
+            return Err(self.expected(what));
         }
         Ok(Some(self.word(what)?.to_string()))
     }

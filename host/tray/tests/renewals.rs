@@ -61,7 +61,7 @@ fn odd_renewals_are_bytes() {
 #[test]
 fn bad_renewals() {
     let bad = [
-        ("party 1 renew lease 5", "expected `lease`, found `5`"),
+        ("party 1 renew lease 5", "expected an entry, found `lease`"),
         ("party 1 renew M lease 5", "expected an entry's number, found `M`"),
         ("party 1 renew 1", "expected `lease`, the line ends"),
         ("party 1 renew", "expected an entry, the line ends"),
