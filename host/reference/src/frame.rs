@@ -55,6 +55,8 @@ pub enum Refusal {
     EntryHeld = 20,
     Place = 21,
     Export = 22,
+    Setup = 23,
+    Rounds = 24,
 }
 
 /// Where the place stands among the fields.

@@ -11,6 +11,7 @@
 //! - `bounds`: how many entries and records a tray's run has at most
 //! - `serial`: the serial run
 //! - `order`: an order that accounts for transactions (T-12), refusal 22
+//! - `trial`: trial panes (T-13), refusals 23 and 24
 #![forbid(unsafe_code)]
 
 pub mod answer;
@@ -21,3 +22,4 @@ pub mod order;
 pub mod serial;
 pub mod space;
 pub mod tray;
+pub mod trial;
