@@ -4,7 +4,7 @@
 //! - `random`, `generate`: seeded random frames and trays that make deep histories
 //! - `view`: the words of the proved space in the reference's types
 //! - `subject`, `compare`: a space that is compared with the reference, and the comparison
-//! - `orders`: the same for the search for an order
+//! - `orders`, `trials`: the same for the search for an order, and for trial panes
 
 pub mod compare;
 pub mod frames;
@@ -12,4 +12,5 @@ pub mod generate;
 pub mod orders;
 pub mod random;
 pub mod subject;
+pub mod trials;
 pub mod view;
