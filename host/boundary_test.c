@@ -1,7 +1,7 @@
 /* Document 01's sample tray through the C boundary, byte by byte, and its printed lines to standard output; null
  * pointers; what each function leaves in its buffers; the headers' builders, names and layout of the words; the lengths
  * of frames; the oldest entry first; blanks; renewals; registrations and their bells; the clock face; how big an area a
- * tray wants; orders. */
+ * tray wants; orders; trial panes. */
 #include <stdlib.h>
 #include "lines.h"
 #include "space_frames.h"
@@ -118,7 +118,7 @@ static void build_frames(void)
         check((strcmp(space_operation_name((uint8_t)operation), "?") != 0) == there_is, "the operations' names");
         int is_kind = (operation >= 1 && operation <= 12) || operation == 15;
         check((strcmp(space_record_name((uint8_t)operation), "?") != 0) == is_kind, "the kinds'");
-        int given = operation >= 1 && operation <= 22 && operation != 14;
+        int given = operation >= 1 && operation <= 24 && operation != 14;
         check((strcmp(space_refusal_meaning((uint32_t)operation), "?") != 0) == given, "the refusals' meanings");
     }
 }
@@ -891,6 +891,122 @@ static void judge_exports(void)
     check(FIND(order, 1, 1, 2147483649u, W, 5) == refused, "and one that is 2");
 }
 
+enum { KEPT = SPACE_TRIAL_MAX_COUNTS + 4 };
+
+/* What space_trial gives for this setup, with so many words for the counts. It leaves the setup as it was, and every
+ * word of the counts' surroundings, behind those of the panes too; `counts` has these then. */
+static uint64_t try_panes(const uint32_t *setup, size_t setup_len, uint32_t counts[KEPT], size_t counts_len)
+{
+    uint32_t before[SPACE_TRIAL_MAX_WORDS + 16], words[4 + KEPT];
+    memset(words, GUARD, sizeof words);
+    memcpy(before, setup, 4 * setup_len);
+    uint64_t returned = space_trial(setup, setup_len, words + 4, counts_len);
+    size_t written = returned == 0 ? SPACE_COUNT_WORDS * setup[SPACE_TRIAL_PANE_COUNT] : 0;
+    check(memcmp(before, setup, 4 * setup_len) == 0, "a setup is only read");
+    check(all((const uint8_t *)words, 16, GUARD), "the words before counts");
+    check(all((const uint8_t *)(words + 4 + written), 4 * (KEPT - written), GUARD), "the words behind counts");
+    memcpy(counts, words + 4, 4 * KEPT);
+    return returned;
+}
+
+#define TRY(counts, room, ...) \
+    try_panes((const uint32_t[]){__VA_ARGS__}, sizeof(uint32_t[]){__VA_ARGS__} / 4, counts, room)
+
+/* These are a pane's counts. */
+static int counted(const uint32_t counts[KEPT], int pane, uint32_t commits, uint32_t exceptions, uint32_t nothings)
+{
+    const uint32_t *of_pane = counts + SPACE_COUNT_WORDS * (pane - 1);
+    return of_pane[SPACE_COUNT_COMMITS] == commits && of_pane[SPACE_COUNT_EXCEPTIONS] == exceptions &&
+           of_pane[SPACE_COUNT_NOTHINGS] == nothings;
+}
+
+#define EVER SPACE_FOREVER
+#define MARK(kind) kind, 1, 40, 9, EVER /* a starting entry */
+
+/* A pane by itself; its words are: lease, timeout, takes, lease of what it writes, writes, hold. */
+static void try_one_pane(void)
+{
+    uint32_t counts[KEPT];
+    /* Rounds 1 to 4: create, take (found), write, commit. 5 to 7: create, take (nothing), abort. 8 and 9: create, take
+     * (nothing). A lease of 4 ends with the tick of round 4, behind the commit. */
+    check(TRY(counts, 3, 9, 1, 1, 4, 0, 7, EVER, 8, 0, MARK(7)) == 0 && counted(counts, 1, 1, 0, 2), "a commit");
+    /* A lease of 3 ends with the tick of round 3, behind the write: an exception every three rounds. */
+    check(TRY(counts, 3, 9, 1, 1, 3, 0, 7, EVER, 8, 0, MARK(7)) == 0 && counted(counts, 1, 0, 3, 0), "exceptions");
+    /* Hold 2: found in round 2, written in 4, committed in 5, before the lease ends with the tick of 5. Hold 3: not
+     * yet committed then. Hold 1 is as hold 0: committed in 4. */
+    check(TRY(counts, 3, 5, 1, 1, 5, 0, 7, EVER, 8, 2, MARK(7)) == 0 && counted(counts, 1, 1, 0, 0), "hold 2");
+    check(TRY(counts, 3, 5, 1, 1, 5, 0, 7, EVER, 8, 3, MARK(7)) == 0 && counted(counts, 1, 0, 1, 0), "hold 3");
+    check(TRY(counts, 3, 4, 1, 1, 5, 0, 7, EVER, 8, 1, MARK(7)) == 0 && counted(counts, 1, 1, 0, 0), "hold 1");
+    check(TRY(counts, 3, 1000, 1, 1, EVER, 0, 7, 1, 8, EVER, MARK(7)) == 0 && counted(counts, 1, 0, 0, 0), "hold on");
+    /* It takes what it wrote itself: a commit every four rounds. */
+    check(TRY(counts, 3, 1000, 1, 1, EVER, 0, 7, EVER, 7, 0, MARK(7)) == 0 && counted(counts, 1, 250, 0, 0), "again");
+    /* Nothing to take: nothing in round 2 and, with the tick of it, an exception; both count. The wait of timeout 1
+     * would end with that tick too: the exception closes it. */
+    check(TRY(counts, 3, 4, 1, 0, 2, 0, 7, EVER, 8, 0) == 0 && counted(counts, 1, 0, 2, 2), "nothing, exception");
+    check(TRY(counts, 3, 4, 1, 0, 2, 1, 7, EVER, 8, 0) == 0 && counted(counts, 1, 0, 2, 0), "exception in a wait");
+    /* It waits from round 2 to the tick of round 3, aborts in 4; and over again. */
+    check(TRY(counts, 3, 8, 1, 0, EVER, 2, 7, EVER, 8, 0) == 0 && counted(counts, 1, 0, 0, 2), "nothing after waits");
+    check(TRY(counts, 3, 6, 1, 1, 0, 0, 7, EVER, 8, 0, MARK(7)) == 0 && counted(counts, 1, 0, 0, 0), "creates refused");
+    check(TRY(counts, 3, 6, 1, 1, 1, 0, 7, EVER, 8, 0, MARK(7)) == 0 && counted(counts, 1, 0, 6, 0), "a lease of 1");
+    /* Lease 4294967293 is too late at clock 2: the write is refused, and an abort follows, round after round. */
+    check(TRY(counts, 3, 8, 1, 1, 9, 0, 7, EVER - 2, 8, 0, MARK(7)) == 0 && counted(counts, 1, 0, 0, 0), "too late");
+    check(TRY(counts, 3, 0, 1, 0, 9, 0, 7, EVER, 8, 0) == 0 && counted(counts, 1, 0, 0, 0), "no round");
+}
+
+/* Two panes, of which one waits for what the other has or writes. */
+static void try_two_panes(void)
+{
+    uint32_t counts[KEPT];
+    for (uint32_t rounds = 5; rounds <= 6; rounds++) {
+        /* The commit of pane 1, in round 4, serves pane 2, which sends nothing more in that round, writes in 5 and
+         * commits in 6. Pane 1 creates in 5, and its take finds nothing in 6. */
+        check(TRY(counts, 6, rounds, 2, 1, EVER, 0, 7, EVER, 8, 0, EVER, EVER, 8, EVER, 9, 0, MARK(7)) == 0 &&
+              counted(counts, 1, 1, 0, rounds - 5) && counted(counts, 2, rounds - 5, 0, 0), "served by a commit");
+        /* Pane 1's transaction ends with the tick of round 3, which serves pane 2. With hold 0 it writes in round 4 and
+         * commits in 5, with hold 1 a round later. Pane 1's next take is in round 5, before pane 2's turn: nothing. */
+        for (uint32_t hold = 0; hold <= 1; hold++)
+            check(TRY(counts, 8, rounds, 2, 1, 3, 0, 7, EVER, 8, 50, EVER, EVER, 7, EVER, 8, hold, MARK(7)) == 0 &&
+                  counted(counts, 1, 0, 1, 1) && counted(counts, 2, rounds >= 5 + hold, 0, 0), "served by a tick");
+    }
+    /* Both take in round 2, and pane 1 is the first; pane 2 finds nothing, aborts in 3, and takes again in 5. */
+    check(TRY(counts, 6, 5, 2, 1, EVER, 0, 7, EVER, 7, 0, EVER, 0, 7, EVER, 7, 0, MARK(7)) == 0 &&
+          counted(counts, 1, 1, 0, 0) && counted(counts, 2, 0, 0, 1), "by number");
+    check(TRY(counts, 6, 7, 2, 1, EVER, 0, 7, EVER, 7, 0, EVER, 0, 7, EVER, 7, 0, MARK(7)) == 0 &&
+          counted(counts, 1, 1, 0, 1) && counted(counts, 2, 1, 0, 1), "and in turn");
+}
+
+#define PANE 9, 0, 7, EVER, 8, 0
+
+/* Each of the limits, from both sides, and words that are no setup: 23; then 24. */
+static void judge_setups(void)
+{
+    const uint64_t bad = UINT64_C(65536) * SPACE_REFUSAL_BAD_SETUP;
+    const uint64_t rounds = UINT64_C(65536) * SPACE_REFUSAL_TOO_MANY_ROUNDS;
+    uint32_t counts[KEPT];
+    check(space_trial_number(bad) == 23 && space_trial_number(rounds) == 24 && space_trial_number(0) == 0, "numbers");
+    check(TRY(counts, 12, 9, 0, 0) == bad && TRY(counts, 12, 9, 0, 1, MARK(7)) == bad, "no pane");
+    check(TRY(counts, 12, 9, 4, 0, PANE, PANE, PANE, PANE) == 0, "4 panes");
+    check(TRY(counts, 16, 9, 5, 0, PANE, PANE, PANE, PANE, PANE) == bad, "5 panes");
+    check(TRY(counts, 3, 9, 1, 8, PANE, MARK(1), MARK(2), MARK(3), MARK(4), MARK(5), MARK(6), MARK(7), MARK(8)) == 0,
+          "8 starting entries");
+    check(TRY(counts, 3, 9, 1, 9, PANE, MARK(1), MARK(2), MARK(3), MARK(4), MARK(5), MARK(6), MARK(7), MARK(8), MARK(9))
+          == bad, "9 starting entries");
+    check(space_trial(NULL, 0, counts, KEPT) == bad && TRY(counts, 12, 9) == bad && TRY(counts, 12, 9, 1) == bad,
+          "under 3 words");
+    check(TRY(counts, 3, 9, 1, 0, 9, 0, 7, EVER, 8) == bad && TRY(counts, 3, 9, 1, 1, PANE, 7, 1, 40, 9) == bad,
+          "words too few");
+    check(TRY(counts, 3, 9, 1, 0, PANE, 0) == bad && TRY(counts, 3, 9, 1, 1, PANE, MARK(7), 0) == bad,
+          "words left over");
+    check(TRY(counts, 2, 9, 1, 0, PANE) == bad && TRY(counts, 5, 9, 2, 0, PANE, PANE) == bad, "short counts");
+    check(space_trial((const uint32_t[]){9, 1, 0, PANE}, 9, NULL, 0) == bad, "no counts");
+    check(TRY(counts, 12, 9, EVER, 0, PANE) == bad && TRY(counts, 12, 9, 1, EVER, PANE) == bad, "huge numbers");
+    check(TRY(counts, 12, 9, 715827883, 0, 1, 2) == bad, "a number of panes that is 2 words in 32 bits");
+    check(TRY(counts, 12, 9, 1, 858993460, PANE, 1, 2, 3, 4) == bad, "a number of entries that is 4 words");
+    check(TRY(counts, 3, 1000, 1, 0, PANE) == 0 && TRY(counts, 3, 1001, 1, 0, PANE) == rounds, "1,000 rounds");
+    check(TRY(counts, 3, EVER, 1, 0, PANE) == rounds, "huge rounds");
+    check(TRY(counts, 2, 1001, 1, 0, PANE) == bad && TRY(counts, 12, 1001, 0, 0) == bad, "24 comes after 23");
+}
+
 /* Words that no frames make: 16 look-ups wait, and none is of a party that there is. A refused frame is answered as
  * ever and changes nothing; one that is carried out ends, and keeps to its buffers (host/damaged.c has pages that may
  * not be touched around them). */
@@ -969,6 +1085,9 @@ int main(void)
     run_in_bounds();
     find_orders();
     judge_exports();
+    try_one_pane();
+    try_two_panes();
+    judge_setups();
     step_on_odd_words();
     step_where_none_can_wait();
     use_zeroed_words();

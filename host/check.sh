@@ -11,6 +11,7 @@ CHECKED_TRAYS=400      # damaged trays under valgrind or the address sanitizer
 RANDOM_TRAYS=60        # given to the program and to host/run_tray.c
 EXPORTS=200000         # whose orders are compared with the reference's, of the space and of the tuned peer
 RANDOM_EXPORTS=60      # given to the program for exports
+SETUPS=100000          # whose trials are compared with the reference's
 READ_ONLY_BYTES=160    # of the archive's data: the jumps of a match, seven constants
 
 fail() {
@@ -43,7 +44,7 @@ check_builds() {
     build_rust harness || fail "host/harness"
     cargo test --quiet --offline --manifest-path host/harness/Cargo.toml > "$out/test.log" 2>&1 ||
         { tail -n 30 "$out/test.log"; fail "the harness's own tests"; }
-    for name in example panes order run_tray boundary_test damaged; do
+    for name in example panes order trial run_tray boundary_test damaged; do
         build_c "$name" || fail "host/$name.c"
     done
     ! has clang || clang -std=c99 -fsyntax-only "${strict[@]}" host/*.c || fail "clang on host/*.c"
@@ -61,7 +62,7 @@ check_read_only() {
 
 check_hosts() {
     local name
-    for name in example panes order; do
+    for name in example panes order trial; do
         "$out/$name" > "$out/$name.out" || fail "host/$name.c"
         same "host/$name.c's output" "host/$name.expected" "$out/$name.out"
     done
@@ -77,11 +78,11 @@ check_installed() {
     rm -rf "$to"
     PREFIX=$to host/install.sh > "$out/install.log" || fail "host/install.sh"
     mkdir "$to/own"
-    cp host/example.c host/panes.c host/order.c host/print_record.h "$to/own"
+    cp host/example.c host/panes.c host/order.c host/trial.c host/print_record.h "$to/own"
     if has pkg-config; then
         read -ra where < <(PKG_CONFIG_PATH=$to/lib/pkgconfig pkg-config --cflags --libs space) || fail "space.pc"
     fi
-    for name in example panes order; do
+    for name in example panes order trial; do
         ${CC:-cc} -std=c99 -o "$to/own/$name" "$to/own/$name.c" "${where[@]}" || fail "$name.c, installed"
         "$to/own/$name" > "$to/own/$name.out" || fail "$name.c, installed"
         same "$name.c, installed" "host/$name.expected" "$to/own/$name.out"
@@ -273,6 +274,14 @@ check_differ_orders() { # NAME: space or tuned
     echo "ok: orders, $1: $(tail -n 1 "$report")"
 }
 
+# A discrepancy is a text for `tray trial`, left in target/host/differ-trials.txt.
+check_differ_trials() {
+    local report=$out/differ-trials.txt
+    "$built/differ_trials" "$SETUPS" 1 space > "$report" ||
+        { head -n 60 "$report"; fail "the trials and the reference's differ, or too little occurred: $report"; }
+    echo "ok: trials, $(tail -n 1 "$report")"
+}
+
 check_builds
 check_read_only
 check_hosts
@@ -289,4 +298,5 @@ check_differ "tuned rows" "$TUNED_FRAMES"
 check_differ "tuned columns" "$TUNED_FRAMES"
 check_differ_orders space
 check_differ_orders tuned
+check_differ_trials
 echo "host/check.sh: all passed"

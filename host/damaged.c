@@ -1,5 +1,5 @@
-/* Runs damaged trays, garbled frames and exports in buffers of the exact length: damaged COUNT SEED [fence]. A tray's
- * answers area is any, and then of the size that its bounds give.
+/* Runs damaged trays, garbled frames, exports and setups in buffers of the exact length: damaged COUNT SEED [fence]. A
+ * tray's answers area is any, and then of the size that its bounds give.
  * Without `fence` the buffers are from malloc and stay unset, for valgrind or the address sanitizer. With it a page
  * that may not be touched adjoins each buffer, before it or behind it, so that a byte too far ends the program. */
 #define _DEFAULT_SOURCE
@@ -13,6 +13,7 @@ enum { PAGE = 4096, ROOM = 20 * PAGE, MOST_FRAMES = 120 };
 static uint64_t state;
 static int fenced;
 static long in_bounds; /* trays that were run in the area of their bounds */
+static long tried;     /* setups that were not refused */
 
 static uint32_t below(uint32_t bound)
 {
@@ -275,6 +276,44 @@ static void find_one_order(void)
     release(order);
 }
 
+/* Mostly small numbers, so that panes find what there is and what others write. */
+static void put_numbers(uint32_t *words, uint32_t count)
+{
+    for (uint32_t i = 0; i < count; i++)
+        words[i] = below(12) ? below(3) + (below(2) ? 0 : below(8)) : odd_number();
+}
+
+/* A setup in words of the exact number, whole or cut off, with words changed in some cases. */
+static void try_one_setup(void)
+{
+    uint32_t made[SPACE_TRIAL_MAX_WORDS] = {below(40), below(SPACE_TRIAL_MAX_PANES + 1),
+                                            below(SPACE_TRIAL_MAX_STARTING + 1)};
+    uint32_t end = SPACE_TRIAL_PANES_AT + SPACE_PANE_WORDS * made[1] + SPACE_STARTING_WORDS * made[2];
+    put_numbers(made + SPACE_TRIAL_PANES_AT, end - SPACE_TRIAL_PANES_AT);
+    if (!below(8))
+        made[below(SPACE_TRIAL_PANES_AT)] = below(2) ? below(1010) : odd_number();
+    size_t setup_len = below(8) ? end : below(SPACE_TRIAL_MAX_WORDS + 1), counts_len = below(8) ? 12 : below(16);
+    uint8_t *setup = buffer(0, 4 * setup_len), *counts = buffer(1, 4 * counts_len);
+    memcpy(setup, made, 4 * setup_len);
+    memset(counts, 0x5a, 4 * counts_len);
+    uint64_t returned = space_trial((const uint32_t *)(const void *)setup, setup_len, (uint32_t *)(void *)counts,
+                                    counts_len);
+    if (returned != 0 && returned != UINT64_C(65536) * SPACE_REFUSAL_BAD_SETUP &&
+        returned != UINT64_C(65536) * SPACE_REFUSAL_TOO_MANY_ROUNDS)
+        fail("a setup", returned);
+    uint32_t written = returned == 0 ? SPACE_COUNT_WORDS * made[SPACE_TRIAL_PANE_COUNT] : 0;
+    for (uint32_t i = 0; i < counts_len; i++) {
+        uint32_t word = space_get_word(counts + 4 * i);
+        if (i < written ? word > made[SPACE_TRIAL_ROUNDS] : word != 0x5a5a5a5a)
+            fail("a word of the counts", i);
+    }
+    if (memcmp(setup, made, 4 * setup_len) != 0)
+        fail("the setup was changed", returned);
+    tried += returned == 0;
+    release(setup);
+    release(counts);
+}
+
 /* 0, or a refusal of a frame. */
 static int is_frames_number(uint32_t number)
 {
@@ -317,13 +356,14 @@ int main(int count, char **arguments)
     for (long i = 0; i < trays; i++) {
         run_one_tray();
         find_one_order();
+        try_one_setup();
         if (i % 10 == 0) {
             run_steps();
             run_longest_step();
             run_longest_ringing();
         }
     }
-    printf("%ld trays, %ld of them also in the area of their bounds, and %ld spaces, no error\n", trays, in_bounds,
-           (trays + 9) / 10);
+    printf("%ld trays, %ld of them also in the area of their bounds, %ld spaces and %ld trials, no error\n", trays,
+           in_bounds, (trays + 9) / 10, tried);
     return 0;
 }

@@ -22,8 +22,8 @@ extern "C" {
  * 8: a registration tells its party of new entries: operation 10, kinds 10 and 11, refusal 17, more words.
  * 9: a template may ask for an arc of the clock face, and three functions convert and mirror its places: mask bit 4,
  * refusal 21. 10: a function tells how big an area a tray wants. 11: a function finds an order that accounts for
- * transactions: refusal 22. */
-#define SPACE_VERSION 11
+ * transactions: refusal 22. 12: a function tries leases with trial panes: refusals 23 and 24. */
+#define SPACE_VERSION 12
 
 #define SPACE_MAX_ENTRIES 64         /* entries stored at most */
 #define SPACE_MAX_TRANSACTIONS 8     /* transactions live at most */
@@ -113,8 +113,8 @@ enum space_record_kind {
     SPACE_RECORD_REFUSED = 15
 };
 
-/* Numbers 1 to 13 and 17 to 21 are of a frame, 15 and 16 of a tray, 22 of an export; 0 is no refusal. 14 is never given
- * out.
+/* Numbers 1 to 13 and 17 to 21 are of a frame, 15 and 16 of a tray, 22 of an export, 23 and 24 of a trial; 0 is no
+ * refusal. 14 is never given out.
  * docs/MANUAL.md says what to do about each. A look-up is judged by 1 to 5, 21, 6, 7, 8 and 10, in this order; a notify
  * by 1 to 5, 21, 6, 9, 10, 17 and 13; a renew by 1 to 6, 18, 19, 20 and 10. The functions of the clock face give 21. */
 enum space_refusal {
@@ -138,7 +138,9 @@ enum space_refusal {
     SPACE_REFUSAL_NOT_WRITER = 19,   /* another party wrote it */
     SPACE_REFUSAL_ENTRY_HELD = 20,   /* it is private or held, be it by the party's own transaction */
     SPACE_REFUSAL_BAD_PLACE = 21,    /* an arc's start or length, a place, an hour or a minute is out of range */
-    SPACE_REFUSAL_BAD_EXPORT = 22    /* space_find_order takes no such export, or `order` is too short for it */
+    SPACE_REFUSAL_BAD_EXPORT = 22,   /* space_find_order takes no such export, or `order` is too short for it */
+    SPACE_REFUSAL_BAD_SETUP = 23,    /* space_trial takes no such setup, or `counts` is too short for it */
+    SPACE_REFUSAL_TOO_MANY_ROUNDS = 24 /* a trial of more than 1,000 rounds */
 };
 
 /* A study export, for space_find_order: transactions without their order, as words. First the number of transactions,
@@ -153,6 +155,40 @@ enum space_order_kind {
     SPACE_ORDER_READ = 2,            /* a read that found the entry */
     SPACE_ORDER_TAKE = 3             /* a take that found it */
 };
+
+/* The setup of a trial, for space_trial, as words: at these places the rounds, the number of panes and the number of
+ * starting entries, then the panes and then the starting entries, one behind the other. */
+#define SPACE_TRIAL_MAX_ROUNDS 1000
+#define SPACE_TRIAL_MAX_PANES 4
+#define SPACE_TRIAL_MAX_STARTING 8
+#define SPACE_TRIAL_ROUNDS 0
+#define SPACE_TRIAL_PANE_COUNT 1
+#define SPACE_TRIAL_STARTING_COUNT 2
+#define SPACE_TRIAL_PANES_AT 3
+
+/* The words of a pane. */
+#define SPACE_PANE_LEASE 0           /* of its transactions */
+#define SPACE_PANE_TIMEOUT 1         /* of its takes */
+#define SPACE_PANE_TAKES 2           /* kind */
+#define SPACE_PANE_WRITTEN_LEASE 3   /* of what it writes */
+#define SPACE_PANE_WRITES 4          /* kind */
+#define SPACE_PANE_HOLD 5            /* ticks */
+#define SPACE_PANE_WORDS 6
+
+/* The words of a starting entry. */
+#define SPACE_STARTING_FIELDS 0      /* kind, side, image, place */
+#define SPACE_STARTING_LEASE 4
+#define SPACE_STARTING_WORDS 5
+
+/* The words that are counted of a pane. */
+#define SPACE_COUNT_COMMITS 0
+#define SPACE_COUNT_EXCEPTIONS 1
+#define SPACE_COUNT_NOTHINGS 2
+#define SPACE_COUNT_WORDS 3
+
+#define SPACE_TRIAL_MAX_WORDS (SPACE_TRIAL_PANES_AT + SPACE_PANE_WORDS * SPACE_TRIAL_MAX_PANES + \
+                               SPACE_STARTING_WORDS * SPACE_TRIAL_MAX_STARTING) /* of a setup at most */
+#define SPACE_TRIAL_MAX_COUNTS (SPACE_COUNT_WORDS * SPACE_TRIAL_MAX_PANES)      /* words counted at most */
 
 /* The words of a space, to be read only: the clock, the next numbers, the rows in use of each table, then the tables.
  * A table's rows in use come first; what stands in its other rows means nothing. An end or a deadline is a clock, or
@@ -277,6 +313,25 @@ uint64_t space_find_order(const uint32_t *actions, size_t actions_len, uint8_t *
 
 /* The number of the refusal, or 0, in what space_find_order returns. */
 static inline uint32_t space_order_number(uint64_t returned) { return (uint32_t)(returned / 65536u); }
+
+/* Tries leases before they are fixed for good: up to 4 panes, parties 1 to 4, go round on an empty space of their own.
+ * Each creates a transaction, takes an entry of its kind in it (mask 1), holds it for some ticks, writes an entry of
+ * its other kind in it (other fields 0), commits, and starts over. The starting entries are written first, by party 16,
+ * at clock 0. Each round every pane that is not waiting or holding sends one frame, by number; then a tick follows. A
+ * pane that is served in the middle of a round sends nothing more in that round. After nothing, or a refused frame in
+ * its transaction, it aborts next; after an exception, a refused create, an abort or a commit it starts over; of two
+ * answers in a round the later decides. A hold counts whole ticks, without the tick that itself served the found. So,
+ * found by a frame in round r: holds 0 and 1 write in round r + 1, hold h in r + h; found by the tick of round r: in
+ * r + 1 + h.
+ * Returns 0, and in front of `counts` the commits, exceptions and nothings of each pane: every record of kind 6, 8 or 3
+ * to it, in whatever step, as space_step gives them for the same frames. Returns 65536 * SPACE_REFUSAL_BAD_SETUP unless
+ * there are 1 to 4 panes, 8 starting entries at most, just as many words as these have, and counts_len for three words
+ * of each pane; or else 65536 * SPACE_REFUSAL_TOO_MANY_ROUNDS for more than 1,000 rounds. With a refusal `counts` keeps
+ * its contents; so do its words behind those of the panes. `setup` is only read. */
+uint64_t space_trial(const uint32_t *setup, size_t setup_len, uint32_t *counts, size_t counts_len);
+
+/* The number of the refusal, or 0, in what space_trial returns. */
+static inline uint32_t space_trial_number(uint64_t returned) { return (uint32_t)(returned / 65536u); }
 
 /* The parts of what space_step and space_run_tray return. */
 static inline uint32_t space_step_records(uint64_t returned) { return (uint32_t)(returned % 65536u); }

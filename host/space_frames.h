@@ -199,7 +199,9 @@ static inline const char *space_refusal_meaning(uint32_t number)
         "another party wrote the entry",
         "the entry is private or held",
         "an arc's start or length, a place, an hour or a minute is out of range",
-        "no export: too many transactions or actions, a number written twice, other words, or no room for the order"};
+        "no export: too many transactions or actions, a number written twice, other words, or no room for the order",
+        "no setup: panes not 1-4, too many starting entries, other words, or no room for the counts",
+        "the trial has more than 1,000 rounds"};
     return number < sizeof meanings / sizeof meanings[0] ? meanings[number] : "?";
 }
 

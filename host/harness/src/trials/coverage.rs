@@ -138,7 +138,7 @@ impl Walk<'_> {
         if record.is(Kind::Refused) {
             self.refused(step.frame[0], record.refusal);
         } else if step.frame.len() >= 12 {
-            self.to_the_last_clock(step.frame[0], record, word(&step.frame, 8));
+            self.lasting_to_the_last_clock(step.frame[0], record, word(&step.frame, 8));
         }
         let at = match (step.frame[0], record.is(Kind::Refused)) {
             (6, true) => At::Start,
@@ -162,7 +162,7 @@ impl Walk<'_> {
         self.note(&format!("{name} refused with {number}"), true);
     }
 
-    fn to_the_last_clock(&mut self, operation: u8, record: &Record, duration: u32) {
+    fn lasting_to_the_last_clock(&mut self, operation: u8, record: &Record, duration: u32) {
         let last = self.clock > 0 && end_of(self.clock, duration) == u64::from(LAST_CLOCK);
         match operation {
             6 => self.note("create to the last clock", last),
