@@ -47,7 +47,6 @@ const SITUATIONS: [&str; 87] = [
 
 #[derive(Default)]
 pub struct Coverage {
-    pub setups: u64,
     situations: BTreeMap<&'static str, u64>,
 }
 
@@ -298,7 +297,6 @@ impl Coverage {
     }
 
     pub fn count(&mut self, case: &Case) {
-        self.setups += 1;
         match judge(&case.words, case.room) {
             Ok(setup) => self.counted(case, &setup),
             Err(Refusal::Rounds) => self.note("refused with 24", true),

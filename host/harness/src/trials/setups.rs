@@ -73,19 +73,36 @@ fn taken_and_written(random: &mut Random, plan: Plan, place: usize, kinds: &[u32
     }
 }
 
-/// Panes with leases that last for what they do, in some setups, and with any in the others.
+/// How the panes' numbers fit each other.
+#[derive(Clone, Copy)]
+enum Manner {
+    /// Leases outlast what is done in them.
+    Lasting,
+    /// Just so, if not much is waited for.
+    Tight,
+    Any,
+}
+
+fn pane(random: &mut Random, manner: Manner, (takes, writes): (u32, u32)) -> Pane {
+    let long = |random: &mut Random| if random.percent(60) { FOREVER } else { random.between(8, 40) };
+    let (lease, timeout, hold) = match manner {
+        Manner::Lasting => (long(random), duration(random), hold(random)),
+        Manner::Tight => (random.between(5, 10), random.between(1, 5), random.between(0, 4)),
+        Manner::Any => (duration(random), duration(random), hold(random)),
+    };
+    let lasts = !matches!(manner, Manner::Any) || random.percent(40);
+    Pane { lease, timeout, takes, written_lease: if lasts { long(random) } else { duration(random) }, writes, hold }
+}
+
 fn panes(random: &mut Random, kinds: &[u32]) -> Vec<Pane> {
     let plan = random.pick(&[Plan::Compete, Plan::Compete, Plan::Ring, Plan::Ring, Plan::Any]);
+    let manner = random.pick(&[Manner::Lasting, Manner::Tight, Manner::Tight, Manner::Any, Manner::Any, Manner::Any]);
     let count = if random.percent(15) { 1 } else { 2 + random.below(MOST_PANES - 1) };
-    let lasting = random.percent(30);
-    let long = |random: &mut Random| if random.percent(60) { FOREVER } else { random.between(8, 40) };
-    let pane = |place| {
-        let (takes, writes) = taken_and_written(random, plan, place, kinds);
-        let lease = if lasting { long(random) } else { duration(random) };
-        let written_lease = if lasting || random.percent(40) { long(random) } else { duration(random) };
-        Pane { lease, timeout: duration(random), takes, written_lease, writes, hold: hold(random) }
+    let at = |place| {
+        let kinds = taken_and_written(random, plan, place, kinds);
+        pane(random, manner, kinds)
     };
-    (0..count).map(pane).collect()
+    (0..count).map(at).collect()
 }
 
 /// Mostly of kinds that panes take; few more than there are panes, so that these are short of them.
