@@ -75,7 +75,7 @@ fn heard<R: Rules + ?Sized>(trial: &mut Trial, record: &Record, by_tick: bool) {
 }
 
 /// A round in which a pane that has sent sends again at once, if it then is in such a stage.
-fn round_with_seconds<R: Rules>(trial: &mut Trial, again: impl Fn(Stage) -> bool) {
+fn round_sending_again<R: Rules>(trial: &mut Trial, again: impl Fn(Stage) -> bool) {
     trial.round += 1;
     for frame in ready::<R>(trial) {
         let place = usize::from(frame[1]) - 1;
@@ -206,7 +206,7 @@ wrong! {
     }
     HoldZeroWritesInTheSameRound {
         fn round(trial: &mut Trial) {
-            round_with_seconds::<Self>(trial, |stage| matches!(stage, Stage::Write { .. }));
+            round_sending_again::<Self>(trial, |stage| matches!(stage, Stage::Write { .. }));
         }
     }
 
@@ -270,12 +270,12 @@ wrong! {
     }
     CommitsInTheRoundOfTheWrite {
         fn round(trial: &mut Trial) {
-            round_with_seconds::<Self>(trial, |stage| stage == Stage::Commit);
+            round_sending_again::<Self>(trial, |stage| stage == Stage::Commit);
         }
     }
     StartsOverInTheRoundOfTheEnd {
         fn round(trial: &mut Trial) {
-            round_with_seconds::<Self>(trial, |stage| stage == Stage::Create);
+            round_sending_again::<Self>(trial, |stage| stage == Stage::Create);
         }
     }
     TickBeforeThePanes {
@@ -304,7 +304,7 @@ wrong! {
         }
     }
 
-    // ---- starting entries
+    // ---- starting entries; that another party of 1 to 16 writes them, no counts can show
     StartingByNoParty {
         fn start(trial: &mut Trial, setup: &Setup) {
             start_with::<Self>(trial, setup, |entry| [&[1, 17], &entry.frame()[2..]].concat());
