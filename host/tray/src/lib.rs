@@ -22,6 +22,7 @@ pub mod run;
 pub mod tally;
 pub mod tell;
 pub mod text;
+pub mod trial;
 pub mod typed;
 pub mod waiting;
 pub mod words;

@@ -128,8 +128,13 @@ impl<'a> Line<'a> {
         Ok(place)
     }
 
-    /// A field's number; that of the place may be a time. Some could be blank.
-    fn field(&mut self, field: usize, blank: bool) -> Result<u32, Fault> {
+    /// A field's number; that of the place may be a time.
+    pub fn field(&mut self, field: usize) -> Result<u32, Fault> {
+        self.field_or_blank(field, false)
+    }
+
+    /// The same, where it could be blank.
+    fn field_or_blank(&mut self, field: usize, blank: bool) -> Result<u32, Fault> {
         let name = FIELD_NAMES[field];
         match (field == PLACE, blank) {
             (true, true) => self.place(&format!("`{BLANK}`, a number or a time (2:30) for {name}")),
@@ -146,7 +151,7 @@ impl<'a> Line<'a> {
             if self.passes(BLANK) {
                 values.blanks |= 1 << i;
             } else {
-                values.fields[i] = self.field(i, true)?;
+                values.fields[i] = self.field_or_blank(i, true)?;
             }
         }
         Ok(values)
@@ -185,7 +190,7 @@ impl<'a> Line<'a> {
         for (i, name) in FIELD_NAMES.iter().enumerate() {
             if self.passes(name) {
                 template.mask |= 1 << i;
-                template.fields[i] = self.field(i, false)?;
+                template.fields[i] = self.field(i)?;
             }
         }
         if template.mask & MASK_PLACE == 0 && self.passes("arc") {

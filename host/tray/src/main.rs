@@ -10,6 +10,7 @@ use tray::line::Fault;
 use tray::needs::Needs;
 use tray::order;
 use tray::tell::tell;
+use tray::trial::{self, Trial};
 use tray::typed::{self, Typed};
 use tray::waiting::{self, Account};
 use tray::{bytes, draw, history, panes, run, text};
@@ -130,6 +131,15 @@ const VERBS: &[Verb] = &[
         about: "an order that accounts for the transactions of an export",
         help: include_str!("help/order.txt"),
         act: order_verb,
+    },
+    Verb {
+        name: "trial",
+        usage: "tray trial FILE [--words | --history N | --draw N -o FILE.html|FILE.svg]",
+        flags: &["--words"],
+        values: &["--history", "--draw", "-o"],
+        about: "panes that go round with leases, timeouts and holds: what they commit, and what to change",
+        help: include_str!("help/trial.txt"),
+        act: trial_verb,
     },
     Verb {
         name: "assemble",
@@ -457,6 +467,91 @@ fn order_verb(arguments: &Arguments) -> Ended {
         return Ok(Status::NotAsProved);
     }
     Ok(if matches!(found, order::Found::Refused(_)) { Status::TrayRefused } else { Status::Done })
+}
+
+fn trial_verb(arguments: &Arguments) -> Ended {
+    let file = arguments.file()?;
+    let options = ["--words", "--history", "--draw"].iter().filter(|option| arguments.has(option)).count();
+    if options > 1 || arguments.has("--draw") != arguments.has("-o") {
+        return Err(Failed::usage(format!("expected {}", arguments.verb.usage)));
+    }
+    let asked = trial::parse::parse(&arguments.text()?).map_err(|fault| Failed::text(file, &fault))?;
+    let rounds = arguments.number::<u32>("--history")?.or(arguments.number("--draw")?);
+    match (rounds, asked.range) {
+        _ if arguments.flag("--words") => {
+            let lines: String = trial::tell::setups(&asked).iter().map(|(_, it)| trial::tell::words_line(it)).collect();
+            print(lines.as_bytes())?;
+            Ok(Status::Done)
+        }
+        (Some(_), Some(_)) => {
+            Err(Failed::usage(format!("{file}: expected a setup without a range, to show its rounds")))
+        }
+        (Some(rounds), None) => trial_rounds(arguments, asked.setup, rounds),
+        (None, None) => match Trial::of(asked.setup.clone()) {
+            Ok(trial) => {
+                print(trial::tell::one(&trial).as_bytes())?;
+                trial_status(arguments, [&trial])
+            }
+            Err(number) => trial_refused(&asked.setup, number),
+        },
+        (None, Some(range)) => trial_sweep(arguments, &asked, &range),
+    }
+}
+
+fn trial_refused(setup: &trial::Setup, number: u64) -> Ended {
+    print(trial::tell::refused(setup, number).as_bytes())?;
+    Ok(Status::TrayRefused)
+}
+
+/// That of the trials that were told; what the proofs exclude is told, too.
+fn trial_status<'a>(arguments: &Arguments, trials: impl IntoIterator<Item = &'a Trial>) -> Ended {
+    match trials.into_iter().find_map(Trial::fault) {
+        Some(fault) => {
+            complain(&format!("{}: {fault}: the archive is damaged, or this tool is wrong", arguments.file()?));
+            Ok(Status::NotAsProved)
+        }
+        None => Ok(Status::Done),
+    }
+}
+
+fn trial_sweep(arguments: &Arguments, asked: &trial::Asked, range: &trial::Range) -> Ended {
+    let setups = trial::tell::setups(asked).into_iter();
+    let rows: Vec<trial::tell::Row> = setups.map(|(number, setup)| (number, Trial::of(setup))).collect();
+    // Which setups have too many panes or starting entries does not depend on the number.
+    if let Some((_, Err(number @ 23))) = rows.first() {
+        return trial_refused(&asked.setup, *number);
+    }
+    print(trial::tell::sweep(asked, range, &rows).as_bytes())?;
+    match trial_status(arguments, rows.iter().filter_map(|(_, tried)| tried.as_ref().ok()))? {
+        Status::Done if rows.iter().any(|(_, tried)| tried.is_err()) => Ok(Status::TrayRefused),
+        status => Ok(status),
+    }
+}
+
+/// The first rounds, as the text of a tray or drawn.
+fn trial_rounds(arguments: &Arguments, setup: trial::Setup, rounds: u32) -> Ended {
+    let file = arguments.file()?;
+    let all = setup.rounds;
+    let trial = match Trial::of(setup.clone()) {
+        Ok(trial) => trial,
+        Err(number) => return trial_refused(&setup, number),
+    };
+    if rounds > all {
+        let why = format!("{file}: expected a number of rounds from 0 to {all}, found {rounds}");
+        return Err(Failed::usage(why));
+    }
+    let head = format!("{}: the first {rounds} of {all} rounds.", file_name(file));
+    let written = trial.replay.text(&head, rounds);
+    match arguments.value("-o") {
+        None => print(written.as_bytes())?,
+        Some(to) => {
+            let text = text::parse(&written).map_err(|fault| Failed::text(file, &fault))?;
+            let history = history::History { title: head, ..history::History::of(text.frames().cloned()) };
+            let drawn = draw::for_file(to, &history, &file_name(file), draw::default_width()).map_err(Failed::usage)?;
+            write(to, drawn.as_bytes())?;
+        }
+    }
+    trial_status(arguments, [&trial])
 }
 
 fn assemble_verb(arguments: &Arguments) -> Ended {
