@@ -1,6 +1,6 @@
 #!/usr/bin/env bash
-# Checks the tool: its own tests, all lessons, all expectations, waiting lists, bounds, orders, all drawings. The first
-# failure ends it with a non-zero status. Needs cargo, a linker, python3 and the proved archive; no browser.
+# Checks the tool: its own tests, all lessons, all expectations, waiting lists, bounds, orders, trials, all drawings. The
+# first failure ends it with a non-zero status. Needs cargo, a linker, python3 and the proved archive; no browser.
 set -euo pipefail
 cd "$(dirname "$0")/../.."
 . host/build.sh
@@ -55,19 +55,37 @@ for stored in examples/*.bounds; do
     bounds=$((bounds + 1))
 done
 
-# The orders stored beside the exports; of those named so it is that they are refused.
+told() { # STORED WORDS: `tray WORDS` prints what is stored; what is named so is refused
+    local stored=$1 status=0
+    shift
+    "$tray" "$@" > "$to/told.out" || status=$?
+    case $status:$stored in
+        0:*-refused* | 3:*-refused*) [ "$status" -eq 3 ] || fail "$stored is not refused" ;;
+        0:*) ;;
+        *) fail "$stored ended with $status" ;;
+    esac
+    cmp -s "$stored" "$to/told.out" || { diff "$stored" "$to/told.out" || true; fail "$stored"; }
+}
+
+# The orders stored beside the exports.
 orders=0
 for order in examples/*.order; do
-    status=0
-    "$tray" order "${order%.order}.export" > "$to/order.out" || status=$?
-    case $status:$order in
-        0:*-refused* | 3:*-refused*) [ "$status" -eq 3 ] || fail "$order is not refused" ;;
-        0:*) ;;
-        *) fail "$order ended with $status" ;;
-    esac
-    cmp -s "$order" "$to/order.out" || { diff "$order" "$to/order.out" || true; fail "$order"; }
+    told "$order" order "${order%.order}.export"
     orders=$((orders + 1))
 done
+
+# The tables stored beside the setups of trials; and the rounds of a setup are a tray that runs, and is drawn.
+trials=0
+for table in examples/*.table; do
+    setup=${table%.table}.trial
+    told "$table" trial "$setup"
+    case $setup in *-refused* | *-hold-nears-lease*) ;; *)
+        "$tray" trial "$setup" --history 12 > "$to/rounds.txt" && "$tray" run "$to/rounds.txt" > "$to/rounds.out" &&
+            "$tray" trial "$setup" --draw 12 -o "$to/$(basename "$setup").svg" || fail "the rounds of $setup" ;;
+    esac
+    trials=$((trials + 1))
+done
+[ "$trials" -eq "$(find examples -name '*.trial' | wc -l)" ] || fail "a setup has no table"
 
 # Every example is drawn; a tray that is refused as a whole has no drawing.
 drawings=0
@@ -102,4 +120,4 @@ files = [file for folder in sys.argv[1:] for ending in ("html", "svg") for file 
 for file in files:
     xml.dom.minidom.parse(file)
 END
-echo "ok: tray: tests, $lessons lessons, $lists waiting lists, $bounds bounds, $orders orders, $drawings drawings, the course"
+echo "ok: tray: tests, $lessons lessons, $lists waiting lists, $bounds bounds, $orders orders, $trials trials, $drawings drawings, the course"

@@ -33,9 +33,9 @@ pub const CASES: [Case; 10] = [
     Case { name: "a frame goes beyond the last clock", tells: beyond_the_clock },
     Case { name: "its transaction lease is too short for its hold", tells: lease_too_short },
     Case { name: "nobody writes what it takes", tells: nobody_writes },
+    Case { name: "what it writes ends before it is found", tells: written_ends },
     Case { name: "its transactions end while it waits or holds", tells: transactions_end },
     Case { name: "it finds nothing", tells: finds_nothing },
-    Case { name: "what it writes ends before it is found", tells: written_ends },
     Case { name: "it commits as fast as its hold allows", tells: fast },
     Case { name: "it waits for what it takes", tells: waits },
 ];
@@ -205,6 +205,22 @@ fn nobody_writes(view: &View) -> Option<Told> {
     (!starts && !writes).then_some(Told { why, change: view.one_more_start() })
 }
 
+/// Somebody takes the kind that it writes, and yet nobody found an entry of it, and none is left.
+fn written_ends(view: &View) -> Option<Told> {
+    let (pane, replay, committed) = (view.pane(), &view.trial.replay, &view.seen().committed);
+    let takers = view.others().filter(|(_, other)| other.takes == pane.writes);
+    let takers: Vec<usize> = takers.map(|(place, _)| place).collect();
+    let ended = committed.iter().all(|entry| !replay.found.contains(entry) && !replay.stored.contains(entry));
+    let why = format!(
+        "writes in vain: all that it wrote ended by its lease of {} before anyone found it; kind {} is for {}",
+        pane.written_lease,
+        pane.writes,
+        panes(&takers)
+    );
+    let change = view.change(Slot::WrittenLease(view.place), FOREVER, "a lease of what it writes");
+    (!committed.is_empty() && ended && !takers.is_empty()).then_some(Told { why, change: Some(change) })
+}
+
 /// An exception comes only where the lease has no room for the longest wait and the hold.
 fn transactions_end(view: &View) -> Option<Told> {
     let (pane, Counts { exceptions, .. }, seen) = (view.pane(), view.counts(), view.seen());
@@ -239,22 +255,6 @@ fn finds_nothing(view: &View) -> Option<Told> {
     let patient = view.trial.setup.with(Slot::Timeout(view.place), FOREVER).with(Slot::Lease(view.place), FOREVER);
     let change = Change { setup: patient, words: "timeout and transaction lease forever".to_string() };
     (nothings > 0).then_some(Told { why, change: Some(change) })
-}
-
-/// Somebody takes the kind that it writes, and yet nobody found an entry of it, and none is left.
-fn written_ends(view: &View) -> Option<Told> {
-    let (pane, replay, committed) = (view.pane(), &view.trial.replay, &view.seen().committed);
-    let takers = view.others().filter(|(_, other)| other.takes == pane.writes);
-    let takers: Vec<usize> = takers.map(|(place, _)| place).collect();
-    let ended = committed.iter().all(|entry| !replay.found.contains(entry) && !replay.stored.contains(entry));
-    let why = format!(
-        "writes in vain: all that it wrote ended by its lease of {} before anyone found it; kind {} is for {}",
-        pane.written_lease,
-        pane.writes,
-        panes(&takers)
-    );
-    let change = view.change(Slot::WrittenLease(view.place), FOREVER, "a lease of what it writes");
-    (!committed.is_empty() && ended && !takers.is_empty()).then_some(Told { why, change: Some(change) })
 }
 
 /// As many commits as the rounds have room for.

@@ -23,7 +23,7 @@ pub fn words_line(setup: &Setup) -> String {
 /// How wide the column of a range is.
 const COLUMN: usize = 10;
 
-/// Commits for 100 rounds, "16.7".
+/// Commits per 100 rounds, "16.7".
 fn rate(commits: u32, rounds: u32) -> String {
     match rounds {
         0 => "-".to_string(),
@@ -31,7 +31,7 @@ fn rate(commits: u32, rounds: u32) -> String {
     }
 }
 
-const HEAD: &str = "commits  exceptions  nothings  for 100 rounds";
+const HEAD: &str = "commits  exceptions  nothings  per 100 rounds";
 
 fn cells(counts: &Counts, rounds: u32) -> String {
     let Counts { commits, exceptions, nothings } = counts;
@@ -96,7 +96,7 @@ fn cases(name: &str, rows: &[Row], place: usize) -> String {
         [] => "no commits".to_string(),
         some => {
             let numbers: Vec<String> = some.iter().map(|(numbers, _)| numbers.clone()).collect();
-            format!("most commits for 100 rounds with {name} {}", numbers.join(", "))
+            format!("most commits per 100 rounds with {name} {}", numbers.join(", "))
         }
     };
     let mut text = format!("pane {}: {head}\n", place + 1);
