@@ -615,4 +615,16 @@ mod tests {
         outcome.history.steps[1].records[0].kind = tray::record::WAITING;
         assert!(matches!(status_of(&arguments, &outcome), Ok(Status::NotAsProved)));
     }
+
+    /// A commit is counted that never came.
+    #[test]
+    fn so_has_a_trial_that_counts_otherwise() {
+        let text = "rounds 9\nstart kind 7 lease 9\npane lease 9 takes 7 timeout 0 writes 7 lease 9 hold 0\n";
+        let setup = trial::parse::parse(text).unwrap().setup;
+        let mut trial = Trial::of(setup).unwrap_or_else(|number| panic!("{number}"));
+        let arguments = Arguments::parse(&VERBS[0], &["made-up".to_string()]).unwrap_or_else(|_| panic!("a file"));
+        assert!(matches!(trial_status(&arguments, [&trial]), Ok(Status::Done)));
+        trial.counts[0].commits += 1;
+        assert!(matches!(trial_status(&arguments, [&trial]), Ok(Status::NotAsProved)));
+    }
 }

@@ -6,7 +6,7 @@ use tray::frame::{Class, Request};
 use tray::trial::advice::{Told, View, CASES};
 use tray::trial::parse::parse;
 use tray::trial::replay::{Replay, Sender};
-use tray::trial::{Asked, Counts, Pane, Setup, Slot, Start, Trial, LONGEST};
+use tray::trial::{Asked, Counts, Pane, Setup, Slot, Start, Trial, LONGEST, MOST_STARTS};
 use tray::words::FOREVER;
 
 fn asked(text: &str) -> Asked {
@@ -126,7 +126,9 @@ fn is_true(case: &str, View { trial, place }: &View, after: Option<&Trial>) -> b
         "its transactions end while it waits or holds" => counts.exceptions > 0 && then.exceptions == 0,
         // Who waits for ever finds, or waits.
         "it finds nothing" => counts.nothings > 0 && then.nothings == 0,
-        "it commits as fast as its hold allows" => with_other_times(setup, *place).all(|it| it <= counts.commits),
+        "it commits as fast as its hold allows" => {
+            with_other_times(setup, *place).iter().all(|&it| it <= counts.commits)
+        }
         "it waits for what it takes" => {
             seen.waited > 0 && (counts.exceptions, counts.nothings, seen.refusals.len()) == (0, 0, 0)
         }
@@ -174,12 +176,24 @@ fn is_committed(trial: &Trial, kind: u32) -> bool {
     takers.map(|(_, counts)| counts.commits).sum::<u32>() > 0
 }
 
-/// The pane's commits with many another lease and timeout.
-fn with_other_times(setup: &Setup, place: usize) -> impl Iterator<Item = u32> + '_ {
-    let pairs = TIMES.into_iter().flat_map(|lease| TIMES.map(|timeout| (lease, timeout)));
-    let setups =
-        pairs.map(move |(lease, timeout)| setup.with(Slot::Lease(place), lease).with(Slot::Timeout(place), timeout));
-    setups.map(move |setup| setup.tried().unwrap()[place].commits)
+/// The pane's commits with many another lease and timeout, and with as many starting entries as may be of its kind.
+fn with_other_times(setup: &Setup, place: usize) -> Vec<u32> {
+    let mut rich = setup.clone();
+    rich.starts.resize(MOST_STARTS, Start { fields: [setup.panes[place].takes, 0, 0, 0], lease: FOREVER });
+    let (both, mut commits) = ([setup.clone(), rich], Vec::new());
+    for (lease, timeout) in TIMES.into_iter().flat_map(|lease| TIMES.map(|timeout| (lease, timeout))) {
+        let other = |it: &Setup| it.with(Slot::Lease(place), lease).with(Slot::Timeout(place), timeout);
+        commits.extend(both.iter().map(|it| other(it).tried().unwrap()[place].commits));
+    }
+    commits
+}
+
+/// A create in the last of 1,000 rounds is at clock 999.
+#[test]
+fn the_longest_time_is_never_refused() {
+    let setup = asked(&going(1000, "9", "0", "forever", 6).replace("writes 8", "writes 7")).setup;
+    let refusals = |lease| trial(&setup.with(Slot::Lease(0), lease)).replay.panes[0].refusals.clone();
+    assert_eq!((refusals(LONGEST), refusals(LONGEST + 1)), (vec![], vec![("create", 10)]));
 }
 
 /// A tick less is too short: the shortest way, and the longest wait, which the tick of the deadline ends.
