@@ -79,11 +79,11 @@ trials=0
 for table in examples/*.table; do
     setup=${table%.table}.trial
     told "$table" trial "$setup"
-    case $setup in *-refused* | *-hold-nears-lease*) ;; *)
-        "$tray" trial "$setup" --history 12 > "$to/rounds.txt" && "$tray" run "$to/rounds.txt" > "$to/rounds.out" &&
-            "$tray" trial "$setup" --draw 12 -o "$to/$(basename "$setup").svg" || fail "the rounds of $setup" ;;
-    esac
     trials=$((trials + 1))
+    case $setup in *-refused* | *-hold-nears-lease*) continue ;; esac # they have no rounds, or those of a range
+    "$tray" trial "$setup" --history 12 > "$to/rounds.txt" || fail "the rounds of $setup"
+    "$tray" run "$to/rounds.txt" > "$to/rounds.out" || fail "the rounds of $setup as a tray"
+    "$tray" trial "$setup" --draw 12 -o "$to/$(basename "$setup").svg" || fail "the rounds of $setup, drawn"
 done
 [ "$trials" -eq "$(find examples -name '*.trial' | wc -l)" ] || fail "a setup has no table"
 

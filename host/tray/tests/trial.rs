@@ -188,6 +188,18 @@ fn with_other_times(setup: &Setup, place: usize) -> Vec<u32> {
     commits
 }
 
+/// Where there are 8 starting entries, no ninth is advised.
+#[test]
+fn no_more_than_eight_starting_entries() {
+    for (starts, advised) in [(7, true), (8, false)] {
+        let others = "start kind 9 lease forever\n".repeat(starts);
+        let setup = asked(&going(40, "20", "5", "9", 2).replace("start kind 7 lease forever\n", &others));
+        let (trial, place) = (trial(&setup.setup), 0);
+        let (case, told) = View { trial: &trial, place }.told().unwrap();
+        assert_eq!((case.name, told.change.is_some()), ("nobody writes what it takes", advised));
+    }
+}
+
 /// A create in the last of 1,000 rounds is at clock 999.
 #[test]
 fn the_longest_time_is_never_refused() {
@@ -281,7 +293,7 @@ fn lines_of_a_pane_alone() {
         assert_eq!(first_line(&text), (why.to_string(), effect.to_string()), "{text}");
     }
     let own = going(40, "9", "0", "forever", 3).replace("writes 8", "writes 7");
-    let why = "pane 1 commits as fast as its hold allows: every round trip takes 6 rounds";
+    let why = "pane 1 commits as fast as its hold allows: no round trip takes under 6 rounds";
     assert_eq!(first_line(&own), (format!("{why} (create, take, a hold of 3, commit)"), String::new()));
     let without = going(40, "20", "5", "forever", 2).replace("start kind 7", "start kind 9");
     let why = "pane 1 never finds: no starting entry is of kind 7, and no other pane writes it";
@@ -292,7 +304,7 @@ fn lines_of_a_pane_alone() {
 #[test]
 fn lines_of_a_pane_among_others() {
     let vain = going(10, "forever", "0", "1", 0) + &giving_back(0);
-    let why = "pane 1 writes in vain: all that it wrote ended by its lease of 1 before anyone found it";
+    let why = "pane 1 writes in vain: all that it committed ended by its lease of 1 before anyone found it";
     let effect = "with a lease of what it writes forever: 1 commit in place of 1; all panes 2 in place of 1";
     assert_eq!(first_line(&vain), (format!("{why}; kind 8 is for pane 2"), effect.to_string()));
     // It commits in rounds 4, 10, 16, .., 40; each take but the first waits for two rounds.

@@ -212,7 +212,7 @@ fn written_ends(view: &View) -> Option<Told> {
     let takers: Vec<usize> = takers.map(|(place, _)| place).collect();
     let ended = committed.iter().all(|entry| !replay.found.contains(entry) && !replay.stored.contains(entry));
     let why = format!(
-        "writes in vain: all that it wrote ended by its lease of {} before anyone found it; kind {} is for {}",
+        "writes in vain: all that it committed ended by its lease of {} before anyone found it; kind {} is for {}",
         pane.written_lease,
         pane.writes,
         panes(&takers)
@@ -261,7 +261,7 @@ fn finds_nothing(view: &View) -> Option<Told> {
 fn fast(view: &View) -> Option<Told> {
     let (pane, rounds) = (view.pane(), u64::from(view.trial.setup.rounds));
     let trip = pane.trip();
-    let why = format!("commits as fast as its hold allows: every round trip takes {trip} rounds ({})", way(pane));
+    let why = format!("commits as fast as its hold allows: no round trip takes under {trip} rounds ({})", way(pane));
     (u64::from(view.counts().commits) == rounds / trip).then_some(Told { why, change: None })
 }
 
