@@ -97,6 +97,7 @@ fn the_replay_counts_the_same() {
             *cases.entry(case.name).or_insert(0) += 1;
             let (pane, Counts { commits, exceptions, nothings }) = (&trial.replay.panes[place], trial.counts[place]);
             let now = [commits, exceptions, nothings, pane.out_of_waits, pane.kept_by_others];
+            assert_eq!(pane.committed.len(), commits as usize, "an entry for each commit: {:?}", trial.setup);
             seen.iter_mut().zip(now).for_each(|(sum, now)| *sum += now);
         }
     }
@@ -431,6 +432,9 @@ fn sweeps() {
     assert_eq!(answer.status, 3);
     assert!(answer.out.starts_with("rounds from 999 to 1001\n"), "{}", answer.out);
     assert!(answer.out.contains("\n      1001  refused 24\n\npane 1: most"), "{}", answer.out);
+    // Round trips of 4 rounds: one commit in 4 to 7 rounds, two in 8 and 9.
+    let swept = told(&text("4 to 9", "0").replace("pane lease 9", "pane lease 1"));
+    assert!(swept.contains("\npane 1: most commits per 100 rounds with rounds 4, 8\n"), "{swept}");
     let none = tray(&["trial", "-"], "rounds 9\nstart kind 7 lease 0 to 3\n");
     assert_eq!((none.status, none.out.lines().nth(1)), (3, Some("  no pane: 1 at least")));
 }
