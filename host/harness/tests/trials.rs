@@ -133,23 +133,9 @@ fn found<R: Rules>() -> Discrepancy {
     found.unwrap_or_else(|| panic!("{} is not found", R::NAME))
 }
 
-/// The words that a text for `tray trial` stands for: the numbers of each line, those of a pane in another order.
+/// The words that a text for `tray trial` stands for.
 fn words_in(text: &str) -> Vec<u32> {
-    let number = |word: &str| if word == "forever" { Some(FOREVER) } else { word.parse().ok() };
-    let mut setup = Setup { rounds: 0, panes: Vec::new(), starting: Vec::new() };
-    for line in text.lines().filter(|line| !line.starts_with('#')) {
-        match *line.split(' ').filter_map(number).collect::<Vec<u32>>() {
-            [rounds] => setup.rounds = rounds,
-            [kind, side, image, place, lease] => {
-                setup.starting.push(Starting { fields: [kind, side, image, place], lease });
-            }
-            [lease, takes, timeout, writes, written_lease, hold] => {
-                setup.panes.push(Pane { lease, timeout, takes, written_lease, writes, hold });
-            }
-            _ => panic!("{line}"),
-        }
-    }
-    words_of(&setup)
+    tray::trial::parse::parse(text).unwrap_or_else(|fault| panic!("{fault:?}:\n{text}")).setup.words()
 }
 
 /// The case that is shown differs, nothing can be left out of it, and if it is a setup, then its text stands for it.

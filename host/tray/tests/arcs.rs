@@ -1,7 +1,7 @@
 //! Positions on the clock face (document 02, T-09): times and arcs in texts and frames, numbers 4 and 21, the rule of
 //! matching and its mirror, and how arcs are told and drawn.
 
-use crate::common::{assembled, scratch, tray};
+use crate::common::{assembled, bad_lines, scratch, tray};
 use crate::draw::{history, ONE_ROW};
 use crate::explore::verdicts;
 use tray::boundary::{mirror_of, place_of, time_of, Space};
@@ -161,9 +161,7 @@ fn bad_times_and_arcs() {
         ("2:30", "a template: `any`, or `kind K side S image I place L`".to_string()),
     ];
     for (template, expected) in bad {
-        let answer = tray(&["run", "-"], &format!("party 1 read {template} timeout 0"));
-        assert_eq!((answer.status, answer.out.as_str()), (2, ""), "{template}");
-        assert!(answer.err.contains(&format!("tray: -:1: expected {expected}")), "{template}: {}", answer.err);
+        bad_lines(&[(&format!("party 1 read {template} timeout 0"), &expected)]);
     }
     let write = tray(&["run", "-"], "party 1 write 7 1 40 12:0 lease 5");
     assert!(write.status == 2 && write.err.contains(&format!("expected {time}, found `12:0`")), "{}", write.err);

@@ -2,7 +2,7 @@
 //! counts, and registrations in words, in drawings and in scripts of panes.
 
 use crate::arcs::in_arc;
-use crate::common::{assembled, random_text, tray, Random};
+use crate::common::{assembled, bad_lines, random_text, tray, Random};
 use crate::draw::{columns, histories, history, near, svg, ONE_ROW, SLOT};
 use crate::explore::analysed;
 use crate::xml::Element;
@@ -73,21 +73,16 @@ fn odd_notifies_are_bytes() {
 
 #[test]
 fn bad_notifies() {
-    let bad = [
-        ("party 1 notify lease 5", "expected a template: `any`, or"),
-        ("party 1 notify kind 7", "expected `lease`, the line ends"),
-        ("party 1 notify kind 7 timeout 5", "expected `lease`, found `timeout`"),
-        ("party 1 notify kind 7 lease", "expected a lease (a number of ticks"),
-        ("party 1 notify kind blank lease 5", "expected a number for kind, found `blank`"),
-        ("party 1 notify kind 7 lease 5 in 1", "expected the end of the line, found `in`"),
-        ("party 1 notify kind 7 lease 5 as R", "expected the end of the line, found `as`"),
-        ("party 1 await bell", "expected an operation (write, read,"),
-    ];
-    for (line, expected) in bad {
-        let answer = tray(&["run", "-"], line);
-        assert_eq!((answer.status, answer.out.as_str()), (2, ""), "{line}");
-        assert!(answer.err.contains(&format!("tray: -:1: {expected}")), "{line}: {}", answer.err);
-    }
+    bad_lines(&[
+        ("party 1 notify lease 5", "a template: `any`, or"),
+        ("party 1 notify kind 7", "`lease`, the line ends"),
+        ("party 1 notify kind 7 timeout 5", "`lease`, found `timeout`"),
+        ("party 1 notify kind 7 lease", "a lease (a number of ticks"),
+        ("party 1 notify kind blank lease 5", "a number for kind, found `blank`"),
+        ("party 1 notify kind 7 lease 5 in 1", "the end of the line, found `in`"),
+        ("party 1 notify kind 7 lease 5 as R", "the end of the line, found `as`"),
+        ("party 1 await bell", "an operation (write, read,"),
+    ]);
 }
 
 /// The numbers in their order: each frame lacks what all numbers behind it ask for.

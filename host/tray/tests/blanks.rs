@@ -1,7 +1,7 @@
 //! Marks without a place (document 02, T-08): blanks in texts, frames, records and words, the null rule, number 4, and how
 //! they are shown.
 
-use crate::common::{assembled, random_text, tray};
+use crate::common::{assembled, bad_lines, random_text, tray};
 use crate::draw::{history, ONE_ROW};
 use tray::boundary::Space;
 use tray::draw::{page, svg_file};
@@ -83,7 +83,7 @@ fn masks_of_other_frames() {
 
 #[test]
 fn bad_blanks() {
-    let bad = [
+    bad_lines(&[
         ("party 1 write 7 1 40 Blank lease 5", "`blank`, a number or a time (2:30) for place, found `Blank`"),
         ("party 1 write 7 1 40 lease 5", "`blank`, a number or a time (2:30) for place, found `lease`"),
         ("party 1 write blank lease 5", "`blank` or a number for side, found `lease`"),
@@ -92,12 +92,7 @@ fn bad_blanks() {
         // A template that asks for a blank there is none.
         ("party 1 read place blank timeout 0", "a number or a time (2:30) for place, found `blank`"),
         ("party 1 read blank timeout 0", "a template: `any`, or"),
-    ];
-    for (line, expected) in bad {
-        let answer = tray(&["run", "-"], line);
-        assert_eq!((answer.status, answer.out.as_str()), (2, ""), "{line}");
-        assert!(answer.err.contains(&format!("tray: -:1: expected {expected}")), "{line}: {}", answer.err);
-    }
+    ]);
     let pane = tray(&["explore", "-"], "pane A party 1\nread place blank timeout 0\n");
     assert!(pane.status == 2 && pane.err.contains("-:2: expected a number or a time (2:30) for place"), "{}", pane.err);
 }

@@ -8,7 +8,7 @@ use tray::words::{self, tables, End};
 
 /// The `#define`s of the header whose value is a sum of products of numbers and names.
 fn header() -> HashMap<String, usize> {
-    let text = std::fs::read_to_string("../space.h").unwrap();
+    let text = std::fs::read_to_string("../space.h").unwrap().replace("\\\n", " ");
     let mut known: HashMap<String, usize> = HashMap::new();
     for line in text.lines() {
         let Some(rest) = line.strip_prefix("#define SPACE_") else { continue };

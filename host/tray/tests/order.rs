@@ -246,5 +246,5 @@ fn the_header_says_the_same() {
     for (kind, name) in [(Kind::Write, "WRITE"), (Kind::Read, "READ"), (Kind::Take, "TAKE")] {
         said(&format!("SPACE_ORDER_{name} = {}", kind as u32));
     }
-    said("SPACE_REFUSAL_BAD_EXPORT = 22 ");
+    said("SPACE_REFUSAL_BAD_EXPORT = 22");
 }

@@ -1,7 +1,7 @@
 //! Renewing a mark (document 02, T-05): operation 11 as text and bytes, numbers 18 to 20, record 12 and the writer in words,
 //! in drawings and in scripts of panes.
 
-use crate::common::{assembled, random_text, tray};
+use crate::common::{assembled, bad_lines, random_text, tray};
 use crate::draw::{columns, histories, history, near, svg, ONE_ROW};
 use crate::explore::analysed;
 use std::collections::BTreeMap;
@@ -60,21 +60,16 @@ fn odd_renewals_are_bytes() {
 
 #[test]
 fn bad_renewals() {
-    let bad = [
-        ("party 1 renew lease 5", "expected an entry, found `lease`"),
-        ("party 1 renew M lease 5", "expected an entry's number, found `M`"),
-        ("party 1 renew 1", "expected `lease`, the line ends"),
-        ("party 1 renew", "expected an entry, the line ends"),
-        ("party 1 renew 1 lease", "expected a lease (a number of ticks"),
-        ("party 1 renew 1 timeout 5", "expected `lease`, found `timeout`"),
-        ("party 1 renew 1 lease 5 in 1", "expected the end of the line, found `in`"),
-        ("party 1 write 7 1 40 9 lease 5 as M", "expected the end of the line, found `as`"),
-    ];
-    for (line, expected) in bad {
-        let answer = tray(&["run", "-"], line);
-        assert_eq!((answer.status, answer.out.as_str()), (2, ""), "{line}");
-        assert!(answer.err.contains(&format!("tray: -:1: {expected}")), "{line}: {}", answer.err);
-    }
+    bad_lines(&[
+        ("party 1 renew lease 5", "an entry, found `lease`"),
+        ("party 1 renew M lease 5", "an entry's number, found `M`"),
+        ("party 1 renew 1", "`lease`, the line ends"),
+        ("party 1 renew", "an entry, the line ends"),
+        ("party 1 renew 1 lease", "a lease (a number of ticks"),
+        ("party 1 renew 1 timeout 5", "`lease`, found `timeout`"),
+        ("party 1 renew 1 lease 5 in 1", "the end of the line, found `in`"),
+        ("party 1 write 7 1 40 9 lease 5 as M", "the end of the line, found `as`"),
+    ]);
 }
 
 /// The numbers in their order: each frame lacks what all numbers behind it ask for.

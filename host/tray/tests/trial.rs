@@ -538,3 +538,14 @@ fn examples() {
     }
     assert_eq!(names.len(), 6, "{names:?}");
 }
+
+#[test]
+fn the_header_says_the_same() {
+    let header = std::fs::read_to_string("../space.h").unwrap();
+    let said = |words: &str| assert!(header.contains(words), "{words}");
+    said(&format!("#define SPACE_TRIAL_MAX_PANES {}\n", tray::trial::MOST_PANES));
+    said(&format!("#define SPACE_TRIAL_MAX_STARTING {}\n", tray::trial::MOST_STARTS));
+    said(&format!("#define SPACE_TRIAL_MAX_ROUNDS {}\n", tray::trial::MOST_ROUNDS));
+    said("SPACE_REFUSAL_BAD_SETUP = 23");
+    said("SPACE_REFUSAL_TOO_MANY_ROUNDS = 24");
+}

@@ -31,6 +31,15 @@ pub fn tray(arguments: &[&str], input: &str) -> Answer {
     }
 }
 
+/// `tray run` refuses each of these lines: status 2, nothing printed, and what was expected is told.
+pub fn bad_lines(lines: &[(&str, &str)]) {
+    for (line, expected) in lines {
+        let answer = tray(&["run", "-"], line);
+        assert_eq!((answer.status, answer.out.as_str()), (2, ""), "{line}");
+        assert!(answer.err.contains(&format!("tray: -:1: expected {expected}")), "{line}: {}", answer.err);
+    }
+}
+
 /// The files of a folder of the repository with this ending, by name.
 pub fn files(folder: &str, ending: &str) -> Vec<PathBuf> {
     let folder = Path::new("../..").join(folder);
