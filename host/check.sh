@@ -12,7 +12,7 @@ RANDOM_TRAYS=60        # given to the program and to host/run_tray.c
 EXPORTS=200000         # whose orders are compared with the reference's, of the space and of the tuned peer
 RANDOM_EXPORTS=60      # given to the program for exports
 SETUPS=100000          # whose trials are compared with the reference's
-READ_ONLY_BYTES=160    # of the archive's data: the jumps of a match, seven constants
+READ_ONLY_BYTES=324    # of the archive's data: the jumps of three matches, ten constants
 
 fail() {
     echo "FAILED: $*"
