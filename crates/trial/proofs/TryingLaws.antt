@@ -22,7 +22,7 @@ use Rattle.rules.proofs.Capacity.{step-fits}
 use Rattle.rules.proofs.ViewLaws.{view-bounded}
 use Rattle.sound.proofs.SoundProof.{sound-empty, sound-step}
 use Rattle.hints.specs.Hints.{Reliable}
-use Rattle.step.specs.Does.{StaysReliable}
+use Rattle.step.specs.Carries.{StaysReliable}
 use Rattle.words.proofs.UpToLaws.{upTo-ext, length-upTo}
 use Rattle.trial.specs.declared.Pane.{Pane}
 use Rattle.trial.specs.declared.Progress.{Progress}
