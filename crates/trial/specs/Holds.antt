@@ -1,17 +1,28 @@
 -- How long a pane holds: "A hold counts whole ticks, without the tick that itself served the found; hold 0 writes in
--- the next round" (document 02, T-13), as a table of the rounds in which panes write.
+-- the next round" (document 02, T-13), for every hold; and as a table of the rounds in which panes write.
 use Prim.Native.Nat.{ℕ, zero, suc}
 use mathlib.Core.Bool.{Bool, cond, _&&_}
 use mathlib.Core.Path.{_≡_}
 use mathlib.Core.List.{List, [], _∷_, _++_, map}
-use lib.Dec.{eqb}
+use mathlib.Core.Option.{none}
+use lib.Dec.{eqb, leb}
 use lib.ListN.{length, drop}
+use Rattle.rules.specs.declared.TxnId.{TxnId}
 use Rattle.rules.specs.Lists.{anyb}
 use Rattle.rules.specs.Numbers.{forever, opWrite}
 use Rattle.rules.specs.State.{empty}
 use Rattle.rules.specs.Frame.{byteAt}
+use Rattle.trial.specs.declared.Pane.{Pane}
+use Rattle.trial.specs.declared.Stage.{Stage}
+use Rattle.trial.specs.declared.Stage.the-variants.{Holds}
 use Rattle.trial.specs.Setup.{panesIn, startingFrames}
+use Rattle.trial.specs.Panes.{sends, ticked}
 use Rattle.trial.specs.Trial.{Round, rounds, sendAll, triers}
+
+-- so many ticks come
+unfoldable pub afterTicks : ℕ → Stage → Stage
+afterTicks zero s = s
+afterTicks (suc n) s = ticked (afterTicks n s)
 
 -- after so many rounds
 unfoldable pub after : List ℕ → ℕ → Round
@@ -51,6 +62,9 @@ tickFound hold = (8 ∷ 2 ∷ 1 ∷ []) ++ pane 3 0 7 8 50 ++ pane forever forev
 
 -- "found by a frame in round r": holds 0 and 1 write in r + 1, hold h in r + h; found by its tick: in r + 1 + h
 pub record HoldTable : Type 0 where
+  -- whatever the hold: the write is sent once so many ticks have come, and nothing before
+  pub every-hold : (p : Pane) (party : ℕ) (t : TxnId) (hold n : ℕ)
+      → sends p party (afterTicks n (Holds t hold)) ≡ cond (leb hold n) (sends p party (Holds t 0)) none
   pub by-own-frame : map (λ h. writesIn (ownFound h) 1 6) (0 ∷ 1 ∷ 2 ∷ 3 ∷ [])
       ≡ (3 ∷ []) ∷ (3 ∷ []) ∷ (4 ∷ []) ∷ (5 ∷ []) ∷ []
   pub by-others-frame : map (λ h. writesIn (othersFound h) 2 7) (0 ∷ 1 ∷ 2 ∷ 3 ∷ [])

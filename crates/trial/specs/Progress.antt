@@ -41,13 +41,13 @@ at xs i = getD xs i fresh
 abbrev pub nextAt : List ℕ → List Progress → ℕ → Option Request
 nextAt ws xs i = sends (paneAt ws i) (suc i) (at xs i .stage)
 
--- what has been counted of a pane; and room for n records more, of each
-abbrev pub total : Progress → ℕ
-total x = x .commits + x .exceptions + x .nothings
-
 -- commits, exceptions and nothings
 abbrev pub countsAt : Progress → List ℕ
 countsAt x = x .commits ∷ x .exceptions ∷ x .nothings ∷ []
+
+-- what has been counted of a pane; and room to count n records more, of each
+abbrev pub total : Progress → ℕ
+total x = x .commits + x .exceptions + x .nothings
 
 abbrev pub Room : List ℕ → ℕ → List Progress → Type 0
 Room ws n xs = (i : ℕ) → i < paneCount ws → total (at xs i) + 3 * n < 4294967296
