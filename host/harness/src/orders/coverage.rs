@@ -1,9 +1,9 @@
 //! How often each thing that can occur with exports has occurred.
 
 use super::{Answer, Case};
+use crate::seeds::{self, Situations};
 use reference::order::{next_order, succeeds, transactions};
 use reference::order::{Action, Transaction, MOST_ACTIONS, MOST_TRANSACTIONS};
-use std::collections::BTreeMap;
 
 const SITUATIONS: [&str; 60] = [
     "found",
@@ -68,10 +68,21 @@ const SITUATIONS: [&str; 60] = [
     "refused: a huge number of actions",
 ];
 
-#[derive(Default)]
 pub struct Coverage {
     pub exports: u64,
-    situations: BTreeMap<&'static str, u64>,
+    situations: Situations,
+}
+
+impl Default for Coverage {
+    fn default() -> Coverage {
+        Coverage { exports: 0, situations: Situations::of(&SITUATIONS) }
+    }
+}
+
+impl seeds::Coverage for Coverage {
+    fn situations(&self) -> &Situations {
+        &self.situations
+    }
 }
 
 /// A number's writer, and how often a transaction other than this one reads and takes it.
@@ -93,9 +104,7 @@ fn others(transactions: &[Transaction], position: usize, number: u32) -> Others 
 
 impl Coverage {
     fn note(&mut self, situation: &str, holds: bool) {
-        let name = SITUATIONS.iter().find(|name| **name == situation);
-        let name = name.unwrap_or_else(|| panic!("`{situation}` is not listed"));
-        *self.situations.entry(name).or_default() += u64::from(holds);
+        self.situations.note(situation, holds);
     }
 
     /// An export, the reference's answer, and its transactions if they are accepted.
@@ -231,16 +240,5 @@ impl Coverage {
         }
         self.note("refused: words too few", behind > 0 && !words.is_empty());
         self.note("refused: words left over", behind == 0 && at < words.len());
-    }
-
-    /// What can occur and did not.
-    pub fn missing(&self) -> Vec<&'static str> {
-        SITUATIONS.into_iter().filter(|name| self.situations.get(name).is_none_or(|&times| times == 0)).collect()
-    }
-
-    pub fn print(&self) {
-        for name in SITUATIONS {
-            println!("  {name:<40} {:>10}", self.situations.get(name).copied().unwrap_or(0));
-        }
     }
 }

@@ -2,6 +2,7 @@
 //! their records.
 
 use super::Case;
+use crate::seeds::{self, Situations};
 use reference::answer::{Kind, Record};
 use reference::frame::{word, Refusal, FOREVER, LAST_CLOCK};
 use reference::trial::{judge, run, setup, Pane, Setup, Starting, Step, Trial};
@@ -45,9 +46,20 @@ const SITUATIONS: [&str; 87] = [
     "23: words too few", "23: words left over", "23: counts too short", "23: rounds above 1000 too",
 ];
 
-#[derive(Default)]
 pub struct Coverage {
-    situations: BTreeMap<&'static str, u64>,
+    situations: Situations,
+}
+
+impl Default for Coverage {
+    fn default() -> Coverage {
+        Coverage { situations: Situations::of(&SITUATIONS) }
+    }
+}
+
+impl seeds::Coverage for Coverage {
+    fn situations(&self) -> &Situations {
+        &self.situations
+    }
 }
 
 /// How a pane's take was answered found.
@@ -291,9 +303,7 @@ impl Walk<'_> {
 
 impl Coverage {
     fn note(&mut self, situation: &str, holds: bool) {
-        let name = SITUATIONS.iter().find(|name| **name == situation);
-        let name = name.unwrap_or_else(|| panic!("`{situation}` is not listed"));
-        *self.situations.entry(name).or_default() += u64::from(holds);
+        self.situations.note(situation, holds);
     }
 
     pub fn count(&mut self, case: &Case) {
@@ -367,16 +377,5 @@ impl Coverage {
         self.note("23: words left over", (words.len() as u64) > wanted);
         self.note("23: counts too short", setup(words).is_some_and(|setup| *room < COUNTS * setup.panes.len()));
         self.note("23: rounds above 1000 too", rounds > MOST_ROUNDS);
-    }
-
-    /// What can occur and did not.
-    pub fn missing(&self) -> Vec<&'static str> {
-        SITUATIONS.into_iter().filter(|name| self.situations.get(name).is_none_or(|&times| times == 0)).collect()
-    }
-
-    pub fn print(&self) {
-        for name in SITUATIONS {
-            println!("  {name:<46} {:>10}", self.situations.get(name).copied().unwrap_or(0));
-        }
     }
 }
