@@ -1,4 +1,5 @@
-// Why a request is refused: the refusals 6 to 13, of a renewal 18 to 20 and of a notify 17, in the order in which they are judged.
+// Why a request is refused: the refusals 6 to 13, of a renewal 18 to 20 and of a notify 17, in the order in which they
+// are judged.
 ghost use mathlib.Core.Path.{_≡_};
 ghost use Rattle.rules.specs.declared.Request.the-variants.{Write, Find, Create, Commit, Abort, Notify, Tick};
 ghost use Rattle.rules.specs.Requests.{frameOf, spaceRefusal};

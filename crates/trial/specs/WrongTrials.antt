@@ -83,8 +83,8 @@ pub record WrongTrials : Type 0 where
   pub after-exceptions : Keeps (countsBy (roundWith tickUnheard)) → ⊥
   pub served-sends : Keeps (countsBy roundServed) → ⊥
   pub others-counts : Keeps countsTurned → ⊥
-  -- what is to be refused is accepted: no pane, five; nine starting entries; a word too few; counts for one pane of two;
-  -- 1,001 rounds
+  -- what is to be refused is accepted: no pane, five; nine starting entries; a word too few; counts for one pane of
+  -- two; 1,001 rounds
   pub none-accepted : (after : List ℕ) → Tried (setupOf 2 0 0) (roomFor 5) 0 after → ⊥
   pub five-accepted : (after : List ℕ) → Tried (setupOf 2 5 0) (roomFor 5) 0 after → ⊥
   pub nine-accepted : (after : List ℕ) → Tried (setupOf 2 1 9) (roomFor 5) 0 after → ⊥
