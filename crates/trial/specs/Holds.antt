@@ -1,5 +1,5 @@
 -- How long a pane holds: "A hold counts whole ticks, without the tick that itself served the found; hold 0 writes in
--- the next round" (document 02, T-13), for every hold; and as a table of the rounds in which panes write.
+-- the next round" (document 02, T-13): after how many ticks, for every hold; in which round, as a table of some.
 use Prim.Native.Nat.{ℕ, zero, suc}
 use mathlib.Core.Bool.{Bool, cond, _&&_}
 use mathlib.Core.Path.{_≡_}
@@ -60,9 +60,9 @@ othersFound hold = (8 ∷ 2 ∷ 1 ∷ []) ++ pane forever 0 5 7 0 ++ pane foreve
 abbrev pub tickFound : ℕ → List ℕ
 tickFound hold = (8 ∷ 2 ∷ 1 ∷ []) ++ pane 3 0 7 8 50 ++ pane forever forever 7 8 hold ++ entry 7
 
--- "found by a frame in round r": holds 0 and 1 write in r + 1, hold h in r + h; found by its tick: in r + 1 + h
+-- found by a frame in round r, holds 0 and 1 write in r + 1 and hold h in r + h; found by its tick, in r + 1 + h
 pub record HoldTable : Type 0 where
-  -- whatever the hold: the write is sent once so many ticks have come, and nothing before
+  -- whatever the hold: the write is sent once so many ticks have come, and nothing before, unless a record comes first
   pub every-hold : (p : Pane) (party : ℕ) (t : TxnId) (hold n : ℕ)
       → sends p party (afterTicks n (Holds t hold)) ≡ cond (leb hold n) (sends p party (Holds t 0)) none
   pub by-own-frame : map (λ h. writesIn (ownFound h) 1 6) (0 ∷ 1 ∷ 2 ∷ 3 ∷ [])

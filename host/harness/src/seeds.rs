@@ -28,7 +28,7 @@ impl Situations {
     }
 
     /// What can occur and did not.
-    pub fn missing(&self) -> Vec<&'static str> {
+    fn missing(&self) -> Vec<&'static str> {
         self.listed.iter().copied().filter(|name| self.times(name) == 0).collect()
     }
 
@@ -59,8 +59,8 @@ pub struct Program {
 
 /// What the program is to do: compare so many things from a seed on.
 pub struct Asked {
-    pub wanted: u64,
-    pub first: u64,
+    wanted: u64,
+    first: u64,
     pub subject: &'static str,
 }
 
