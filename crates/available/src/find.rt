@@ -13,7 +13,7 @@ use words::rows::{Words, clock, entry_at, entry_count, field_at, wait_at, wait_f
 use words::time::reached_at;
 
 // An available entry with its row, or none.
-#[derive(Drop)]
+#[derive(Clone, Copy)]
 pub enum Match {
     At(Entry, usize),
     None,
@@ -21,7 +21,7 @@ pub enum Match {
 
 // What a template asks first: the field at a column, counted from 0, and its value; at the column NONE it asks for
 // none.
-#[derive(Drop)]
+#[derive(Clone, Copy)]
 pub struct Asked {
     column: usize,
     want: u32,

@@ -12,7 +12,7 @@ use words::rows::{Words, txn_at, txn_count};
 pub const NO_SLOT: u8 = MAX_TXNS as u8;
 
 // A live transaction, or none.
-#[derive(Drop)]
+#[derive(Clone, Copy)]
 pub enum Live {
     At(Txn),
     None,

@@ -17,7 +17,7 @@ const RECORDS: u64 = 65536;
 const NUMBER: u64 = 4294967296;
 
 // Of the frames so far: the writes, the notify frames, and the records that all may give.
-#[derive(Drop)]
+#[derive(Clone, Copy)]
 pub struct Counts {
     pub writes: u32,
     pub notifies: u32,

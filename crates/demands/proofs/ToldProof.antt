@@ -126,7 +126,7 @@ joined-all Q g [] h = all_none Q
 joined-all Q g (x ∷ xs) h =
     all_append (g x) (h x (mathlib.Core.List.Memᴰ.head refl)) (joined-all Q g xs (λ z i. h z (mathlib.Core.List.Memᴰ.tail i)))
 
-in_joined : {A B : Type 0} (g : A → List B) {xs : List A} {x : A} {y : B} → Memᴰ x xs → Memᴰ y (g x)
+in_joined : {A B : Type 0} (g : A → List B) {x : A} {xs : List A} {y : B} → Memᴰ x xs → Memᴰ y (g x)
     → Memᴰ y (joined (map g xs))
 in_joined g {y = y} (mathlib.Core.List.Memᴰ.head {x = z} {xs = zs} e) i =
     mathlib.Core.List.Memᴰ.append_left (joined (map g zs)) (subst (λ w. Memᴰ y (g w)) e i)

@@ -17,7 +17,7 @@ use rules::TxnId;
 use words::rows::{Words, move_wait, set_wait_count, wait_at, wait_count};
 
 // Look-ups that leave together.
-#[derive(Drop)]
+#[derive(Clone, Copy)]
 pub enum Leave {
     // Those that wait inside the transaction: it is aborted.
     Inside(TxnId),

@@ -70,7 +70,7 @@ pub fn drop_registrations(space: &mut Words)
 }
 
 // What a step makes public.
-#[derive(Drop)]
+#[derive(Clone, Copy)]
 pub enum Public {
     // The entry that is written outside transactions, with these fields.
     Written(Mark),

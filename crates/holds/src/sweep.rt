@@ -15,7 +15,7 @@ use words::rows::{Words, clock, entry_at, entry_count, put_entry, set_entry_coun
 use words::time::reached_at;
 
 // A pass over the entries.
-#[derive(Drop)]
+#[derive(Clone, Copy)]
 pub(crate) enum Sweep {
     // Those whose lease has ended at the clock go.
     Expire(u32),

@@ -8,7 +8,7 @@ ghost use Rattle.order.specs.Plan.{slot_in, Begin, Resolved, Codes, Planned};
 use crate::read::{MAX_TXNS, SLOTS, WRITE, read_export};
 
 // The codes of the actions of n transactions, laid out as in `Export`.
-#[derive(Drop)]
+#[derive(Clone, Copy)]
 pub(crate) struct Plan {
     pub(crate) ok: bool,
     pub(crate) n: usize,

@@ -20,7 +20,7 @@ const LAST_KIND: u32 = TAKE as u32;
 
 // The actions of n transactions, one after another: those of the one at position p stand from starts[p] to
 // starts[p + 1].
-#[derive(Drop)]
+#[derive(Clone, Copy)]
 pub(crate) struct Export {
     pub(crate) ok: bool,
     pub(crate) n: usize,

@@ -9,7 +9,7 @@ use crate::plan::wide;
 use crate::read::{SLOTS, TAKE, WRITE};
 
 // Whether every action found its entry, and which slots are present then.
-#[derive(Drop)]
+#[derive(Clone, Copy)]
 pub(crate) struct Ran {
     pub(crate) ok: bool,
     pub(crate) present: [bool; SLOTS],

@@ -7,7 +7,7 @@ ghost use Rattle.order.specs.Search.{Searched};
 use crate::read::{MAX_TXNS, SLOTS};
 use crate::run::run_codes;
 
-#[derive(Drop)]
+#[derive(Clone, Copy)]
 pub(crate) struct Found {
     pub(crate) ok: bool,
     pub(crate) order: [u8; MAX_TXNS],

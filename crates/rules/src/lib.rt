@@ -2,19 +2,19 @@
 pub mod numbers;
 
 // The number of an entry. Counted from 1.
-#[derive(Drop)]
+#[derive(Clone, Copy)]
 pub struct EntryId(pub u32);
 
 // The number of a transaction. Counted from 1; 0 means none.
-#[derive(Drop)]
+#[derive(Clone, Copy)]
 pub struct TxnId(pub u32);
 
 // The number of a registration. Counted from 1.
-#[derive(Drop)]
+#[derive(Clone, Copy)]
 pub struct RegistrationId(pub u32);
 
 // Four fields, as a frame has them.
-#[derive(Drop)]
+#[derive(Clone, Copy)]
 pub struct Fields {
     pub kind: u32,
     pub side: u32,
@@ -23,7 +23,7 @@ pub struct Fields {
 }
 
 // The four fields of an entry, and which of them are blank: bit 0 stands for kind, up to bit 3 for place.
-#[derive(Drop)]
+#[derive(Clone, Copy)]
 pub struct Mark {
     pub kind: u32,
     pub side: u32,
@@ -33,14 +33,14 @@ pub struct Mark {
 }
 
 // The end of a lease, or the deadline of a look-up.
-#[derive(Drop)]
+#[derive(Clone, Copy)]
 pub enum Until {
     Tick(u32),
     Forever,
 }
 
 // A stored entry.
-#[derive(Drop)]
+#[derive(Clone, Copy)]
 pub struct Entry {
     pub id: EntryId,
     pub fields: Mark,
@@ -56,7 +56,7 @@ pub struct Entry {
 }
 
 // A live transaction.
-#[derive(Drop)]
+#[derive(Clone, Copy)]
 pub struct Txn {
     pub id: TxnId,
     pub party: u8,
@@ -66,7 +66,7 @@ pub struct Txn {
 }
 
 // A look-up, waiting or just asked.
-#[derive(Drop)]
+#[derive(Clone, Copy)]
 pub struct LookUp {
     pub party: u8,
     pub takes: bool,
@@ -78,7 +78,7 @@ pub struct LookUp {
 }
 
 // A live registration: its party hears of entries made public that match its template.
-#[derive(Drop)]
+#[derive(Clone, Copy)]
 pub struct Registration {
     pub id: RegistrationId,
     pub party: u8,
@@ -90,7 +90,7 @@ pub struct Registration {
 }
 
 // The nine numbers of an answer, and the blanks of its fields.
-#[derive(Drop)]
+#[derive(Clone, Copy)]
 pub struct Record {
     pub kind: u8,
     pub party: u8,
@@ -104,7 +104,7 @@ pub struct Record {
 // kind has a part of a number, and the compiler tells a frame's kind once, from its first byte on.
 
 // A write: transaction, party, which fields are blank, lease, fields.
-#[derive(Drop)]
+#[derive(Clone, Copy)]
 pub struct WriteRequest {
     pub txn: TxnId,
     pub party: u8,
@@ -114,7 +114,7 @@ pub struct WriteRequest {
 }
 
 // A look-up: it takes or reads; the IfExists kinds wait only while an entry conflicts.
-#[derive(Drop)]
+#[derive(Clone, Copy)]
 pub struct FindRequest {
     pub txn: TxnId,
     pub party: u8,
@@ -126,7 +126,7 @@ pub struct FindRequest {
 }
 
 // A notify: lease, party, template.
-#[derive(Drop)]
+#[derive(Clone, Copy)]
 pub struct NotifyRequest {
     pub lease: u32,
     pub party: u8,
@@ -135,7 +135,7 @@ pub struct NotifyRequest {
 }
 
 // A renewal: the entry, the party, the lease.
-#[derive(Drop)]
+#[derive(Clone, Copy)]
 pub struct RenewRequest {
     pub entry: EntryId,
     pub party: u8,
@@ -143,7 +143,7 @@ pub struct RenewRequest {
 }
 
 // What a frame asks for, once its form is in order.
-#[derive(Drop)]
+#[derive(Clone, Copy)]
 pub enum Request {
     Write(WriteRequest),
     Find(FindRequest),
@@ -158,7 +158,7 @@ pub enum Request {
 }
 
 // What the decoder answers: the request, or the number of the first of the refusals 2 to 5 that applies.
-#[derive(Drop)]
+#[derive(Clone, Copy)]
 pub enum Decoded {
     Asks(Request),
     Refused(u8),

@@ -11,7 +11,7 @@ const FIGURES_AT: usize = 2;
 
 const WIDTH: usize = 5;
 
-#[derive(Drop)]
+#[derive(Clone, Copy)]
 pub struct Figures {
     // Look-ups not refused.
     pub asked: u32,

@@ -13,7 +13,7 @@ pub const WAITS: usize = WIDTH * (MAX_PARTY as usize + 1);
 
 pub type Waits = [u32; WAITS];
 
-#[derive(Drop)]
+#[derive(Clone, Copy)]
 pub struct Wait {
     // Whether the party waits, since which clock, and in which transaction.
     pub waits: bool,

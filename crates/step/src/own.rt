@@ -21,7 +21,7 @@ use rules::{NotifyRequest, Record, Request, TxnId};
 use words::rows::{Words, clock, set_clock};
 
 // What a request does of its own: the record that it answers, and a row before which the entries are as they were.
-#[derive(Drop)]
+#[derive(Clone, Copy)]
 pub(crate) struct Own {
     pub(crate) answer: Record,
     pub(crate) from: usize,

@@ -12,7 +12,7 @@ const COUNT_SIZE: usize = 4;
 const PAIR_SIZE: usize = 8;
 
 // Where a frame stands in its tray: from `offset` to `end`.
-#[derive(Drop)]
+#[derive(Clone, Copy)]
 pub struct Pair {
     pub offset: usize,
     pub end: usize,

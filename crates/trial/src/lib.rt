@@ -11,7 +11,7 @@ use crate::setup::refusal;
 use rules::TxnId;
 
 // A pane's own leases, timeout, kinds and hold.
-#[derive(Drop)]
+#[derive(Clone, Copy)]
 pub struct Pane {
     pub txn_lease: u32,
     pub timeout: u32,
@@ -24,7 +24,7 @@ pub struct Pane {
 }
 
 // What a pane does next.
-#[derive(Drop)]
+#[derive(Clone, Copy)]
 pub enum Stage {
     Creates,
     Takes(TxnId),
@@ -36,7 +36,7 @@ pub enum Stage {
 }
 
 // A pane on its way: what it does next, and what has been counted of it.
-#[derive(Drop)]
+#[derive(Clone, Copy)]
 pub struct Progress {
     pub stage: Stage,
     pub commits: u32,

@@ -16,7 +16,7 @@ use rules::{Fields, FindRequest, Record, Request, TxnId, WriteRequest};
 const KIND_MASK: u8 = 1;
 
 // What a pane sends, unless it waits or holds.
-#[derive(Drop)]
+#[derive(Clone, Copy)]
 pub enum Next {
     Sends(Request),
     Rests,
