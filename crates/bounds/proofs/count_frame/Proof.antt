@@ -7,13 +7,13 @@ use Rattle.bounds.proofs.count_frame.Tie as tie
 returns : tie.Need-returns
 returns c =
     rw (
-      c.before.before.before.before.before.one-if.ensures.0,
-      c.before.before.before.one-if2.ensures.0,
-      c.before.records-of.ensures.0,
+      c.one_if.ensures.0,
+      c.one_if-2.ensures.0,
+      c.records_of.ensures.0,
     ) refl
 
-pub count-frame-spec : {M : Type 1} → statement M
-count-frame-spec =
+pub count_frame_spec : {M : Type 1} → statement M
+count_frame_spec =
     tie.close
     (tie.spec
     (λ c κs. search rules) (λ c. search rules) (λ c κs. search rules) (λ c. search rules) (λ c κs. search rules)

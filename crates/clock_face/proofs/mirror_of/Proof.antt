@@ -6,13 +6,13 @@ use Rattle.rules.specs.Places.{mirror_of, mirrored_place}
 use Rattle.clock_face.proofs.mirror_of.Statement.{statement}
 use Rattle.clock_face.proofs.mirror_of.Tie as tie
 
-returns : tie.Need-returns
+returns : tie.Need-returns-then-place-ge-PLACES
 unfolding mirrored_place
-returns c = rw (le-ltb c.before.args.place places c.if1.true)
+returns c = rw (le-ltb c.args.place places c.if-place-ge-PLACES.true)
 
-returns-2 : tie.Need-returns-2
+returns-2 : tie.Need-returns
 unfolding mirrored_place mirror_of
-returns-2 c = rw (lt-ltb c.before.args.place places c.if1.false)
+returns-2 c = rw (lt-ltb c.args.place places c.if-place-ge-PLACES.false)
 
-pub mirror-of-spec : {M : Type 1} → statement M
-mirror-of-spec = tie.close (tie.spec returns (λ c. search rules) (λ c. search rules) returns-2)
+pub mirror_of_spec : {M : Type 1} → statement M
+mirror_of_spec = tie.close (tie.spec returns (λ c. search rules) (λ c. search rules) returns-2)

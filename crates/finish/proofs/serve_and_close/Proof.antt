@@ -10,11 +10,11 @@ use Rattle.finish.proofs.FinishLaws.{few-served, finish_parts}
 use Rattle.finish.proofs.serve_and_close.Statement.{statement}
 use Rattle.finish.proofs.serve_and_close.Tie as tie
 
-close-in-vain-requires : tie.Need-close-in-vain-requires
+close-in-vain-requires : tie.Need-close_in_vain-requires
 close-in-vain-requires c κs =
-    let served = c.before.before.before.before in
-    let start = served.before.before.before.before in
-    let s = served.serve.ensures in
+    let served = c in
+    let start = served in
+    let s = served.serve-served.ensures in
     omega (
       arith,
       start.requires,
@@ -25,13 +25,13 @@ close-in-vain-requires c κs =
 
 returns : tie.Need-returns
 returns c =
-    let closed = c.before.before in
-    let served = closed.before.before.before.before.before in
-    let start = served.before.before.before.before in
+    let closed = c in
+    let served = closed in
+    let start = served in
     finish_parts start.args.space.now Both start.args.from (omega (arith, start.requires)) (does-nothing _ _ _)
     refl
-    served.serve.ensures closed.close-in-vain.ensures
+    served.serve-served.ensures closed.close_in_vain.ensures
 
-pub serve-and-close-spec : {M : Type 1} → statement M
-serve-and-close-spec =
+pub serve_and_close_spec : {M : Type 1} → statement M
+serve_and_close_spec =
     tie.close (tie.spec (λ c κs. search rules) close-in-vain-requires (λ c. search rules) returns)

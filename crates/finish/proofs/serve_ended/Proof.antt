@@ -9,17 +9,17 @@ use Rattle.finish.proofs.FromLaws.{from_none}
 use Rattle.finish.proofs.serve_ended.Statement.{statement}
 use Rattle.finish.proofs.serve_ended.Tie as tie
 
-returns : tie.Need-returns
+returns : tie.Need-returns-then-ended-eq0
 returns c =
-    let a = c.before.before.args in
+    let a = c.args in
     let ws = a.space.now in
-    rw (eq-eqb a.ended 0 c.if1.true, from_none max_entries (view ws) (view-bounded ws).entries_fit)
+    rw (eq-eqb a.ended 0 c.if-ended-eq0.true, from_none max_entries (view ws) (view-bounded ws).entries_fit)
     (does-nothing _ _ _)
 
-returns-2 : tie.Need-returns-2
+returns-2 : tie.Need-returns
 returns-2 c =
-    let test = c.before.before.before.before.before in
-    rw (ne_eqb test.before.before.args.ended 0 test.if1.false) c.before.before.serve.ensures
+    let test = c in
+    rw (ne_eqb test.args.ended 0 test.if-ended-eq0.false) c.serve.ensures
 
-pub serve-ended-spec : {M : Type 1} → statement M
-serve-ended-spec = tie.close (tie.spec returns (λ c κs. search rules) (λ c. search rules) returns-2)
+pub serve_ended_spec : {M : Type 1} → statement M
+serve_ended_spec = tie.close (tie.spec returns (λ c κs. search rules) (λ c. search rules) returns-2)

@@ -10,7 +10,7 @@ use Rattle.judge.proofs.abort_refusal.Statement.{statement}
 
 returns : tie.Need-returns
 unfolding layout_of no_lease too_late entries_full txns_full registrations_full no_number
-returns c = by_admission_alone _ _ (c.party-refusal.ensures ∙ admission_parts _ _ _ _ refl (simp or-true) refl) refl
+returns c = by_admission_alone _ _ (c.party_refusal.ensures ∙ admission_parts _ _ _ _ refl (simp or-true) refl) refl
 
-pub abort-refusal-spec : {M : Type 1} → statement M
-abort-refusal-spec = tie.close (tie.spec (λ c κs. search rules) returns)
+pub abort_refusal_spec : {M : Type 1} → statement M
+abort_refusal_spec = tie.close (tie.spec (λ c κs. search rules) returns)

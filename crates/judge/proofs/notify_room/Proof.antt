@@ -15,46 +15,46 @@ use Rattle.words.proofs.Tables.{length-registrations}
 use Rattle.judge.specs.Judge.{room_refusal}
 use Rattle.judge.proofs.notify_room.Statement.{statement}
 
-returns : tie.Need-returns
+returns : tie.Need-returns-then-q-eq0
 unfolding no_lease
-returns c = rw (eq-eqb _ _ c.if1.true)
+returns c = rw (eq-eqb _ _ c.if-q-eq0.true)
 
-returns-2 : tie.Need-returns-2
+returns-2 : tie.Need-returns-then-too_late
 unfolding no_lease too_late layout_of
-returns-2 c = rw (ne_eqb _ _ c.before.before.if1.false, sym c.before.too-late.ensures ∙ c.if2.true)
+returns-2 c = rw (ne_eqb _ _ c.if-q-eq0.false, sym c.too_late.ensures ∙ c.if-too_late.true)
 
-returns-3 : tie.Need-returns-3
+returns-3 : tie.Need-returns-then-registration_count-ge-MAX_REGISTRATIONS
 unfolding no_lease too_late entries_full txns_full registrations_full layout_of
 returns-3 c =
-    let late = c.before.before.before in
-    rw (ne_eqb _ _ late.before.if1.false, sym late.too-late.ensures ∙ c.before.before.if2.false)
-    (rw (length-registrations, sym c.before.registration-count.ensures.0, le-leb _ _ c.if3.true))
+    let late = c in
+    rw (ne_eqb _ _ late.if-q-eq0.false, sym late.too_late.ensures ∙ c.if-too_late.false)
+    (rw (length-registrations, sym c.registration_count.ensures.0, le-leb _ _ c.if-registration_count-ge-MAX_REGISTRATIONS.true))
 
 -- 13 is left
-last : (c : tie.After-next-registration)
-    → let a = c.before.before.before.before.before.before.before.args in
-    cond (leb forever c.next-registration.result) number_refused 0
+last : (c : tie.After-next_registration)
+    → let a = c.args in
+    cond (leb forever c.next_registration.result) number_refused 0
     ≡ room_refusal (view a.space.now) (frame_of (Notify a.q))
 unfolding no_lease too_late entries_full txns_full registrations_full no_number layout_of
 last c =
-    let counted = c.before.before in
-    let late = counted.before.before in
-    rw (ne_eqb _ _ late.before.if1.false, sym late.too-late.ensures ∙ counted.before.if2.false)
+    let counted = c in
+    let late = counted in
+    rw (ne_eqb _ _ late.if-q-eq0.false, sym late.too_late.ensures ∙ counted.if-too_late.false)
     (rw (
       length-registrations,
-      sym counted.registration-count.ensures.0,
-      lt-leb _ _ c.before.if3.false,
-      c.next-registration.ensures,
+      sym counted.registration_count.ensures.0,
+      lt-leb _ _ c.if-registration_count-ge-MAX_REGISTRATIONS.false,
+      c.next_registration.ensures,
     ))
 
-returns-4 : tie.Need-returns-4
-returns-4 c = rw (le-leb _ _ c.if4.true) at (last c.before)
+returns-4 : tie.Need-returns-then-next_registration-ge-FOREVER
+returns-4 c = rw (le-leb _ _ c.if-next_registration-ge-FOREVER.true) at (last c.before)
 
-returns-5 : tie.Need-returns-5
-returns-5 c = rw (lt-leb _ _ c.if4.false) at (last c.before)
+returns-5 : tie.Need-returns-else-next_registration-ge-FOREVER
+returns-5 c = rw (lt-leb _ _ c.if-next_registration-ge-FOREVER.false) at (last c.before)
 
-pub notify-room-spec : {M : Type 1} → statement M
-notify-room-spec =
+pub notify_room_spec : {M : Type 1} → statement M
+notify_room_spec =
     tie.close
     (tie.spec
     returns (λ c κs. search rules) returns-2 (λ c κs. search rules) returns-3 (λ c κs. search rules) returns-4

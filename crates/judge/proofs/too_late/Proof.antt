@@ -8,13 +8,13 @@ use Rattle.judge.proofs.RefusalParts.{late_by}
 use Rattle.judge.proofs.too_late.Statement.{statement}
 use Rattle.judge.proofs.too_late.Tie as tie
 
-returns : tie.Need-returns
-returns c = rw (eq-eqb _ _ c.if1.true)
+returns : tie.Need-returns-then-amount-eq-FOREVER
+returns c = rw (eq-eqb _ _ c.if-amount-eq-FOREVER.true)
 
-returns-2 : tie.Need-returns-2
+returns-2 : tie.Need-returns-else-amount-eq-FOREVER
 returns-2 c =
-    rw (ne_eqb _ _ c.before.if1.false, sym c.clock.ensures)
-    (late_by last_clock c.clock.result c.before.before.args.amount (omega arith))
+    rw (ne_eqb _ _ c.if-amount-eq-FOREVER.false, sym c.clock.ensures)
+    (late_by last_clock c.clock.result c.args.amount (omega arith))
 
-pub too-late-spec : {M : Type 1} → statement M
-too-late-spec = tie.close (tie.spec (λ c. search rules) (λ c κs. search rules) returns returns-2)
+pub too_late_spec : {M : Type 1} → statement M
+too_late_spec = tie.close (tie.spec (λ c. search rules) (λ c κs. search rules) returns returns-2)

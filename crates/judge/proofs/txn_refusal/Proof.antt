@@ -13,47 +13,47 @@ use Rattle.judge.proofs.RefusalParts.{live-none, live_some}
 use Rattle.judge.proofs.txn_refusal.Statement.{statement}
 use Rattle.judge.proofs.txn_refusal.Tie as tie
 
-returns : tie.Need-returns
+returns : tie.Need-returns-then-not-inside
 unfolding txn_refusal
-returns c = rw (not-true c.before.args.inside c.if1.true)
+returns c = rw (not-true c.args.inside c.if-not-inside.true)
 
-returns-2 : tie.Need-returns-2
+returns-2 : tie.Need-returns-then-id-eq0
 unfolding txn_refusal
 returns-2 c =
-    let test = c.before.before in
-    rw (not-false test.before.args.inside test.if1.false, eq-eqb _ _ c.if2.true)
+    let test = c in
+    rw (not-false test.args.inside test.if-not-inside.false, eq-eqb _ _ c.if-id-eq0.true)
 
 -- what is found decides, where the frame is in a transaction that it names
-found : (c : tie.After-find-txn) {n : ℕ}
-    → let a = c.before.before.before.before.args in
+found : (c : tie.After-find_txn) {n : ℕ}
+    → let a = c.args in
     (eqb a.id.0 0 ≡ false → n ≡ txn_refusal true a.party a.id.0 (view a.space.now).txns)
     → n ≡ txn_refusal a.inside a.party a.id.0 (view a.space.now).txns
 found c e =
-    let test = c.before.before.before in
-    rw (not-false test.before.args.inside test.if1.false) (e (ne_eqb _ _ c.before.if2.false))
+    let test = c in
+    rw (not-false test.args.inside test.if-not-inside.false) (e (ne_eqb _ _ c.if-id-eq0.false))
 
-returns-3 : tie.Need-returns-3
+returns-3 : tie.Need-returns-in_default
 returns-3 c =
-    let find = c.before.before in
-    found find (λ z. live-none _ _ _ z (sym find.find-txn.ensures.live ∙ ap live_of c.enum_told.given.1))
+    let find = c in
+    found find.before.before (λ z. live-none _ _ _ z (sym find.find_txn.ensures.live ∙ ap live_of c.enum_told-1.given.1))
 
 -- 8, by the live transaction's party
-owned : (c : tie.After-t)
-    → let a = c.before.before.before.before.before.before.args in
-    cond (not (eqb c.t.given.0.0.party a.party)) not_own_refused 0
+owned : (c : tie.In-At-2)
+    → let a = c.args in
+    cond (not (eqb c.t-1.given.0.0.party a.party)) not_own_refused 0
     ≡ txn_refusal a.inside a.party a.id.0 (view a.space.now).txns
 owned c =
-    let find = c.before.before in
-    found find (λ z. live_some _ _ _ z _ (sym find.find-txn.ensures.live ∙ ap live_of c.t.given.1))
+    let find = c in
+    found find.before.before (λ z. live_some _ _ _ z _ (sym find.find_txn.ensures.live ∙ ap live_of c.t-1.given.1))
 
-returns-4 : tie.Need-returns-4
-returns-4 c = rw (eq-eqb _ _ c.if3.true) at (owned c.before.before.before)
+returns-4 : tie.Need-returns-then-t-party
+returns-4 c = rw (eq-eqb _ _ c.if-t-party.true) at (owned c.before.before.before)
 
-returns-5 : tie.Need-returns-5
-returns-5 c = rw (ne_eqb _ _ c.if3.false) at (owned c.before.before.before)
+returns-5 : tie.Need-returns-else-t-party
+returns-5 c = rw (ne_eqb _ _ c.if-t-party.false) at (owned c.before.before.before)
 
-pub txn-refusal-spec : {M : Type 1} → statement M
-txn-refusal-spec =
+pub txn_refusal_spec : {M : Type 1} → statement M
+txn_refusal_spec =
     tie.close
     (tie.spec
     returns returns-2 (λ c κs. search rules) (λ c. search rules) (λ c. search rules) returns-3 returns-4

@@ -12,42 +12,42 @@ use Rattle.judge.proofs.RefusalParts.{unflagged_waits}
 use Rattle.judge.proofs.waits_already.Statement.{statement}
 use Rattle.judge.proofs.waits_already.Tie as tie
 
-abbrev invariant-loop : tie.invariant-loop
+abbrev invariant-loop : tie.invariant-loop-i
 invariant-loop space hints party leaving n i₀ i = (i ≤ n) × Searching (bars party leaving.0) (wait_row space) i
 
-abbrev decreases-loop : tie.decreases-loop
+abbrev decreases-loop : tie.decreases-loop-i
 decreases-loop space hints party leaving n i₀ i = n - i
 
-returns : tie.Need-returns invariant-loop decreases-loop
+returns : tie.Need-returns-then-not-may_wait invariant-loop decreases-loop
 returns c =
-    let start = c.before.before in
+    let start = c in
     sym (unflagged_waits start.args.party start.args.leaving.0 start.requires
-    (c.before.may-wait.ensures (not-true _ c.if1.true)))
+    (c.may_wait.ensures (not-true _ c.if-not-may_wait.true)))
 
-loop-holds : tie.Need-loop-init invariant-loop decreases-loop
+loop-holds : tie.Need-loop-i-init invariant-loop decreases-loop
 loop-holds c = (omega arith, search_start)
 
-returns-2 : tie.Need-returns-2 invariant-loop decreases-loop
+returns-2 : tie.Need-returns-then-is_barring invariant-loop decreases-loop
 returns-2 c =
-    let loop = c.before.before.before.before in
-    sym (search_any (waits-read loop.before.before.before.before.args.space.now) loop.loop.invariant.1
+    let loop = c in
+    sym (search_any (waits-read loop.args.space.now) loop.loop-i.invariant.1
     (omega arith)
-    c.before.before.wait-at.ensures (sym c.before.is-barring.ensures ∙ c.if2.true))
+    c.wait_at-w.ensures (sym c.is_barring.ensures ∙ c.if-is_barring.true))
 
-loop-again : tie.Need-loop-preserved invariant-loop decreases-loop
+loop-again : tie.Need-loop-i-preserved invariant-loop decreases-loop
 loop-again c = (
   omega arith,
-  search_more c.before.before.before.before.loop.invariant.1 c.before.before.wait-at.ensures
-      (sym c.before.is-barring.ensures ∙ c.if2.false),
+  search_more c.loop-i.invariant.1 c.wait_at-w.ensures
+      (sym c.is_barring.ensures ∙ c.if-is_barring.false),
 )
 
-returns-3 : tie.Need-returns-3 invariant-loop decreases-loop
+returns-3 : tie.Need-returns invariant-loop decreases-loop
 returns-3 c =
-    sym (search_no (waits-read c.before.before.before.before.before.args.space.now)
-    c.before.loop.invariant.1 (omega arith))
+    sym (search_no (waits-read c.args.space.now)
+    c.loop-i.invariant.1 (omega arith))
 
-pub waits-already-spec : {M : Type 1} → statement M
-waits-already-spec =
+pub waits_already_spec : {M : Type 1} → statement M
+waits_already_spec =
     tie.close
     (tie.spec
     invariant-loop decreases-loop (λ c κs. tt) returns (λ c κs. tt) loop-holds (λ c κs. omega arith) (λ c κs. tt) returns-2

@@ -7,17 +7,17 @@ use Rattle.judge.proofs.RefusalParts.{admission_parts, by_admission, by_room}
 use Rattle.judge.proofs.write_refusal.Statement.{statement}
 use Rattle.judge.proofs.write_refusal.Tie as tie
 
-returns : tie.Need-returns
+returns : tie.Need-returns-then-n-ne0
 unfolding layout_of
 returns c =
-    by_admission _ _ (c.before.party-refusal.ensures ∙ admission_parts _ _ _ _ refl (or-false _) refl)
-    c.if1.true
+    by_admission _ _ (c.party_refusal-n.ensures ∙ admission_parts _ _ _ _ refl (or-false _) refl)
+    c.if-n-ne0.true
 
-returns-2 : tie.Need-returns-2
+returns-2 : tie.Need-returns
 unfolding layout_of
 returns-2 c =
-    by_room _ _ (c.before.before.party-refusal.ensures ∙ admission_parts _ _ _ _ refl (or-false _) refl)
-    c.before.if1.false c.write-room.ensures
+    by_room _ _ (c.party_refusal-n.ensures ∙ admission_parts _ _ _ _ refl (or-false _) refl)
+    c.if-n-ne0.false c.write_room.ensures
 
-pub write-refusal-spec : {M : Type 1} → statement M
-write-refusal-spec = tie.close (tie.spec (λ c κs. search rules) returns (λ c κs. search rules) returns-2)
+pub write_refusal_spec : {M : Type 1} → statement M
+write_refusal_spec = tie.close (tie.spec (λ c κs. search rules) returns (λ c κs. search rules) returns-2)

@@ -14,36 +14,36 @@ use Rattle.rules.specs.Words.{view}
 use Rattle.judge.specs.Judge.{room_refusal}
 use Rattle.judge.proofs.write_room.Statement.{statement}
 
-returns : tie.Need-returns
+returns : tie.Need-returns-then-too_late
 unfolding no_lease too_late layout_of
-returns c = rw (sym c.before.too-late.ensures ∙ c.if1.true)
+returns c = rw (sym c.too_late.ensures ∙ c.if-too_late.true)
 
-returns-2 : tie.Need-returns-2
+returns-2 : tie.Need-returns-then-lacks_room
 unfolding no_lease too_late entries_full layout_of
 returns-2 c =
-    let late = c.before.before in
-    rw (sym late.before.too-late.ensures ∙ late.if1.false, sym c.before.lacks-room.ensures ∙ c.if2.true)
+    let late = c in
+    rw (sym late.too_late.ensures ∙ late.if-too_late.false, sym c.lacks_room.ensures ∙ c.if-lacks_room.true)
 
 -- 13 is left
-last : (c : tie.After-next-entry)
-    → let a = c.before.before.before.before.before.args in
-    cond (leb forever c.next-entry.result) number_refused 0
+last : (c : tie.After-next_entry)
+    → let a = c.args in
+    cond (leb forever c.next_entry.result) number_refused 0
     ≡ room_refusal (view a.space.now) (frame_of (Write a.w))
 unfolding no_lease too_late entries_full txns_full registrations_full no_number layout_of
 last c =
-    let room = c.before.before in
-    let late = room.before in
-    rw (sym late.before.too-late.ensures ∙ late.if1.false, sym room.lacks-room.ensures ∙ c.before.if2.false)
-    (rw (or-false, or-false, c.next-entry.ensures))
+    let room = c in
+    let late = room in
+    rw (sym late.too_late.ensures ∙ late.if-too_late.false, sym room.lacks_room.ensures ∙ c.if-lacks_room.false)
+    (rw (or-false, or-false, c.next_entry.ensures))
 
-returns-3 : tie.Need-returns-3
-returns-3 c = rw (le-leb _ _ c.if3.true) at (last c.before)
+returns-3 : tie.Need-returns-then-next_entry-ge-FOREVER
+returns-3 c = rw (le-leb _ _ c.if-next_entry-ge-FOREVER.true) at (last c.before)
 
-returns-4 : tie.Need-returns-4
-returns-4 c = rw (lt-leb _ _ c.if3.false) at (last c.before)
+returns-4 : tie.Need-returns-else-next_entry-ge-FOREVER
+returns-4 c = rw (lt-leb _ _ c.if-next_entry-ge-FOREVER.false) at (last c.before)
 
-pub write-room-spec : {M : Type 1} → statement M
-write-room-spec =
+pub write_room_spec : {M : Type 1} → statement M
+write_room_spec =
     tie.close
     (tie.spec
     (λ c κs. search rules) returns (λ c κs. search rules) returns-2 (λ c κs. search rules) returns-3 returns-4)

@@ -3,11 +3,11 @@ use borrow.Author.Tests.{lt-ltb, le-ltb}
 use Rattle.printer.proofs.after.Statement.{statement}
 use Rattle.printer.proofs.after.Tie as tie
 
-returns : tie.Need-returns
-returns c = rw (lt-ltb _ _ c.if1.true)
+returns : tie.Need-returns-then-i-count
+returns c = rw (lt-ltb _ _ c.if-i-count.true)
 
-returns-2 : tie.Need-returns-2
-returns-2 c = rw (le-ltb _ _ c.if1.false)
+returns-2 : tie.Need-returns-else-i-count
+returns-2 c = rw (le-ltb _ _ c.if-i-count.false)
 
-pub after-spec : {M : Type 1} → statement M
-after-spec = tie.close (tie.spec returns returns-2)
+pub after_spec : {M : Type 1} → statement M
+after_spec = tie.close (tie.spec returns returns-2)

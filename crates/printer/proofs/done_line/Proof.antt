@@ -11,20 +11,20 @@ use Rattle.printer.proofs.TextLaws.{prints-all, puts_then}
 use Rattle.printer.proofs.done_line.Statement.{statement}
 use Rattle.printer.proofs.done_line.Tie as tie
 
-returns : tie.Need-returns
-returns c = front-none _ _ _ (lt-leb _ _ c.if1.true)
+returns : tie.Need-returns-then-out-lt-LINE_SIZE
+returns c = front-none _ _ _ (lt-leb _ _ c.if-out-lt-LINE_SIZE.true)
 
-returns-2 : tie.Need-returns-2
+returns-2 : tie.Need-returns
 unfolding done_line
 returns-2 c =
-    let d = c.before.before.before.before.before.before.before in
-    let room = d.before.before.if1.false in
-    let done : Puts (100 ∷ 111 ∷ 110 ∷ 101 ∷ 32 ∷ []) _ d.put-done.new.0 0 5 =
-    record { bytes = d.put-done.ensures; end = refl; room = omega (arith, room) } in
-    prints-all _ _ _ _ _ (le-leb _ _ room) (puts_then _ _ _ _ _ 0 5 _ done c.before.before.put-line.ensures)
+    let d = c in
+    let room = d.if-out-lt-LINE_SIZE.false in
+    let done : Puts (100 ∷ 111 ∷ 110 ∷ 101 ∷ 32 ∷ []) _ d.put_done.new.out 0 5 =
+    record { bytes = d.put_done.ensures; end = refl; room = omega (arith, room) } in
+    prints-all _ _ _ _ _ (le-leb _ _ room) (puts_then _ _ _ _ _ 0 5 _ done c.put_line.ensures)
 
-pub done-line-spec : {M : Type 1} → statement M
-done-line-spec =
+pub done_line_spec : {M : Type 1} → statement M
+done_line_spec =
     tie.close
     (tie.spec returns (λ c κs. search rules) (λ c. search rules) (λ c κs. search rules) (λ c. search rules)
     returns-2)

@@ -11,8 +11,8 @@ returns : tie.Need-returns
 unfolding over
 returns c = refl
 
-pub put-done-spec : {M : Type 1} → statement M
-put-done-spec =
+pub put_done_spec : {M : Type 1} → statement M
+put_done_spec =
     tie.close
     (tie.spec (λ c. search rules) (λ c. simp length-set (omega arith)) (λ c. simp length-set (omega arith))
     (λ c. simp length-set (omega arith)) (λ c. search rules) (λ c. search rules) returns)

@@ -10,22 +10,22 @@ use Rattle.printer.proofs.TextLaws.{prints-all}
 use Rattle.printer.proofs.record_line.Statement.{statement}
 use Rattle.printer.proofs.record_line.Tie as tie
 
-returns : tie.Need-returns
-returns c = front-none _ _ _ (rw (lt-leb _ _ c.if1.true))
+returns : tie.Need-returns-then-bytes-lt-RECORD_SIZE
+returns c = front-none _ _ _ (rw (lt-leb _ _ c.if-bytes-lt-RECORD_SIZE.true))
 
-returns-2 : tie.Need-returns-2
-returns-2 c = front-none _ _ _ (rw (lt-leb _ _ c.if2.true, and-false))
+returns-2 : tie.Need-returns-then-out-lt-LINE_SIZE
+returns-2 c = front-none _ _ _ (rw (lt-leb _ _ c.if-out-lt-LINE_SIZE.true, and-false))
 
-returns-3 : tie.Need-returns-3
+returns-3 : tie.Need-returns
 unfolding record_text record_line
 returns-3 c =
-    let r = c.before.before.before.before.before.before.before.before in
-    let room = r.before in
-    rw (sym r.record-at.ensures, le-leb _ _ room.before.if1.false, le-leb _ _ room.if2.false)
-    (prints-all _ _ _ _ _ refl c.before.before.put-line.ensures)
+    let r = c in
+    let room = r in
+    rw (sym r.record_at-r.ensures, le-leb _ _ room.if-bytes-lt-RECORD_SIZE.false, le-leb _ _ room.if-out-lt-LINE_SIZE.false)
+    (prints-all _ _ _ _ _ refl c.put_line.ensures)
 
-pub record-line-spec : {M : Type 1} → statement M
-record-line-spec =
+pub record_line_spec : {M : Type 1} → statement M
+record_line_spec =
     tie.close
     (tie.spec returns returns-2 (λ c κs. search rules) (λ c. search rules) (λ c. search rules)
     (λ c. search rules) (λ c. search rules) (λ c κs. search rules) (λ c. search rules) returns-3)

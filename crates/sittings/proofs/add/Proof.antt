@@ -4,30 +4,30 @@ use Rattle.sittings.proofs.ReportLaws.{added_full, added-refused, added-sitting}
 use Rattle.sittings.proofs.add.Statement.{statement}
 use Rattle.sittings.proofs.add.Tie as tie
 
-returns : tie.Need-returns
+returns : tie.Need-returns-then-report-ge-MAX_SITTINGS
 returns c =
-    let a = c.before.before.before.before.before.args in
-    added_full a.report.now a.tray.now c.if1.true
+    let a = c.args in
+    added_full a.report.now a.tray.now c.if-report-ge-MAX_SITTINGS.true
 
-returns-2 : tie.Need-returns-2
+returns-2 : tie.Need-returns-then-number-ne0
 returns-2 c =
-    let judged = c.before.before.before in
-    let test = judged.before.before in
-    let a = test.before.before.before.before.before.args in
+    let judged = c in
+    let test = judged in
+    let a = test.args in
     let ws = a.report.now in
-    added-refused ws a.tray.now judged.refusal.result (get_or ws 0 0 + 1) test.before.before.whole.ensures
-    (omega (arith, test.if1.false)) refl judged.refusal.ensures c.before.before.if2.true
-    c.wrapping-add-u32.ensures
+    added-refused ws a.tray.now judged.refusal-number.result (get_or ws 0 0 + 1) test.whole.ensures
+    (omega (arith, test.if-report-ge-MAX_SITTINGS.false)) refl judged.refusal-number.ensures c.if-number-ne0.true
+    c.wrapping_add_u32.ensures
 
-returns-3 : tie.Need-returns-3
+returns-3 : tie.Need-returns
 returns-3 c =
-    let judged = c.before.before.before.before.before in
-    let test = judged.before.before in
-    let a = test.before.before.before.before.before.args in
+    let judged = c in
+    let test = judged in
+    let a = test.args in
     let ws = a.report.now in
-    added-sitting ws a.tray.now judged.refusal.result (get_or ws 0 0 + 1) test.before.before.whole.ensures
-    (omega (arith, test.if1.false)) refl judged.refusal.ensures c.before.before.before.before.if2.false
-    c.whole2.ensures c.before.before.add-sitting.ensures
+    added-sitting ws a.tray.now judged.refusal-number.result (get_or ws 0 0 + 1) test.whole.ensures
+    (omega (arith, test.if-report-ge-MAX_SITTINGS.false)) refl judged.refusal-number.ensures c.if-number-ne0.false
+    c.whole-2.ensures c.add_sitting.ensures
 
 pub add_spec : {M : Type 1} → statement M
 add_spec =

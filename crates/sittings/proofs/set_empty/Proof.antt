@@ -8,5 +8,5 @@ returns : tie.Need-returns
 unfolding sum greatest sittings figures report_of
 returns c = refl
 
-pub set-empty-spec : {M : Type 1} → statement M
-set-empty-spec = tie.close (tie.spec returns)
+pub set_empty_spec : {M : Type 1} → statement M
+set_empty_spec = tie.close (tie.spec returns)

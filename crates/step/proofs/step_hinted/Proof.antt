@@ -5,27 +5,27 @@ use Rattle.step.proofs.SteppedLaws.{form_refused, stepped_short, stepped-refused
 use Rattle.step.proofs.step_hinted.Statement.{statement}
 use Rattle.step.proofs.step_hinted.Tie as tie
 
-returns : tie.Need-returns
-returns c = (stepped_short c.if1.true refl refl refl, λ _. c.before.before.before.requires)
+returns : tie.Need-returns-then-answers-lt-STEP_AREA
+returns c = (stepped_short c.if-answers-lt-STEP_AREA.true refl refl refl, λ _. c.requires)
 
-take-up-requires : tie.Need-take-up-requires
+take-up-requires : tie.Need-take_up-requires
 take-up-requires c κs =
-    let asked = c.before.before.before.before in
-    let decoded = asked.before.before in
-    let start = decoded.before.before.before.before in
-    (rw asked.asked.given.1 at decoded.decode.ensures, decoded.before.if1.false, start.requires)
+    let asked = c in
+    let decoded = asked in
+    let start = decoded in
+    (rw asked.asked-1.given.1 at decoded.decode-asked.ensures, decoded.if-answers-lt-STEP_AREA.false, start.requires)
 
-returns-3 : tie.Need-returns-3
+returns-3 : tie.Need-returns-in-Refused
 returns-3 c =
-    let asked = c.before.before.before.before.before in
-    let decoded = asked.before.before in
-    let start = decoded.before.before.before.before in
-    let long = decoded.before.if1.false in
-    let d = form_refused _ _ _ long (rw asked.asked2.given.1 at decoded.decode.ensures) in
-    (stepped-refused long d.0 d.1 refl c.before.before.refuse.ensures, λ _. start.requires)
+    let asked = c in
+    let decoded = asked in
+    let start = decoded in
+    let long = decoded.if-answers-lt-STEP_AREA.false in
+    let d = form_refused _ _ _ long (rw asked.asked-in-Refused-1.given.1 at decoded.decode-asked.ensures) in
+    (stepped-refused long d.0 d.1 refl c.refuse.ensures, λ _. start.requires)
 
-pub step-hinted-spec : {M : Type 1} → statement M
-step-hinted-spec =
+pub step_hinted_spec : {M : Type 1} → statement M
+step_hinted_spec =
     tie.close
     (tie.spec
     (λ c. search rules) (λ c. search rules) returns (λ c κs. search rules) (λ c. search rules) take-up-requires

@@ -6,23 +6,23 @@ use borrow.Author.Rules.{rules}
 use Rattle.trial.proofs.run.Statement.{statement}
 use Rattle.trial.proofs.run.Tie as tie
 
-returns : tie.Need-returns
+returns : tie.Need-returns-then-number-ne0
 returns c =
-    let e = c.before.refusal.ensures in
+    let e = c.refusal-number.ensures in
     record {
       number = ap (λ n. 65536 * n) e;
       refused = λ _. refl;
-      counted = λ none. absurd (c.if1.true (e ∙ none));
+      counted = λ none. absurd (c.if-number-ne0.true (e ∙ none));
     }
 
-returns-2 : tie.Need-returns-2
+returns-2 : tie.Need-returns
 returns-2 c =
-    let test = c.before.before.before.before in
-    let none = sym test.before.refusal.ensures ∙ test.if1.false in
+    let test = c in
+    let none = sym test.refusal-number.ensures ∙ test.if-number-ne0.false in
     record {
       number = omega (arith, none);
       refused = λ some. absurd (some none);
-      counted = λ _. c.before.before.count-trial.ensures;
+      counted = λ _. c.count_trial.ensures;
     }
 
 pub run_spec : {M : Type 1} → statement M

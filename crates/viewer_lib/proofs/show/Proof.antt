@@ -8,15 +8,15 @@ use Rattle.viewer_lib.proofs.PrintedLaws.{prints-within}
 use Rattle.viewer_lib.proofs.show.Statement.{statement}
 use Rattle.viewer_lib.proofs.show.Tie as tie
 
-within : (c : tie.After-show-tray) → c.show-tray.result ≤ length c.show-tray.new.1.1.0
-within c = prints-within _ _ _ _ c.show-tray.ensures c.show-tray.auto.1.1.0
+within : (c : tie.After-show_tray-end) → c.show_tray-end.result ≤ length c.show_tray-end.new.out
+within c = prints-within _ _ _ _ c.show_tray-end.ensures c.show_tray-end.auto.1.1.0
 
-pub show-spec : {M : Type 1} → statement M
-show-spec =
+pub show_spec : {M : Type 1} → statement M
+show_spec =
     tie.close
     (tie.spec
     (λ c. search rules) (λ c κs. search rules) (λ c. search rules) (λ c κs. search rules) (λ c. search rules)
     (λ c. search rules) (λ c. search rules) (λ c. search rules) (λ c. search rules) (λ c κs. search rules)
-    (λ c. within c.before.before)
+    (λ c. within c.before.before.before)
     (λ c. sym (length-take-le _ _ (within c.before.before.before)))
     (λ c κs. search rules) (λ c. search rules) (λ c κs. search rules) (λ c. search rules) (λ c. search rules))

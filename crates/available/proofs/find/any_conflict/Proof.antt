@@ -13,48 +13,48 @@ use Rattle.words.proofs.Tables.{entries-read}
 use Rattle.available.proofs.FindLaws.{search_on, search_past, only_conflicting}
 use Rattle.available.proofs.find.any_conflict.Statement.{statement}
 
-abbrev invariant-loop : tie.invariant-loop
+abbrev invariant-loop : tie.invariant-loop-i
 invariant-loop space w n asked i₀ i = Searching (conflicts (view space).txns w) (entry_row space) i
 
-abbrev decreases-loop : tie.decreases-loop
+abbrev decreases-loop : tie.decreases-loop-i
 decreases-loop space w n asked i₀ i = n - i
 
-loop-holds : tie.Need-loop-init invariant-loop decreases-loop
+loop-holds : tie.Need-loop-i-init invariant-loop decreases-loop
 loop-holds c =
-    let a = c.before.before.before.args in
-    search_on _ a.w.mask a.w.fields c.before.asked_of.ensures
+    let a = c.args in
+    search_on _ a.w.mask a.w.fields c.asked_of-asked.ensures
     (conflicts (view a.space.now).txns a.w)
-    (only_conflicting (view a.space.now).txns a.w) search_start c.next_row.ensures.1
+    (only_conflicting (view a.space.now).txns a.w) search_start c.next_row-i.ensures.1
 
-returns : tie.Need-returns invariant-loop decreases-loop
+returns : tie.Need-returns-then-is_conflicting invariant-loop decreases-loop
 returns c =
-    let l = c.before.before.before.before in
-    let test = sym c.before.is-conflicting.ensures ∙ c.if1.true in
-    sym (search_any (entries-read l.before.before.before.before.args.space.now) l.loop.invariant (omega arith)
-    c.before.before.entry_at.ensures test)
+    let l = c in
+    let test = sym c.is_conflicting.ensures ∙ c.if-is_conflicting.true in
+    sym (search_any (entries-read l.args.space.now) l.loop-i.invariant (omega arith)
+    c.entry_at-e.ensures test)
 
-loop-again : tie.Need-loop-preserved invariant-loop decreases-loop
+loop-again : tie.Need-loop-i-preserved invariant-loop decreases-loop
 loop-again c =
-    let seen = c.before.before in
-    let l = seen.before.before.before in
-    let a = l.before.before.before.before.args in
-    let test = sym seen.is-conflicting.ensures ∙ c.before.if1.false in
-    search_past _ a.w.mask a.w.fields l.before.before.asked_of.ensures
+    let seen = c in
+    let l = seen in
+    let a = l.args in
+    let test = sym seen.is_conflicting.ensures ∙ c.if-is_conflicting.false in
+    search_past _ a.w.mask a.w.fields l.asked_of-asked.ensures
     (conflicts (view a.space.now).txns a.w) (only_conflicting (view a.space.now).txns a.w)
-    l.loop.invariant
-    (ap (conflicts (view a.space.now).txns a.w) (sym seen.before.entry_at.ensures) ∙ test)
-    c.next-row2.ensures.1
+    l.loop-i.invariant
+    (ap (conflicts (view a.space.now).txns a.w) (sym seen.entry_at-e.ensures) ∙ test)
+    c.next_row-i-in-loop-i.ensures.1
 
-loop-less : tie.Need-loop-smaller invariant-loop decreases-loop
-loop-less c = omega (arith, c.next-row2.ensures.0)
+loop-less : tie.Need-loop-i-smaller invariant-loop decreases-loop
+loop-less c = omega (arith, c.next_row-i-in-loop-i.ensures.0)
 
-returns-2 : tie.Need-returns-2 invariant-loop decreases-loop
+returns-2 : tie.Need-returns invariant-loop decreases-loop
 returns-2 c =
-    let l = c.before in
-    sym (search_no (entries-read l.before.before.before.before.args.space.now) l.loop.invariant (omega arith))
+    let l = c in
+    sym (search_no (entries-read l.args.space.now) l.loop-i.invariant (omega arith))
 
-pub any-conflict-spec : {M : Type 1} → statement M
-any-conflict-spec =
+pub any_conflict_spec : {M : Type 1} → statement M
+any_conflict_spec =
     tie.close
     (tie.spec
     invariant-loop decreases-loop (λ c κs. search rules) (λ c κs. search rules) (λ c κs. omega arith) loop-holds

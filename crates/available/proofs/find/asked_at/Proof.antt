@@ -5,8 +5,8 @@ use Rattle.available.proofs.find.asked_at.Tie as tie
 
 returns : tie.Need-returns
 returns c h =
-    rw (c.before.before.wait-mask.ensures, c.before.wait-fields.ensures) at (c.asked_of.ensures h)
+    rw (c.wait_mask-mask.ensures, c.wait_fields-fields.ensures) at (c.asked_of.ensures h)
 
-pub asked-at-spec : {M : Type 1} → statement M
-asked-at-spec =
+pub asked_at_spec : {M : Type 1} → statement M
+asked_at_spec =
     tie.close (tie.spec (λ c κs. search rules) (λ c κs. search rules) (λ c κs. search rules) returns)

@@ -5,16 +5,16 @@ use native.Mathlib.Omega.{arith}
 use Rattle.available.proofs.find.asked_of.Statement.{statement}
 use Rattle.available.proofs.find.asked_of.Tie as tie
 
-pub asked-of-spec : {M : Type 1} → statement M
-asked-of-spec =
+pub asked_of_spec : {M : Type 1} → statement M
+asked_of_spec =
     tie.close
     (tie.spec
     (λ c κs. search rules)
-    (λ c h. (sym c.before.has-bit.ensures ∙ c.if1.true, refl))
+    (λ c h. (sym c.has_bit.ensures ∙ c.if-has_bit.true, refl))
     (λ c κs. search rules)
-    (λ c h. (sym c.before.has-bit2.ensures ∙ c.if2.true, refl))
+    (λ c h. (sym c.has_bit-2.ensures ∙ c.if-has_bit-2.true, refl))
     (λ c κs. search rules)
-    (λ c h. (sym c.before.has-bit3.ensures ∙ c.if3.true, refl))
+    (λ c h. (sym c.has_bit-3.ensures ∙ c.if-has_bit-3.true, refl))
     (λ c κs. search rules)
-    (λ c h. (sym c.before.has-bit4.ensures ∙ c.if4.true, refl))
+    (λ c h. (sym c.has_bit-4.ensures ∙ c.if-has_bit-4.true, refl))
     (λ c h. absurd (omega arith)))

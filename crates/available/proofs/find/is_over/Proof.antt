@@ -21,30 +21,30 @@ over_as m {row = row} e t r q k =
     (ap₂ (λ n (x : LookUp). reached n x.deadline) (sym t) (sym e) ∙ sym r ∙ q)
     (ap (λ (x : LookUp). x.if_exists) (sym e) ∙ k)
 
-returns : tie.Need-returns
+returns : tie.Need-returns-then-reached_at
 returns c =
-    let read = c.before.before.before in
-    sym (over_as (view read.before.args.space.now) read.wait-at.ensures c.before.before.clock.ensures
-    c.before.reached-at.ensures c.if1.true refl)
+    let read = c in
+    sym (over_as (view read.args.space.now) read.wait_at-w.ensures c.clock.ensures
+    c.reached_at.ensures c.if-reached_at.true refl)
 
-returns-2 : tie.Need-returns-2
+returns-2 : tie.Need-returns-then-w
 returns-2 c =
-    let test = c.before.before in
-    let read = test.before.before.before in
-    let m = view read.before.args.space.now in
-    c.lacks-conflict.ensures
-    ∙ sym (over_as m read.wait-at.ensures test.before.before.clock.ensures test.before.reached-at.ensures
-    test.if1.false c.before.if2.true)
+    let test = c in
+    let read = test in
+    let m = view read.args.space.now in
+    c.lacks_conflict.ensures
+    ∙ sym (over_as m read.wait_at-w.ensures test.clock.ensures test.reached_at.ensures
+    test.if-reached_at.false c.if-w.true)
 
-returns-3 : tie.Need-returns-3
+returns-3 : tie.Need-returns-else-w
 returns-3 c =
-    let test = c.before in
-    let read = test.before.before.before in
-    sym (over_as (view read.before.args.space.now) read.wait-at.ensures test.before.before.clock.ensures
-    test.before.reached-at.ensures test.if1.false c.if2.false)
+    let test = c in
+    let read = test in
+    sym (over_as (view read.args.space.now) read.wait_at-w.ensures test.clock.ensures
+    test.reached_at.ensures test.if-reached_at.false c.if-w.false)
 
-pub is-over-spec : {M : Type 1} → statement M
-is-over-spec =
+pub is_over_spec : {M : Type 1} → statement M
+is_over_spec =
     tie.close
     (tie.spec
     (λ c κs. search rules) (λ c κs. search rules) (λ c κs. search rules) returns (λ c κs. search rules) returns-2

@@ -9,10 +9,10 @@ use Rattle.available.proofs.find.lacks_conflict.Tie as tie
 
 returns : tie.Need-returns
 returns c =
-    let read = c.before in
-    let m = view read.before.args.space.now in
-    ap not (c.any-conflict.ensures ∙ ap (λ w. some_conflicts m.txns w m.entries) read.wait-at.ensures)
+    let read = c in
+    let m = view read.args.space.now in
+    ap not (c.any_conflict.ensures ∙ ap (λ w. some_conflicts m.txns w m.entries) read.wait_at-w.ensures)
 
-pub lacks-conflict-spec : {M : Type 1} → statement M
-lacks-conflict-spec =
+pub lacks_conflict_spec : {M : Type 1} → statement M
+lacks_conflict_spec =
     tie.close (tie.spec (λ c κs. search rules) (λ c κs. search rules) returns)

@@ -7,21 +7,21 @@ use Rattle.available.proofs.FindLaws.{passes_none, passes_on, passes_more}
 use Rattle.available.proofs.find.row_in_block.Statement.{statement}
 use Rattle.available.proofs.find.row_in_block.Tie as tie
 
-abbrev invariant-loop : tie.invariant-loop
+abbrev invariant-loop : tie.invariant-loop-k
 invariant-loop space column x from k₀ k = (k ≤ 8) × Passes (has_field column x) space from (from + k)
 
-abbrev decreases-loop : tie.decreases-loop
+abbrev decreases-loop : tie.decreases-loop-k
 decreases-loop space column x from k₀ k = 8 - k
 
-loop-again : tie.Need-loop-preserved invariant-loop decreases-loop
+loop-again : tie.Need-loop-k-preserved invariant-loop decreases-loop
 loop-again c =
-    let l = c.before.before.before.loop in (
+    let l = c.loop-k in (
       omega arith,
-      passes_more l.invariant.1 (rw (← c.before.field_at.ensures) (ne_eqb _ _ c.if1.false)) (omega arith),
+      passes_more l.invariant.1 (rw (← c.field_at.ensures) (ne_eqb _ _ c.if-field_at-x.false)) (omega arith),
     )
 
-pub row-in-block-spec : {M : Type 1} → statement M
-row-in-block-spec =
+pub row_in_block_spec : {M : Type 1} → statement M
+row_in_block_spec =
     tie.close
     (tie.spec
     invariant-loop
@@ -30,9 +30,9 @@ row-in-block-spec =
     (λ c. omega arith)
     (λ c κs. omega arith)
     (λ c. omega arith)
-    (λ c. (omega arith, c.before.before.before.loop.invariant.1))
+    (λ c. (omega arith, c.loop-k.invariant.1))
     (λ c. omega arith)
     (λ c. omega arith)
     loop-again
     (λ c. omega arith)
-    (λ c. (omega arith, passes_on c.before.loop.invariant.1 (passes_none (omega arith)))))
+    (λ c. (omega arith, passes_on c.loop-k.invariant.1 (passes_none (omega arith)))))

@@ -8,22 +8,22 @@ use Rattle.available.proofs.FindLaws.{passes_none, passes_on}
 use Rattle.available.proofs.find.skip_blocks.Statement.{statement}
 use Rattle.available.proofs.find.skip_blocks.Tie as tie
 
-abbrev invariant-loop : tie.invariant-loop
+abbrev invariant-loop : tie.invariant-loop-i
 invariant-loop space column x from n i₀ i = (i ≤ max_entries) × Passes (has_field column x) space from i
 
-abbrev decreases-loop : tie.decreases-loop
+abbrev decreases-loop : tie.decreases-loop-i
 decreases-loop space column x from n i₀ i = n - i
 
-loop-again : tie.Need-loop-preserved invariant-loop decreases-loop
+loop-again : tie.Need-loop-i-preserved invariant-loop decreases-loop
 loop-again c =
-    let r = c.before.row-in-block.ensures in (
+    let r = c.row_in_block-r.ensures in (
       omega arith,
-      passes_on (passes_on c.before.before.before.loop.invariant.1 r.1)
+      passes_on (passes_on c.loop-i.invariant.1 r.1)
           (passes_none (omega (arith, r.0))),
     )
 
-pub skip-blocks-spec : {M : Type 1} → statement M
-skip-blocks-spec =
+pub skip_blocks_spec : {M : Type 1} → statement M
+skip_blocks_spec =
     tie.close
     (tie.spec
     invariant-loop
@@ -32,8 +32,8 @@ skip-blocks-spec =
     (λ c. omega arith)
     (λ c κs. omega arith)
     (λ c. omega arith)
-    (λ c. passes_on c.before.before.before.loop.invariant.1 c.before.row-in-block.ensures.1)
+    (λ c. passes_on c.loop-i.invariant.1 c.row_in_block-r.ensures.1)
     (λ c. omega arith)
     (λ c. omega arith)
     loop-again
-    (λ c. c.before.loop.invariant.1))
+    (λ c. c.loop-i.invariant.1))

@@ -4,7 +4,7 @@ use Rattle.available.proofs.holds.asks_arc.Statement.{statement}
 use Rattle.available.proofs.holds.asks_arc.Tie as tie
 
 returns : tie.Need-returns
-returns c = rw (c.before.has-bit.ensures, c.has-bit2.ensures)
+returns c = rw (c.has_bit.ensures, c.has_bit-2.ensures)
 
-pub asks-arc-spec : {M : Type 1} → statement M
-asks-arc-spec = tie.close (tie.spec (λ c κs. search rules) (λ c κs. search rules) returns)
+pub asks_arc_spec : {M : Type 1} → statement M
+asks_arc_spec = tie.close (tie.spec (λ c κs. search rules) (λ c κs. search rules) returns)

@@ -4,7 +4,7 @@ use Rattle.available.proofs.holds.field_agrees.Statement.{statement}
 use Rattle.available.proofs.holds.field_agrees.Tie as tie
 
 returns : tie.Need-returns
-returns c = rw c.has-bit.ensures
+returns c = rw c.has_bit.ensures
 
-pub field-agrees-spec : {M : Type 1} → statement M
-field-agrees-spec = tie.close (tie.spec (λ c κs. search rules) returns)
+pub field_agrees_spec : {M : Type 1} → statement M
+field_agrees_spec = tie.close (tie.spec (λ c κs. search rules) returns)

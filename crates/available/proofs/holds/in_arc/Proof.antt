@@ -6,13 +6,13 @@ use Rattle.rules.specs.Places.{in_arc}
 use Rattle.available.proofs.holds.in_arc.Statement.{statement}
 use Rattle.available.proofs.holds.in_arc.Tie as tie
 
-returns : tie.Need-returns
+returns : tie.Need-returns-then-place-ge-PLACES
 unfolding in_arc
-returns c = rw (le-ltb c.before.args.place places c.if1.true)
+returns c = rw (le-ltb c.args.place places c.if-place-ge-PLACES.true)
 
-returns-2 : tie.Need-returns-2
+returns-2 : tie.Need-returns
 unfolding in_arc
-returns-2 c = rw (lt-ltb c.before.before.args.place places c.before.if1.false, c.distance.ensures)
+returns-2 c = rw (lt-ltb c.args.place places c.if-place-ge-PLACES.false, c.distance.ensures)
 
-pub in-arc-spec : {M : Type 1} → statement M
-in-arc-spec = tie.close (tie.spec returns (λ c κs. search rules) returns-2)
+pub in_arc_spec : {M : Type 1} → statement M
+in_arc_spec = tie.close (tie.spec returns (λ c κs. search rules) returns-2)

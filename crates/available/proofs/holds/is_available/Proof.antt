@@ -5,24 +5,24 @@ use Rattle.rules.specs.Holds.{read_by_other, visible, available}
 use Rattle.available.proofs.holds.is_available.Statement.{statement}
 use Rattle.available.proofs.holds.is_available.Tie as tie
 
-returns : tie.Need-returns
+returns : tie.Need-returns-then-is_visible
 unfolding available visible read_by_other
 returns c =
-    let b = c.before.before.before.before.before.before in
-    let fits = sym b.before.fields-match.ensures ∙ b.if1.true in
-    rw (fits, sym c.before.before.is-visible.ensures ∙ c.before.if2.true, c.is-barred.ensures)
+    let b = c in
+    let fits = sym b.fields_match.ensures ∙ b.if-fields_match.true in
+    rw (fits, sym c.is_visible.ensures ∙ c.if-is_visible.true, c.is_barred.ensures)
 
-returns-2 : tie.Need-returns-2
+returns-2 : tie.Need-returns-else-is_visible
 unfolding available visible
 returns-2 c =
-    let b = c.before.before.before.before.before in
-    rw (sym b.before.fields-match.ensures ∙ b.if1.true, sym c.before.is-visible.ensures ∙ c.if2.false)
+    let b = c in
+    rw (sym b.fields_match.ensures ∙ b.if-fields_match.true, sym c.is_visible.ensures ∙ c.if-is_visible.false)
 
-returns-3 : tie.Need-returns-3
+returns-3 : tie.Need-returns-else-fields_match
 unfolding available
-returns-3 c = rw (sym c.before.fields-match.ensures ∙ c.if1.false)
+returns-3 c = rw (sym c.fields_match.ensures ∙ c.if-fields_match.false)
 
-pub is-available-spec : {M : Type 1} → statement M
-is-available-spec =
+pub is_available_spec : {M : Type 1} → statement M
+is_available_spec =
     tie.close
     (tie.spec (λ c κs. search rules) (λ c κs. search rules) (λ c κs. search rules) returns returns-2 returns-3)

@@ -5,22 +5,22 @@ use Rattle.available.proofs.holds.is_blank_asked.Tie as tie
 
 returns : tie.Need-returns
 returns c =
-    let place = c.before in
-    let image = place.before.before in
-    let side = image.before.before in
+    let place = c in
+    let image = place in
+    let side = image in
     rw (
-      c.has-bit8.ensures,
-      place.has-bit7.ensures,
-      place.before.has-bit6.ensures,
-      image.has-bit5.ensures,
-      image.before.has-bit4.ensures,
-      side.has-bit3.ensures,
-      side.before.has-bit2.ensures,
-      side.before.before.has-bit.ensures,
+      c.has_bit-8.ensures,
+      place.has_bit-7.ensures,
+      place.has_bit-6.ensures,
+      image.has_bit-5.ensures,
+      image.has_bit-4.ensures,
+      side.has_bit-3.ensures,
+      side.has_bit-2.ensures,
+      side.has_bit.ensures,
     )
 
-pub is-blank-asked-spec : {M : Type 1} → statement M
-is-blank-asked-spec =
+pub is_blank_asked_spec : {M : Type 1} → statement M
+is_blank_asked_spec =
     tie.close
     (tie.spec (λ c κs. search rules) (λ c κs. search rules) (λ c κs. search rules) (λ c κs. search rules)
     (λ c κs. search rules) (λ c κs. search rules) (λ c κs. search rules) (λ c κs. search rules) returns)

@@ -6,8 +6,8 @@ use Rattle.available.proofs.holds.is_others.Tie as tie
 
 returns : tie.Need-returns
 unfolding read_by_other
-returns c = rw (c.before.before.is-other.ensures, c.before.is-other2.ensures, c.is-barred.ensures)
+returns c = rw (c.is_other.ensures, c.is_other-2.ensures, c.is_barred.ensures)
 
-pub is-others-spec : {M : Type 1} → statement M
-is-others-spec =
+pub is_others_spec : {M : Type 1} → statement M
+is_others_spec =
     tie.close (tie.spec (λ c κs. search rules) (λ c κs. search rules) (λ c κs. search rules) returns)

@@ -5,27 +5,27 @@ use mathlib.Core.Path.{sym, ◌∙◌}
 use Rattle.available.proofs.holds.is_placed.Statement.{statement}
 use Rattle.available.proofs.holds.is_placed.Tie as tie
 
-returns : tie.Need-returns
-returns c = rw (sym c.before.asks-arc.ensures ∙ not-true _ c.if1.true)
+returns : tie.Need-returns-then-not-asks_arc
+returns c = rw (sym c.asks_arc.ensures ∙ not-true _ c.if-not-asks_arc.true)
 
-returns-2 : tie.Need-returns-2
+returns-2 : tie.Need-returns-then-has_bit
 returns-2 c =
-    let asked = c.before.before in
+    let asked = c in
     rw (
-      sym asked.before.asks-arc.ensures ∙ not-false _ asked.if1.false,
-      sym c.before.has-bit.ensures ∙ c.if2.true,
+      sym asked.asks_arc.ensures ∙ not-false _ asked.if-not-asks_arc.false,
+      sym c.has_bit.ensures ∙ c.if-has_bit.true,
     )
 
-returns-3 : tie.Need-returns-3
+returns-3 : tie.Need-returns
 returns-3 c =
-    let asked = c.before.before.before in
+    let asked = c in
     rw (
-      sym asked.before.asks-arc.ensures ∙ not-false _ asked.if1.false,
-      sym c.before.before.has-bit.ensures ∙ c.before.if2.false,
-      c.in-arc.ensures,
+      sym asked.asks_arc.ensures ∙ not-false _ asked.if-not-asks_arc.false,
+      sym c.has_bit.ensures ∙ c.if-has_bit.false,
+      c.in_arc.ensures,
     )
 
-pub is-placed-spec : {M : Type 1} → statement M
-is-placed-spec =
+pub is_placed_spec : {M : Type 1} → statement M
+is_placed_spec =
     tie.close
     (tie.spec (λ c κs. search rules) returns (λ c κs. search rules) returns-2 (λ c κs. search rules) returns-3)

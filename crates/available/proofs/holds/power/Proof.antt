@@ -12,5 +12,5 @@ returns c =
     let low : 2 ^ c.args.p < 2 ^ 32 = pow-lt {j = 32} (omega arith) in
     rw one-mul (mod-eq_of_lt low)
 
-pub power-spec : {M : Type 1} → statement M
-power-spec = tie.close (tie.spec (λ c. search rules) returns)
+pub power_spec : {M : Type 1} → statement M
+power_spec = tie.close (tie.spec (λ c. search rules) returns)

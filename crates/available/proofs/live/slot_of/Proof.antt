@@ -7,18 +7,18 @@ use Rattle.available.specs.Live.{no_slot, slot_of, live_of}
 use Rattle.available.proofs.live.slot_of.Statement.{statement}
 use Rattle.available.proofs.live.slot_of.Tie as tie
 
-returns : tie.Need-returns
+returns : tie.Need-returns-in-At
 returns c =
-    let f = c.before.before.before.find-txn.ensures in
-    let e = c.before.live.given.1 in
-    (ap slot_of (ap live_of (sym e) ∙ f.live), subst (λ r. slot_of (live_of r) ≤ no_slot) e f.low)
+    let f = c.find_txn-live.ensures in
+    let e = c.live-1.given.1 in
+    (ap slot_of (ap live_of (sym e) ∙ f.live-1), subst (λ r. slot_of (live_of r) ≤ no_slot) e f.low)
 
-returns-2 : tie.Need-returns-2
+returns-2 : tie.Need-returns-in-None
 returns-2 c =
-    let f = c.before.before.find-txn.ensures in
-    let e = c.enum_told.given.1 in
-    (ap slot_of (ap live_of (sym e) ∙ f.live), lit< tt)
+    let f = c.find_txn-live.ensures in
+    let e = c.enum_told-1.given.1 in
+    (ap slot_of (ap live_of (sym e) ∙ f.live-1), lit< tt)
 
-pub slot-of-spec : {M : Type 1} → statement M
-slot-of-spec =
+pub slot_of_spec : {M : Type 1} → statement M
+slot_of_spec =
     tie.close (tie.spec (λ c κs. search rules) (λ c. search rules) (λ c. search rules) returns returns-2)

@@ -5,13 +5,13 @@ use Rattle.codec.proofs.bytes.fields_at.Tie as tie
 
 returns : tie.Need-returns
 returns c =
-    let image = c.before in
-    let side = image.before in
-    let kind = side.before in
-    rw (kind.number_at.ensures, side.number-at2.ensures, image.number-at3.ensures, c.number-at4.ensures)
+    let image = c in
+    let side = image in
+    let kind = side in
+    rw (kind.number_at.ensures, side.number_at-2.ensures, image.number_at-3.ensures, c.number_at-4.ensures)
 
-pub fields-at-spec : {M : Type 1} → statement M
-fields-at-spec =
+pub fields_at_spec : {M : Type 1} → statement M
+fields_at_spec =
     tie.close
     (tie.spec (λ c κs. search rules) (λ c. search rules) (λ c κs. search rules) (λ c. search rules)
     (λ c κs. search rules) (λ c. search rules) (λ c κs. search rules) returns)

@@ -11,8 +11,8 @@ returns : tie.Need-returns
 unfolding over
 returns c = simp towards_suc
 
-pub put-four-spec : {M : Type 1} → statement M
-put-four-spec =
+pub put_four_spec : {M : Type 1} → statement M
+put_four_spec =
     tie.close
     (tie.spec (λ c. search rules) (λ c. search rules) (λ c. simp length-set (omega arith)) (λ c. search rules)
     (λ c. simp length-set (omega arith)) (λ c. search rules) (λ c. simp length-set (omega arith))

@@ -9,8 +9,8 @@ returns : tie.Need-returns
 unfolding number_at
 returns c = omega arith
 
-pub whole-number-spec : {M : Type 1} → statement M
-whole-number-spec =
+pub whole_number_spec : {M : Type 1} → statement M
+whole_number_spec =
     tie.close
     (tie.spec
     (λ c. search rules) (λ c κs. search rules) (λ c. search rules) (λ c. search rules) (λ c κs. search rules)

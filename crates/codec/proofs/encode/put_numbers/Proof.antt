@@ -13,15 +13,15 @@ use Rattle.codec.proofs.EncodeLaws.{Ends, ends, all_bytes, frame-none, frame-all
 use Rattle.codec.proofs.encode.put_numbers.Statement.{statement}
 use Rattle.codec.proofs.encode.put_numbers.Tie as tie
 
-returns : tie.Need-returns
+returns : tie.Need-returns-then-out-n
 returns c =
-    let p = c.before.before.before.requires in
-    frame-none _ _ _ c.before.length-of.ensures p c.if1.true
+    let p = c.requires in
+    frame-none _ _ _ c.length_of-n.ensures p c.if-out-n.true
 
-end : (c : tie.After-length-of) → Ends c.length-of.result
-end c = let p = c.before.before.requires in ends _ _ c.length-of.ensures p
+end : (c : tie.After-length_of-n) → Ends c.length_of-n.result
+end c = let p = c.requires in ends _ _ c.length_of-n.ensures p
 
-put-four-requires : tie.Need-put-four-requires
+put-four-requires : tie.Need-put_four-requires
 put-four-requires c κs = omega (arith, (end c.before.before).least)
 
 -- the frame, and that its first k bytes stand in front
@@ -32,53 +32,53 @@ abbrev Front : tie.Start → ℕ → List ℕ → Type 0
 Front s k new = new ≡ over s.args.out.now 0 (take k (all_bytes (asked s)))
 
 -- where they are all of it
-all : (c : tie.Else1) (k : ℕ) (new : List ℕ) → c.before.length-of.result ≡ k
+all : (c : tie.Else-out-n) (k : ℕ) (new : List ℕ) → c.length_of-n.result ≡ k
     → Front c.before.before.before k new
-    → FramePut (asked c.before.before.before) c.before.before.before.args.out.now new
-    c.before.length-of.result
+    → FramePut (asked c.before.before.before) c.args.out.now new
+    c.length_of-n.result
 all c k new q e =
-    let p = c.before.before.before.requires in
-    frame-all _ _ _ c.before.length-of.ensures p k new q c.if1.false e
+    let p = c.requires in
+    frame-all _ _ _ c.length_of-n.ensures p k new q c.if-out-n.false e
 
-returns-2 : tie.Need-returns-2
+returns-2 : tie.Need-returns-then-n-lt-LEASE_AT
 returns-2 c =
-    let c1 = c.before.before.before in
-    let r = c1.before.before in
-    all r 4 _ ((end r.before).head c.if2.true) c1.put_four.ensures
+    let c1 = c in
+    let r = c1 in
+    all r.before.before.before.before.before 4 _ ((end r.before.before.before.before.before.before).head c.if-n-lt-LEASE_AT.true) c1.put_four.ensures
 
-two : (c : tie.After-put-number)
+two : (c : tie.After-put_number)
     → Front c.before.before.before.before.before.before.before.before.before.before 8
-    c.put-number.new.0
-two c = over-next _ _ _ _ _ 0 c.before.before.before.before.before.put_four.ensures c.put-number.ensures
+    c.put_number.new.out
+two c = over-next _ _ _ _ _ 0 c.put_four.ensures c.put_number.ensures
 
-returns-3 : tie.Need-returns-3
+returns-3 : tie.Need-returns-then-n-lt-FIELDS_AT
 returns-3 c =
-    let c2 = c.before.before.before in
-    let r = c2.before.before.before.before.before.before.before in
-    all r 8 _ ((end r.before).txn c2.before.before.if2.false c.if3.true) (two c2)
+    let c2 = c in
+    let r = c2 in
+    all r.before.before.before.before.before.before.before.before.before.before 8 _ ((end r.before.before.before.before.before.before.before.before.before.before.before).txn c2.if-n-lt-LEASE_AT.false c.if-n-lt-FIELDS_AT.true) (two c2.before.before.before)
 
-three : (c : tie.After-put-number2)
-    → let t = c.before.before.before.before.before in
-    Front t.before.before.before.before.before.before.before.before.before.before 12
-    c.put-number2.new.0
-three c = over-next _ _ _ _ _ 0 (two c.before.before.before.before.before) c.put-number2.ensures
+three : (c : tie.After-put_number-2)
+    → let t = c in
+    Front t.before.before.before.before.before.before.before.before.before.before.before.before.before.before.before 12
+    c.put_number-2.new.out
+three c = over-next _ _ _ _ _ 0 (two c.before.before.before.before.before) c.put_number-2.ensures
 
-returns-4 : tie.Need-returns-4
+returns-4 : tie.Need-returns-then-n-lt-FIELDS_END
 returns-4 c =
-    let c3 = c.before.before.before in
-    let r = c3.before.before.before.before.before.before.before.before.before.before.before.before in
-    all r 12 _ ((end r.before).lease c3.before.before.if3.false c.if4.true) (three c3)
+    let c3 = c in
+    let r = c3 in
+    all r.before.before.before.before.before.before.before.before.before.before.before.before.before.before.before 12 _ ((end r.before.before.before.before.before.before.before.before.before.before.before.before.before.before.before.before).lease c3.if-n-lt-FIELDS_AT.false c.if-n-lt-FIELDS_END.true) (three c3.before.before.before)
 
-returns-5 : tie.Need-returns-5
+returns-5 : tie.Need-returns
 returns-5 c =
-    let c4 = c.before.before in
-    let c3 = c4.before.before.before.before.before in
-    let r = c3.before.before.before.before.before.before.before.before.before.before.before.before in
-    all r 28 _ (omega (arith, (end r.before).fields, c4.before.before.if4.false))
-    (over-next _ _ _ _ _ 0 (three c3) c4.put-fields.ensures)
+    let c4 = c in
+    let c3 = c4 in
+    let r = c3 in
+    all r.before.before.before.before.before.before.before.before.before.before.before.before.before.before.before.before.before.before.before 28 _ (omega (arith, (end r.before.before.before.before.before.before.before.before.before.before.before.before.before.before.before.before.before.before.before.before).fields, c4.if-n-lt-FIELDS_END.false))
+    (over-next _ _ _ _ _ 0 (three c3.before.before.before.before.before.before.before) c4.put_fields.ensures)
 
-pub put-numbers-spec : {M : Type 1} → statement M
-put-numbers-spec =
+pub put_numbers_spec : {M : Type 1} → statement M
+put_numbers_spec =
     tie.close
     (tie.spec (λ c κs. search rules) returns put-four-requires (λ c. search rules) returns-2
     (λ c κs. search rules) (λ c. search rules) returns-3 (λ c κs. search rules) (λ c. search rules) returns-4

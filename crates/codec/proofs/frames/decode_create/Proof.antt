@@ -9,38 +9,38 @@ use Rattle.codec.proofs.RequestLaws.{refused, create-asks}
 use Rattle.codec.proofs.frames.decode_create.Statement.{statement}
 use Rattle.codec.proofs.frames.decode_create.Tie as tie
 
-returns : tie.Need-returns
+returns : tie.Need-returns-then-frame-length_of
 unfolding layout_of
 returns c =
-    let e = c.before.before.before.requires in
+    let e = c.requires in
     refused _ _ (sym (other_length _ op_create (sym e, refl)
-    (λ q. c.if1.true (q ∙ sym c.before.length-of.ensures)))) (λ z. omega arith)
+    (λ q. c.if-frame-length_of.true (q ∙ sym c.length_of.ensures)))) (λ z. omega arith)
 
-returns-2 : tie.Need-returns-2
+returns-2 : tie.Need-returns-then-n-ne0
 unfolding layout_of
 returns-2 c =
-    let n = c.before.before.before.before in
-    let e = n.before.before.before.requires in
-    refused _ _ (c.before.head-refusal.ensures ∙ rw c.before.before.whole-number.ensures
+    let n = c in
+    let e = n.requires in
+    refused _ _ (c.head_refusal-n.ensures ∙ rw c.whole_number.ensures
     (sym (create_head _ op_create (sym e, refl) refl
-    (n.if1.false ∙ n.before.length-of.ensures))))
-    c.if2.true
+    (n.if-frame-length_of.false ∙ n.length_of.ensures))))
+    c.if-n-ne0.true
 
-returns-3 : tie.Need-returns-3
+returns-3 : tie.Need-returns
 unfolding layout_of
 returns-3 c =
-    let head = c.before.before.before in
-    let n = head.before.before.before in
-    let e = n.before.before.before.requires in
-    rw c.whole-number2.ensures
+    let head = c in
+    let n = head in
+    let e = n.requires in
+    rw c.whole_number-2.ensures
     (create-asks _ (create_head _ op_create (sym e, refl) refl
-    (n.if1.false ∙ n.before.length-of.ensures)
-    ∙ sym (rw head.before.whole-number.ensures at head.head-refusal.ensures)
-    ∙ c.before.before.if2.false) e)
+    (n.if-frame-length_of.false ∙ n.length_of.ensures)
+    ∙ sym (rw head.whole_number.ensures at head.head_refusal-n.ensures)
+    ∙ c.if-n-ne0.false) e)
 
-pub decode-create-spec : {M : Type 1} → statement M
+pub decode_create_spec : {M : Type 1} → statement M
 unfolding frame_length layout_of
-decode-create-spec =
+decode_create_spec =
     tie.close
     (tie.spec
     (λ c κs. search rules)

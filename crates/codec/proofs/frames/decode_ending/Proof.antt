@@ -8,44 +8,44 @@ use Rattle.codec.proofs.FormLaws.{ending-length, ends-one, other_length, ending_
 use Rattle.codec.proofs.RequestLaws.{refused, commit-asks, abort-asks}
 use Rattle.codec.proofs.frames.decode_ending.Statement.{statement}
 
-returns : tie.Need-returns
+returns : tie.Need-returns-then-frame-length_of
 returns c =
-    let p = c.before.before.before.requires in
+    let p = c.requires in
     refused _ _ (sym (other_length _ _ (p.0, ends-one _ p.1 p.2)
-    (λ q. c.if1.true (q ∙ ending-length _ p.1 p.2 ∙ sym c.before.length-of.ensures)))) (λ z. omega arith)
+    (λ q. c.if-frame-length_of.true (q ∙ ending-length _ p.1 p.2 ∙ sym c.length_of.ensures)))) (λ z. omega arith)
 
-returns-2 : tie.Need-returns-2
+returns-2 : tie.Need-returns-then-n-ne0
 returns-2 c =
-    let n = c.before.before.before in
-    let p = n.before.before.before.requires in
-    refused _ _ (c.before.head-refusal.ensures
+    let n = c in
+    let p = n.requires in
+    refused _ _ (c.head_refusal-n.ensures
     ∙ sym (ending_head _ _ (p.0, ends-one _ p.1 p.2) p.1 p.2
-    (n.if1.false ∙ n.before.length-of.ensures ∙ sym (ending-length _ p.1 p.2)))) c.if2.true
+    (n.if-frame-length_of.false ∙ n.length_of.ensures ∙ sym (ending-length _ p.1 p.2)))) c.if-n-ne0.true
 
-returns-3 : tie.Need-returns-3
+returns-3 : tie.Need-returns-then-op-eq-OP_COMMIT
 returns-3 c =
-    let head = c.before.before.before.before in
-    let n = head.before.before in
-    let p = n.before.before.before.requires in
-    rw c.before.whole-number.ensures
+    let head = c in
+    let n = head in
+    let p = n.requires in
+    rw c.whole_number.ensures
     (commit-asks _ (ending_head _ _ (p.0, ends-one _ p.1 p.2) p.1 p.2
-    (n.if1.false ∙ n.before.length-of.ensures ∙ sym (ending-length _ p.1 p.2))
-    ∙ sym head.head-refusal.ensures ∙ c.before.before.before.if2.false) (sym p.0 ∙ c.if3.true))
+    (n.if-frame-length_of.false ∙ n.length_of.ensures ∙ sym (ending-length _ p.1 p.2))
+    ∙ sym head.head_refusal-n.ensures ∙ c.if-n-ne0.false) (sym p.0 ∙ c.if-op-eq-OP_COMMIT.true))
 
-returns-4 : tie.Need-returns-4
+returns-4 : tie.Need-returns-else-op-eq-OP_COMMIT
 returns-4 c =
-    let head = c.before.before.before.before in
-    let n = head.before.before in
-    let p = n.before.before.before.requires in
-    let other = c.if3.false in
-    rw c.before.whole-number.ensures
+    let head = c in
+    let n = head in
+    let p = n.requires in
+    let other = c.if-op-eq-OP_COMMIT.false in
+    rw c.whole_number.ensures
     (abort-asks _ (ending_head _ _ (p.0, ends-one _ p.1 p.2) p.1 p.2
-    (n.if1.false ∙ n.before.length-of.ensures ∙ sym (ending-length _ p.1 p.2))
-    ∙ sym head.head-refusal.ensures ∙ c.before.before.before.if2.false) (omega (arith, p, other)))
+    (n.if-frame-length_of.false ∙ n.length_of.ensures ∙ sym (ending-length _ p.1 p.2))
+    ∙ sym head.head_refusal-n.ensures ∙ c.if-n-ne0.false) (omega (arith, p, other)))
 
-pub decode-ending-spec : {M : Type 1} → statement M
+pub decode_ending_spec : {M : Type 1} → statement M
 unfolding frame_length layout_of
-decode-ending-spec =
+decode_ending_spec =
     tie.close
     (tie.spec
     (λ c κs. search rules)

@@ -8,36 +8,36 @@ use Rattle.codec.proofs.FormLaws.{find_length, looks_up, other_length, find_head
 use Rattle.codec.proofs.RequestLaws.{refused, find_asks}
 use Rattle.codec.proofs.frames.decode_find.Statement.{statement}
 
-returns : tie.Need-returns
+returns : tie.Need-returns-then-frame-length_of
 returns c =
-    let p = c.before.before.before.requires in
+    let p = c.requires in
     refused _ _ (sym (other_length _ _ (p.0, looks_up _ p.1 p.2)
-    (λ q. c.if1.true (q ∙ find_length _ p.1 p.2 ∙ sym c.before.length-of.ensures)))) (λ z. omega arith)
+    (λ q. c.if-frame-length_of.true (q ∙ find_length _ p.1 p.2 ∙ sym c.length_of.ensures)))) (λ z. omega arith)
 
-returns-2 : tie.Need-returns-2
+returns-2 : tie.Need-returns-then-n-ne0
 returns-2 c =
-    let n = c.before.before.before.before in
-    let p = n.before.before.before.requires in
-    refused _ _ (c.before.template-refusal.ensures
-    ∙ rw c.before.before.Whole-Fields.ensures
+    let n = c in
+    let p = n.requires in
+    refused _ _ (c.template_refusal-n.ensures
+    ∙ rw c.whole_fields-fields.ensures
     (sym (find_head _ _ (p.0, looks_up _ p.1 p.2) p.1 p.2
-    (n.if1.false ∙ n.before.length-of.ensures ∙ sym (find_length _ p.1 p.2))))) c.if2.true
+    (n.if-frame-length_of.false ∙ n.length_of.ensures ∙ sym (find_length _ p.1 p.2))))) c.if-n-ne0.true
 
-returns-3 : tie.Need-returns-3
+returns-3 : tie.Need-returns
 returns-3 c =
-    let head = c.before.before.before.before in
-    let n = head.before.before.before in
-    let p = n.before.before.before.requires in
-    let fields = head.before.Whole-Fields.ensures in
-    rw (c.before.before.whole-number.ensures, c.whole-number2.ensures, fields)
+    let head = c in
+    let n = head in
+    let p = n.requires in
+    let fields = head.whole_fields-fields.ensures in
+    rw (c.whole_number.ensures, c.whole_number-2.ensures, fields)
     (find_asks _ (find_head _ _ (p.0, looks_up _ p.1 p.2) p.1 p.2
-    (n.if1.false ∙ n.before.length-of.ensures ∙ sym (find_length _ p.1 p.2))
-    ∙ sym (rw (fields) at head.template-refusal.ensures)
-    ∙ c.before.before.before.if2.false) _ p.0 p.1 p.2)
+    (n.if-frame-length_of.false ∙ n.length_of.ensures ∙ sym (find_length _ p.1 p.2))
+    ∙ sym (rw (fields) at head.template_refusal-n.ensures)
+    ∙ c.if-n-ne0.false) _ p.0 p.1 p.2)
 
-pub decode-find-spec : {M : Type 1} → statement M
+pub decode_find_spec : {M : Type 1} → statement M
 unfolding frame_length layout_of
-decode-find-spec =
+decode_find_spec =
     tie.close
     (tie.spec
     (λ c κs. search rules)

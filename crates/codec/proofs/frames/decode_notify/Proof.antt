@@ -9,40 +9,40 @@ use Rattle.codec.proofs.FormLaws.{other_length, notify_head}
 use Rattle.codec.proofs.RequestLaws.{refused, notify-asks}
 use Rattle.codec.proofs.frames.decode_notify.Statement.{statement}
 
-returns : tie.Need-returns
+returns : tie.Need-returns-then-frame-length_of
 unfolding layout_of
 returns c =
-    let e = c.before.before.before.requires in
+    let e = c.requires in
     refused _ _ (sym (other_length _ op_notify (sym e, refl)
-    (λ q. c.if1.true (q ∙ sym c.before.length-of.ensures)))) (λ z. omega arith)
+    (λ q. c.if-frame-length_of.true (q ∙ sym c.length_of.ensures)))) (λ z. omega arith)
 
-returns-2 : tie.Need-returns-2
+returns-2 : tie.Need-returns-then-n-ne0
 unfolding layout_of
 returns-2 c =
-    let fields = c.before.before.before in
-    let n = fields.before.before in
-    let e = n.before.before.before.requires in
-    refused _ _ (c.before.template-refusal.ensures
-    ∙ rw (c.before.before.whole-number.ensures, fields.Whole-Fields.ensures)
-    (sym (notify_head _ op_notify (sym e, refl) refl (n.if1.false ∙ n.before.length-of.ensures))))
-    c.if2.true
+    let fields = c in
+    let n = fields in
+    let e = n.requires in
+    refused _ _ (c.template_refusal-n.ensures
+    ∙ rw (c.whole_number.ensures, fields.whole_fields-fields.ensures)
+    (sym (notify_head _ op_notify (sym e, refl) refl (n.if-frame-length_of.false ∙ n.length_of.ensures))))
+    c.if-n-ne0.true
 
-returns-3 : tie.Need-returns-3
+returns-3 : tie.Need-returns
 unfolding layout_of
 returns-3 c =
-    let head = c.before.before.before in
-    let txn = head.before.whole-number.ensures in
-    let fields = head.before.before.Whole-Fields.ensures in
-    let n = head.before.before.before.before in
-    let e = n.before.before.before.requires in
-    rw (c.whole-number2.ensures, fields)
-    (notify-asks _ (notify_head _ op_notify (sym e, refl) refl (n.if1.false ∙ n.before.length-of.ensures)
-    ∙ sym (rw (txn, fields) at head.template-refusal.ensures)
-    ∙ c.before.before.if2.false) e)
+    let head = c in
+    let txn = head.whole_number.ensures in
+    let fields = head.whole_fields-fields.ensures in
+    let n = head in
+    let e = n.requires in
+    rw (c.whole_number-2.ensures, fields)
+    (notify-asks _ (notify_head _ op_notify (sym e, refl) refl (n.if-frame-length_of.false ∙ n.length_of.ensures)
+    ∙ sym (rw (txn, fields) at head.template_refusal-n.ensures)
+    ∙ c.if-n-ne0.false) e)
 
-pub decode-notify-spec : {M : Type 1} → statement M
+pub decode_notify_spec : {M : Type 1} → statement M
 unfolding frame_length layout_of
-decode-notify-spec =
+decode_notify_spec =
     tie.close
     (tie.spec
     (λ c κs. search rules)

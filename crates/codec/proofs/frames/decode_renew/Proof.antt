@@ -9,35 +9,35 @@ use Rattle.codec.proofs.RequestLaws.{refused, renew-asks}
 use Rattle.codec.proofs.frames.decode_renew.Statement.{statement}
 use Rattle.codec.proofs.frames.decode_renew.Tie as tie
 
-returns : tie.Need-returns
+returns : tie.Need-returns-then-frame-length_of
 unfolding layout_of
 returns c =
-    let e = c.before.before.before.requires in
+    let e = c.requires in
     refused _ _ (sym (other_length _ op_renew (sym e, refl)
-    (λ q. c.if1.true (q ∙ sym c.before.length-of.ensures)))) (λ z. omega arith)
+    (λ q. c.if-frame-length_of.true (q ∙ sym c.length_of.ensures)))) (λ z. omega arith)
 
-returns-2 : tie.Need-returns-2
+returns-2 : tie.Need-returns-then-n-ne0
 unfolding layout_of
 returns-2 c =
-    let n = c.before.before.before in
-    let e = n.before.before.before.requires in
-    refused _ _ (c.before.head-refusal.ensures ∙ sym (plain_head _ op_renew (sym e, refl) refl refl refl
-    (n.if1.false ∙ n.before.length-of.ensures))) c.if2.true
+    let n = c in
+    let e = n.requires in
+    refused _ _ (c.head_refusal-n.ensures ∙ sym (plain_head _ op_renew (sym e, refl) refl refl refl
+    (n.if-frame-length_of.false ∙ n.length_of.ensures))) c.if-n-ne0.true
 
-returns-3 : tie.Need-returns-3
+returns-3 : tie.Need-returns
 unfolding layout_of
 returns-3 c =
-    let entry = c.before.before in
-    let head = entry.before.before in
-    let n = head.before.before in
-    let e = n.before.before.before.requires in
-    rw (entry.whole-number.ensures, c.whole-number2.ensures)
-    (renew-asks _ (plain_head _ op_renew (sym e, refl) refl refl refl (n.if1.false ∙ n.before.length-of.ensures)
-    ∙ sym head.head-refusal.ensures ∙ entry.before.if2.false) e)
+    let entry = c in
+    let head = entry in
+    let n = head in
+    let e = n.requires in
+    rw (entry.whole_number.ensures, c.whole_number-2.ensures)
+    (renew-asks _ (plain_head _ op_renew (sym e, refl) refl refl refl (n.if-frame-length_of.false ∙ n.length_of.ensures)
+    ∙ sym head.head_refusal-n.ensures ∙ entry.if-n-ne0.false) e)
 
-pub decode-renew-spec : {M : Type 1} → statement M
+pub decode_renew_spec : {M : Type 1} → statement M
 unfolding frame_length layout_of
-decode-renew-spec =
+decode_renew_spec =
     tie.close
     (tie.spec (λ c κs. search rules) returns (λ c. search rules) (λ c κs. search rules) returns-2 (λ c κs. search rules)
     (λ c. search rules) (λ c κs. search rules) returns-3)

@@ -9,32 +9,32 @@ use Rattle.codec.proofs.RequestLaws.{refused, tick-asks}
 use Rattle.codec.proofs.frames.decode_tick.Statement.{statement}
 use Rattle.codec.proofs.frames.decode_tick.Tie as tie
 
-returns : tie.Need-returns
+returns : tie.Need-returns-then-frame-length_of
 unfolding layout_of
 returns c =
-    let e = c.before.before.before.requires in
+    let e = c.requires in
     refused _ _ (sym (other_length _ op_tick (sym e, refl)
-    (λ q. c.if1.true (q ∙ sym c.before.length-of.ensures)))) (λ z. omega arith)
+    (λ q. c.if-frame-length_of.true (q ∙ sym c.length_of.ensures)))) (λ z. omega arith)
 
-returns-2 : tie.Need-returns-2
+returns-2 : tie.Need-returns-then-n-ne0
 unfolding layout_of
 returns-2 c =
-    let n = c.before.before.before in
-    let e = n.before.before.before.requires in
-    refused _ _ (c.before.head-refusal.ensures ∙ sym (plain_head _ op_tick (sym e, refl) refl refl refl
-    (n.if1.false ∙ n.before.length-of.ensures))) c.if2.true
+    let n = c in
+    let e = n.requires in
+    refused _ _ (c.head_refusal-n.ensures ∙ sym (plain_head _ op_tick (sym e, refl) refl refl refl
+    (n.if-frame-length_of.false ∙ n.length_of.ensures))) c.if-n-ne0.true
 
-returns-3 : tie.Need-returns-3
+returns-3 : tie.Need-returns
 unfolding layout_of
 returns-3 c =
-    let n = c.before.before.before in
-    let e = n.before.before.before.requires in
+    let n = c in
+    let e = n.requires in
     tick-asks _ (plain_head _ op_tick (sym e, refl) refl refl refl
-    (n.if1.false ∙ n.before.length-of.ensures) ∙ sym c.before.head-refusal.ensures ∙ c.if2.false) e
+    (n.if-frame-length_of.false ∙ n.length_of.ensures) ∙ sym c.head_refusal-n.ensures ∙ c.if-n-ne0.false) e
 
-pub decode-tick-spec : {M : Type 1} → statement M
+pub decode_tick_spec : {M : Type 1} → statement M
 unfolding frame_length layout_of
-decode-tick-spec =
+decode_tick_spec =
     tie.close
     (tie.spec
     (λ c κs. search rules)

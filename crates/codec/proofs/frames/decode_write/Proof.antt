@@ -9,40 +9,40 @@ use Rattle.codec.proofs.RequestLaws.{refused, write-asks}
 use Rattle.codec.proofs.frames.decode_write.Statement.{statement}
 use Rattle.codec.proofs.frames.decode_write.Tie as tie
 
-returns : tie.Need-returns
+returns : tie.Need-returns-then-frame-length_of
 unfolding layout_of
 returns c =
-    let e = c.before.before.before.requires in
+    let e = c.requires in
     refused _ _ (sym (other_length _ op_write (sym e, refl)
-    (λ q. c.if1.true (q ∙ sym c.before.length-of.ensures)))) (λ z. omega arith)
+    (λ q. c.if-frame-length_of.true (q ∙ sym c.length_of.ensures)))) (λ z. omega arith)
 
-returns-2 : tie.Need-returns-2
+returns-2 : tie.Need-returns-then-n-ne0
 unfolding layout_of
 returns-2 c =
-    let n = c.before.before.before.before.before in
-    let e = n.before.before.before.requires in
-    refused _ _ (c.before.head-refusal.ensures
-    ∙ rw (c.before.before.is-bad-blanks.ensures, c.before.before.before.Whole-Fields.ensures)
+    let n = c in
+    let e = n.requires in
+    refused _ _ (c.head_refusal-n.ensures
+    ∙ rw (c.is_bad_blanks.ensures, c.whole_fields-fields.ensures)
     (sym (write_head _ op_write (sym e, refl) refl
-    (n.if1.false ∙ n.before.length-of.ensures)))) c.if2.true
+    (n.if-frame-length_of.false ∙ n.length_of.ensures)))) c.if-n-ne0.true
 
-returns-3 : tie.Need-returns-3
+returns-3 : tie.Need-returns
 unfolding layout_of
 returns-3 c =
-    let txn = c.before.before in
-    let head = txn.before.before in
-    let fields = head.before.before.Whole-Fields.ensures in
-    let n = head.before.before.before.before in
-    let e = n.before.before.before.requires in
-    rw (txn.whole-number.ensures, c.whole-number2.ensures, fields)
+    let txn = c in
+    let head = txn in
+    let fields = head.whole_fields-fields.ensures in
+    let n = head in
+    let e = n.requires in
+    rw (txn.whole_number.ensures, c.whole_number-2.ensures, fields)
     (write-asks _ (write_head _ op_write (sym e, refl) refl
-    (n.if1.false ∙ n.before.length-of.ensures)
-    ∙ sym (rw (head.before.is-bad-blanks.ensures, fields) at head.head-refusal.ensures)
-    ∙ txn.before.if2.false) e)
+    (n.if-frame-length_of.false ∙ n.length_of.ensures)
+    ∙ sym (rw (head.is_bad_blanks.ensures, fields) at head.head_refusal-n.ensures)
+    ∙ txn.if-n-ne0.false) e)
 
-pub decode-write-spec : {M : Type 1} → statement M
+pub decode_write_spec : {M : Type 1} → statement M
 unfolding frame_length layout_of
-decode-write-spec =
+decode_write_spec =
     tie.close
     (tie.spec
     (λ c κs. search rules)

@@ -8,5 +8,5 @@ returns : tie.Need-returns
 unfolding bit
 returns c = search rules
 
-pub is-bad-arc-spec : {M : Type 1} → statement M
-is-bad-arc-spec = tie.close (tie.spec returns)
+pub is_bad_arc_spec : {M : Type 1} → statement M
+is_bad_arc_spec = tie.close (tie.spec returns)

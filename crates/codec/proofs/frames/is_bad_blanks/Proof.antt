@@ -6,7 +6,7 @@ use Rattle.codec.proofs.frames.is_bad_blanks.Tie as tie
 
 returns : tie.Need-returns
 unfolding bit
-returns c = c.is-some-filled.ensures
+returns c = c.is_some_filled.ensures
 
-pub is-bad-blanks-spec : {M : Type 1} → statement M
-is-bad-blanks-spec = tie.close (tie.spec (λ c κs. search rules) returns)
+pub is_bad_blanks_spec : {M : Type 1} → statement M
+is_bad_blanks_spec = tie.close (tie.spec (λ c κs. search rules) returns)

@@ -8,31 +8,31 @@ use Rattle.codec.proofs.FormLaws.{head_first, arc_last}
 use Rattle.codec.proofs.frames.template_refusal.Statement.{statement}
 use Rattle.codec.proofs.frames.template_refusal.Tie as tie
 
-returns : tie.Need-returns
+returns : tie.Need-returns-then-n-ne0
 returns c =
-    let a = c.before.before.before.before.before.args in
+    let a = c.args in
     head_first a.frame.now a.op a.fields a.bad
-    (rw c.before.before.is-bad-template.ensures at c.before.head-refusal.ensures) c.if1.true
+    (rw c.is_bad_template.ensures at c.head_refusal-n.ensures) c.if-n-ne0.true
 
 -- 4 and 5 do not apply: 21 is left
-arc_decides : (c : tie.After-is-bad-arc)
-    → let a = c.before.before.before.before.before.before.args in
-    cond c.is-bad-arc.result place_refused 0 ≡ template_refusal a.frame.now a.op a.fields a.bad
+arc_decides : (c : tie.After-is_bad_arc)
+    → let a = c.args in
+    cond c.is_bad_arc.result place_refused 0 ≡ template_refusal a.frame.now a.op a.fields a.bad
 arc_decides c =
-    let head = c.before.before in
-    let a = head.before.before.before.before.args in
+    let head = c in
+    let a = head.args in
     arc_last a.frame.now a.op a.fields a.bad
-    (rw head.before.is-bad-template.ensures at head.head-refusal.ensures) c.before.if1.false
-    c.is-bad-arc.ensures
+    (rw head.is_bad_template.ensures at head.head_refusal-n.ensures) c.if-n-ne0.false
+    c.is_bad_arc.ensures
 
-returns-2 : tie.Need-returns-2
-returns-2 c = ap (λ b. cond b place_refused 0) (sym c.if2.true) ∙ arc_decides c.before
+returns-2 : tie.Need-returns-then-is_bad_arc
+returns-2 c = ap (λ b. cond b place_refused 0) (sym c.if-is_bad_arc.true) ∙ arc_decides c.before
 
-returns-3 : tie.Need-returns-3
-returns-3 c = ap (λ b. cond b place_refused 0) (sym c.if2.false) ∙ arc_decides c.before
+returns-3 : tie.Need-returns-else-is_bad_arc
+returns-3 c = ap (λ b. cond b place_refused 0) (sym c.if-is_bad_arc.false) ∙ arc_decides c.before
 
-pub template-refusal-spec : {M : Type 1} → statement M
-template-refusal-spec =
+pub template_refusal_spec : {M : Type 1} → statement M
+template_refusal_spec =
     tie.close
     (tie.spec
     (λ c. search rules) (λ c κs. search rules) (λ c κs. search rules) returns (λ c κs. search rules) returns-2

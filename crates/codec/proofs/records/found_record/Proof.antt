@@ -8,5 +8,5 @@ returns : tie.Need-returns
 unfolding found
 returns c = refl
 
-pub found-record-spec : {M : Type 1} → statement M
-found-record-spec = tie.close (tie.spec returns)
+pub found_record_spec : {M : Type 1} → statement M
+found_record_spec = tie.close (tie.spec returns)

@@ -6,7 +6,7 @@ use Rattle.codec.proofs.records.notified_record.Statement.{statement}
 
 returns : tie.Need-returns
 unfolding notified
-returns c = rw c.no-mark.ensures
+returns c = rw c.no_mark-fields.ensures
 
-pub notified-record-spec : {M : Type 1} → statement M
-notified-record-spec = tie.close (tie.spec (λ c κs. search rules) returns)
+pub notified_record_spec : {M : Type 1} → statement M
+notified_record_spec = tie.close (tie.spec (λ c κs. search rules) returns)

@@ -4,7 +4,7 @@ use Rattle.codec.proofs.records.plain_record.Statement.{statement}
 use Rattle.codec.proofs.records.plain_record.Tie as tie
 
 returns : tie.Need-returns
-returns c = rw c.no-mark.ensures
+returns c = rw c.no_mark-fields.ensures
 
-pub plain-record-spec : {M : Type 1} → statement M
-plain-record-spec = tie.close (tie.spec (λ c κs. search rules) returns)
+pub plain_record_spec : {M : Type 1} → statement M
+plain_record_spec = tie.close (tie.spec (λ c κs. search rules) returns)

@@ -8,24 +8,24 @@ use Rattle.codec.proofs.FrontLaws.{over-next, put_over}
 use Rattle.codec.proofs.records.put_record.Statement.{statement}
 use Rattle.codec.proofs.records.put_record.Tie as tie
 
-returns : tie.Need-returns
+returns : tie.Need-returns-then-out-lt-RECORD_SIZE
 unfolding record_put
-returns c = rw (lt-ltb _ _ c.if1.true)
+returns c = rw (lt-ltb _ _ c.if-out-lt-RECORD_SIZE.true)
 
-returns-2 : tie.Need-returns-2
+returns-2 : tie.Need-returns
 unfolding record_bytes
 returns-2 c =
-    let c4 = c.before.before in
-    let c3 = c4.before.before.before.before.before in
-    let c2 = c3.before.before.before.before in
-    let c1 = c2.before.before.before.before in
-    let e2 = over-next _ _ _ _ _ 0 c1.put_four.ensures c2.put-number.ensures in
-    let e3 = over-next _ _ _ _ _ 0 e2 c3.put-number2.ensures in
-    let e4 = over-next _ _ _ _ _ 0 e3 c4.put-fields.ensures in
-    rw c4.before.bare-fields.ensures at e4 ∙ sym (put_over _ _ c1.before.before.if1.false)
+    let c4 = c in
+    let c3 = c4 in
+    let c2 = c3 in
+    let c1 = c2 in
+    let e2 = over-next _ _ _ _ _ 0 c1.put_four.ensures c2.put_number.ensures in
+    let e3 = over-next _ _ _ _ _ 0 e2 c3.put_number-2.ensures in
+    let e4 = over-next _ _ _ _ _ 0 e3 c4.put_fields.ensures in
+    rw c4.bare_fields.ensures at e4 ∙ sym (put_over _ _ c1.if-out-lt-RECORD_SIZE.false)
 
-pub put-record-spec : {M : Type 1} → statement M
-put-record-spec =
+pub put_record_spec : {M : Type 1} → statement M
+put_record_spec =
     tie.close
     (tie.spec returns (λ c κs. search rules) (λ c κs. search rules) (λ c κs. search rules) (λ c κs. search rules)
     (λ c κs. search rules) (λ c. search rules) returns-2)

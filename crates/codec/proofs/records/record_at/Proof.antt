@@ -6,30 +6,30 @@ use Rattle.rules.specs.Records.{record_at}
 use Rattle.codec.proofs.FormLaws.{record_past}
 use Rattle.codec.proofs.records.record_at.Statement.{statement}
 
-returns : tie.Need-returns
-returns c = c.plain-record.ensures ∙ sym (record_past _ _ c.before.if1.true)
+returns : tie.Need-returns-then-bytes-at
+returns c = c.plain_record.ensures ∙ sym (record_past _ _ c.if-bytes-at.true)
 
-returns-2 : tie.Need-returns-2
+returns-2 : tie.Need-returns
 unfolding record_at
 returns-2 c =
-    let party = c.before in
-    let kind = party.before in
-    let fields = kind.before.before in
-    let blanks = fields.before in
-    let entry = blanks.before in
+    let party = c in
+    let kind = party in
+    let fields = kind in
+    let blanks = fields in
+    let entry = blanks in
     rw (
-      kind.byte-at2.ensures,
-      party.byte-at3.ensures,
-      c.byte-at4.ensures,
-      entry.before.number_at.ensures,
-      entry.number-at2.ensures,
-      kind.before.mark_of.ensures,
+      kind.byte_at-2.ensures,
+      party.byte_at-3.ensures,
+      c.byte_at-4.ensures,
+      entry.number_at.ensures,
+      entry.number_at-2.ensures,
+      kind.mark_of-fields.ensures,
       fields.fields_at.ensures,
       blanks.byte_at.ensures,
     )
 
-pub record-at-spec : {M : Type 1} → statement M
-record-at-spec =
+pub record_at_spec : {M : Type 1} → statement M
+record_at_spec =
     tie.close
     (tie.spec (λ c κs. search rules) returns (λ c. search rules) (λ c κs. search rules) (λ c. search rules)
     (λ c κs. search rules) (λ c. search rules) (λ c κs. search rules) (λ c. search rules) (λ c κs. search rules)

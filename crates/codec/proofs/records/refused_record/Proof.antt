@@ -6,7 +6,7 @@ use Rattle.codec.proofs.records.refused_record.Tie as tie
 
 returns : tie.Need-returns
 unfolding refused
-returns c = rw (c.before.no-mark.ensures, c.party-of.ensures)
+returns c = rw (c.no_mark-fields.ensures, c.party_of.ensures)
 
-pub refused-record-spec : {M : Type 1} → statement M
-refused-record-spec = tie.close (tie.spec (λ c κs. search rules) (λ c κs. search rules) returns)
+pub refused_record_spec : {M : Type 1} → statement M
+refused_record_spec = tie.close (tie.spec (λ c κs. search rules) (λ c κs. search rules) returns)

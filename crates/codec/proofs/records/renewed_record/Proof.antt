@@ -6,7 +6,7 @@ use Rattle.codec.proofs.records.renewed_record.Tie as tie
 
 returns : tie.Need-returns
 unfolding renewed
-returns c = rw c.no-mark.ensures
+returns c = rw c.no_mark-fields.ensures
 
-pub renewed-record-spec : {M : Type 1} → statement M
-renewed-record-spec = tie.close (tie.spec (λ c κs. search rules) returns)
+pub renewed_record_spec : {M : Type 1} → statement M
+renewed_record_spec = tie.close (tie.spec (λ c κs. search rules) returns)

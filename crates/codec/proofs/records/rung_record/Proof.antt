@@ -8,5 +8,5 @@ returns : tie.Need-returns
 unfolding rung
 returns c = refl
 
-pub rung-record-spec : {M : Type 1} → statement M
-rung-record-spec = tie.close (tie.spec returns)
+pub rung_record_spec : {M : Type 1} → statement M
+rung_record_spec = tie.close (tie.spec returns)

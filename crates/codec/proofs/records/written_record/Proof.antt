@@ -6,7 +6,7 @@ use Rattle.codec.proofs.records.written_record.Tie as tie
 
 returns : tie.Need-returns
 unfolding written
-returns c = rw c.no-mark.ensures
+returns c = rw c.no_mark-fields.ensures
 
-pub written-record-spec : {M : Type 1} → statement M
-written-record-spec = tie.close (tie.spec (λ c κs. search rules) returns)
+pub written_record_spec : {M : Type 1} → statement M
+written_record_spec = tie.close (tie.spec (λ c κs. search rules) returns)

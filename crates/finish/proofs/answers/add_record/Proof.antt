@@ -15,7 +15,7 @@ use Rattle.finish.proofs.answers.add_record.Tie as tie
 
 returns : tie.Need-returns
 returns c =
-    let start = c.before.before.before.before.before in
+    let start = c in
     let r = start.args.r in
     let a = start.args.answers.now in
     let at = record_size * start.args.count in
@@ -24,14 +24,14 @@ returns c =
       bytes =
           part_put a _ at
           ∙ ap (λ x. take at a ++ x)
-          (c.before.before.put_record.ensures
+          (c.put_record.ensures
           ∙ ap (record_put r) (part_from a at)
           ∙ put_fits r (drop at a) (rw length-drop (omega (arith, start.requires)))
           ∙ area-one r (drop at a));
     }
 
-pub add-record-spec : {M : Type 1} → statement M
-add-record-spec =
+pub add_record_spec : {M : Type 1} → statement M
+add_record_spec =
     tie.close
     (tie.spec
     (λ c. search rules) (λ c. search rules) (λ c. search rules) (λ c. search rules) (λ c κs. search rules)

@@ -9,9 +9,9 @@ use Rattle.finish.proofs.bells.may_ring.Statement.{statement}
 
 returns : tie.Need-returns
 returns c =
-    let a = c.before.args in
+    let a = c.args in
     ap (λ n. not (eqb n 0) && not (eqb a.lease 0))
-    (c.registration-count.ensures.0 ∙ sym (length-registrations a.space.now))
+    (c.registration_count.ensures.0 ∙ sym (length-registrations a.space.now))
 
-pub may-ring-spec : {M : Type 1} → statement M
-may-ring-spec = tie.close (tie.spec (λ c κs. search rules) returns)
+pub may_ring_spec : {M : Type 1} → statement M
+may_ring_spec = tie.close (tie.spec (λ c κs. search rules) returns)

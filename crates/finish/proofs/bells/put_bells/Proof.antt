@@ -33,64 +33,64 @@ beside-row : (cs : List ℕ) (i : ℕ) {g r : Registration} → g ≡ r
     → ◌≡◌ {A = ℕ × Registration} (get_or cs i 0, g) (get_or cs i 0, r)
 beside-row cs i e = ap {B = ℕ × Registration} (λ x. (get_or cs i 0, x)) e
 
-abbrev invariant-loop : tie.invariant-loop
+abbrev invariant-loop : tie.invariant-loop-i
 invariant-loop space answers₀ count counts n done₀ i₀ answers done i =
     (i ≤ n) × Answered rings bell (row counts space) answers₀ answers count done i
 
-abbrev decreases-loop : tie.decreases-loop
+abbrev decreases-loop : tie.decreases-loop-i
 decreases-loop space answers₀ count counts n done₀ i₀ answers done i = n - i
 
-loop-again : tie.Need-loop-preserved invariant-loop decreases-loop
+loop-again : tie.Need-loop-i-preserved-then-k-eq0 invariant-loop decreases-loop
 loop-again c =
-    let loop = c.before.before.before.before in
-    let read = c.before.before in
-    let cs = loop.before.before.before.args.counts.now in (
+    let loop = c in
+    let read = c in
+    let cs = loop.args.counts.now in (
       omega arith,
-      answered_passed loop.loop.invariant.1 (beside-row cs loop.loop.i read.registration-at.ensures)
-          (ap not (eq-eqb _ _ c.if1.true)),
+      answered_passed loop.loop-i.invariant.1 (beside-row cs loop.loop-i.i read.registration_at-g.ensures)
+          (ap not (eq-eqb _ _ c.if-k-eq0.true)),
     )
 
-add-record-requires : tie.Need-add-record-requires invariant-loop decreases-loop
+add-record-requires : tie.Need-add_record-done-requires invariant-loop decreases-loop
 add-record-requires c κs =
-    let loop = c.before.before.before.before.before.before in
-    let n = loop.before.registration-count.ensures.0 in
-    answered-room loop.loop.invariant.1 (omega (arith, n, loop.before.before.before.requires.0))
+    let loop = c in
+    let n = loop.registration_count-n.ensures.0 in
+    answered-room loop.loop-i.invariant.1 (omega (arith, n, loop.requires.0))
 
-loop-again-2 : tie.Need-loop-preserved-2 invariant-loop decreases-loop
+loop-again-2 : tie.Need-loop-i-preserved invariant-loop decreases-loop
 loop-again-2 c =
-    let made = c.before.before.before.before in
-    let read = made.before.before.before in
-    let loop = read.before.before in
-    let start = loop.before.before.before in
-    let x = beside-row start.args.counts.now loop.loop.i read.registration-at.ensures in (
+    let made = c in
+    let read = made in
+    let loop = read in
+    let start = loop in
+    let x = beside-row start.args.counts.now loop.loop-i.i read.registration_at-g.ensures in (
       omega arith,
-      answered_more loop.loop.invariant.1 x (ap not (ne_eqb _ _ made.before.if1.false)) made.rung-record.ensures
-          (omega (arith, start.requires.0)) c.before.before.add-record.ensures,
+      answered_more loop.loop-i.invariant.1 x (ap not (ne_eqb _ _ made.if-k-eq0.false)) made.rung_record-r.ensures
+          (omega (arith, start.requires.0)) c.add_record-done.ensures,
     )
 
-same_length : tie.Need-same-length invariant-loop decreases-loop
+same_length : tie.Need-shape_of-answers invariant-loop decreases-loop
 same_length c =
-    let loop = c.before in
-    let n = loop.before.registration-count.ensures.0 in
-    answered-length loop.loop.invariant.1 (omega (arith, n, loop.loop.invariant.0, loop.before.before.before.requires.0))
+    let loop = c in
+    let n = loop.registration_count-n.ensures.0 in
+    answered-length loop.loop-i.invariant.1 (omega (arith, n, loop.loop-i.invariant.0, loop.requires.0))
 
 returns : tie.Need-returns invariant-loop decreases-loop
 unfolding rung_by
 returns c =
-    let loop = c.before in
-    let start = loop.before.before.before in
-    let n = loop.before.registration-count.ensures.0 in
+    let loop = c in
+    let start = loop in
+    let n = loop.registration_count-n.ensures.0 in
     answered-all
     (counted-rows start.args.counts.now (omega (arith, start.requires.1))
     (registrations-read start.args.space.now))
-    (omega (arith, n, loop.loop.invariant.0, c.loop-test.false)) loop.loop.invariant.1
+    (omega (arith, n, loop.loop-i.invariant.0, c.loop-i-test.false)) loop.loop-i.invariant.1
 
-pub put-bells-spec : {M : Type 1} → statement M
-put-bells-spec =
+pub put_bells_spec : {M : Type 1} → statement M
+put_bells_spec =
     tie.close
     (tie.spec
     invariant-loop decreases-loop (λ c κs. tt) (λ c. (omega arith, answered-start))
-    (λ c κs. omega (arith, c.before.before.registration-count.ensures.0))
-    (λ c. omega arith) (λ c. omega (arith, c.before.before.before.registration-count.ensures.0))
+    (λ c κs. omega (arith, c.registration_count-n.ensures.0))
+    (λ c. omega arith) (λ c. omega (arith, c.registration_count-n.ensures.0))
     (λ c. omega arith) (λ c. omega arith) loop-again (λ c κs. tt) add-record-requires (λ c. omega arith) loop-again-2
     same_length returns)

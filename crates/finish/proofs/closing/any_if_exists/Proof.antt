@@ -10,28 +10,28 @@ use Rattle.words.proofs.Tables.{waits-read}
 use Rattle.finish.proofs.closing.any_if_exists.Statement.{statement}
 use Rattle.finish.proofs.closing.any_if_exists.Tie as tie
 
-abbrev invariant-loop : tie.invariant-loop
+abbrev invariant-loop : tie.invariant-loop-i
 invariant-loop space n i₀ i = (i ≤ n) × Searching (λ (w : LookUp). w.if_exists) (wait_row space) i
 
-abbrev decreases-loop : tie.decreases-loop
+abbrev decreases-loop : tie.decreases-loop-i
 decreases-loop space n i₀ i = n - i
 
-returns : tie.Need-returns invariant-loop decreases-loop
+returns : tie.Need-returns-then-w invariant-loop decreases-loop
 returns c =
-    let loop = c.before.before.before in
-    sym (search_any (waits-read loop.before.before.args.space.now) loop.loop.invariant.1 (omega arith)
-    c.before.wait-at.ensures c.if1.true)
+    let loop = c in
+    sym (search_any (waits-read loop.args.space.now) loop.loop-i.invariant.1 (omega arith)
+    c.wait_at-w.ensures c.if-w.true)
 
-loop-again : tie.Need-loop-preserved invariant-loop decreases-loop
+loop-again : tie.Need-loop-i-preserved invariant-loop decreases-loop
 loop-again c =
-    (omega arith, search_more c.before.before.before.loop.invariant.1 c.before.wait-at.ensures c.if1.false)
+    (omega arith, search_more c.loop-i.invariant.1 c.wait_at-w.ensures c.if-w.false)
 
-returns-2 : tie.Need-returns-2 invariant-loop decreases-loop
+returns-2 : tie.Need-returns invariant-loop decreases-loop
 returns-2 c =
-    sym (search_no (waits-read c.before.before.before.args.space.now) c.before.loop.invariant.1 (omega arith))
+    sym (search_no (waits-read c.args.space.now) c.loop-i.invariant.1 (omega arith))
 
-pub any-if-exists-spec : {M : Type 1} → statement M
-any-if-exists-spec =
+pub any_if_exists_spec : {M : Type 1} → statement M
+any_if_exists_spec =
     tie.close
     (tie.spec
     invariant-loop decreases-loop (λ c κs. tt) (λ c. (omega arith, search_start)) (λ c κs. omega arith) returns (λ c. omega arith)

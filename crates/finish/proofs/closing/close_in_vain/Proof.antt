@@ -5,13 +5,13 @@ use borrow.Author.Rules.{rules}
 use Rattle.finish.proofs.closing.close_in_vain.Statement.{statement}
 use Rattle.finish.proofs.closing.close_in_vain.Tie as tie
 
-returns : tie.Need-returns
-returns c = let test = c.before.before.before.before.before in
-    rw (sym test.before.any-if-exists.ensures ∙ test.if1.true) c.before.before.close-waits.ensures
+returns : tie.Need-returns-then-any_if_exists
+returns c = let test = c in
+    rw (sym test.any_if_exists.ensures ∙ test.if-any_if_exists.true) c.close_waits.ensures
 
-returns-2 : tie.Need-returns-2
-returns-2 c = rw (sym c.before.any-if-exists.ensures ∙ c.if1.false) (does-nothing _ _ _)
+returns-2 : tie.Need-returns-else-any_if_exists
+returns-2 c = rw (sym c.any_if_exists.ensures ∙ c.if-any_if_exists.false) (does-nothing _ _ _)
 
-pub close-in-vain-spec : {M : Type 1} → statement M
-close-in-vain-spec =
+pub close_in_vain_spec : {M : Type 1} → statement M
+close_in_vain_spec =
     tie.close (tie.spec (λ c κs. search rules) (λ c κs. search rules) (λ c. search rules) returns returns-2)

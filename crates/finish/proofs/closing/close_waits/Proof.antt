@@ -6,18 +6,18 @@ use Rattle.finish.proofs.FinishLaws.{none-closed}
 use Rattle.finish.proofs.closing.close_waits.Statement.{statement}
 use Rattle.finish.proofs.closing.close_waits.Tie as tie
 
-returns : tie.Need-returns
+returns : tie.Need-returns-then-done-count
 returns c =
-    let put = c.before.before.before.put-nothings in
-    record { model = none-closed _ (omega (arith, put.ensures.counts, c.if1.true)); adds = put.ensures }
+    let put = c.put_nothings-done in
+    record { model = none-closed _ (omega (arith, put.ensures.counts, c.if-done-count.true)); adds = put.ensures }
 
-returns-2 : tie.Need-returns-2
+returns-2 : tie.Need-returns
 unfolding close_waits
 returns-2 c =
-    record { model = c.leave-waits.ensures; adds = c.before.before.before.before.before.put-nothings.ensures }
+    record { model = c.leave_waits.ensures; adds = c.put_nothings-done.ensures }
 
-pub close-waits-spec : {M : Type 1} → statement M
-close-waits-spec =
+pub close_waits_spec : {M : Type 1} → statement M
+close_waits_spec =
     tie.close
     (tie.spec
     (λ c κs. search rules) (λ c. search rules) returns (λ c κs. search rules) (λ c. search rules) returns-2)

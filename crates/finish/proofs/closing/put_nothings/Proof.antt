@@ -14,52 +14,52 @@ use Rattle.finish.proofs.AnsweredLaws.{answered_more, answered-all}
 use Rattle.finish.proofs.closing.put_nothings.Statement.{statement}
 use Rattle.finish.proofs.closing.put_nothings.Tie as tie
 
-abbrev invariant-loop : tie.invariant-loop
+abbrev invariant-loop : tie.invariant-loop-i
 invariant-loop space answers₀ count waits done₀ i₀ answers done i =
     (i ≤ waits) × Answered (is_over (view space)) nothing (wait_row space) answers₀ answers count done i
 
-abbrev decreases-loop : tie.decreases-loop
+abbrev decreases-loop : tie.decreases-loop-i
 decreases-loop space answers₀ count waits done₀ i₀ answers done i = waits - i
 
-loop-again : tie.Need-loop-preserved invariant-loop decreases-loop
+loop-again : tie.Need-loop-i-preserved-then-not-over invariant-loop decreases-loop
 loop-again c =
-    let l = c.before.before.before.before.loop in (
+    let l = c.loop-i in (
       omega arith,
-      answered_passed l.invariant.1 refl (sym c.before.before.is-over.ensures ∙ not-true _ c.if1.true),
+      answered_passed l.invariant.1 refl (sym c.is_over-over.ensures ∙ not-true _ c.if-not-over.true),
     )
 
-add-record-requires : tie.Need-add-record-requires invariant-loop decreases-loop
+add-record-requires : tie.Need-add_record-done-requires invariant-loop decreases-loop
 add-record-requires c κs =
-    let loop = c.before.before.before.before.before.before in
-    answered-room loop.loop.invariant.1 (omega (arith, length-waits loop.before.before.before.args.space.now))
+    let loop = c in
+    answered-room loop.loop-i.invariant.1 (omega (arith, length-waits loop.args.space.now))
 
-loop-again-2 : tie.Need-loop-preserved-2 invariant-loop decreases-loop
+loop-again-2 : tie.Need-loop-i-preserved invariant-loop decreases-loop
 unfolding nothing
 loop-again-2 c =
-    let made = c.before.before.before.before in
-    let read = made.before.before in
-    let l = read.before.before.before in
-    let m = view l.before.before.before.args.space.now in
-    let test = sym read.before.is-over.ensures ∙ not-false _ made.before.if1.false in
-    let over = ap (is_over m) read.wait-at.ensures ∙ test in (
+    let made = c in
+    let read = made in
+    let l = read in
+    let m = view l.args.space.now in
+    let test = sym read.is_over-over.ensures ∙ not-false _ made.if-not-over.false in
+    let over = ap (is_over m) read.wait_at-w.ensures ∙ test in (
       omega arith,
-      answered_more l.loop.invariant.1 read.wait-at.ensures over made.plain-record.ensures (omega arith)
-          c.before.before.add-record.ensures,
+      answered_more l.loop-i.invariant.1 read.wait_at-w.ensures over made.plain_record-r.ensures (omega arith)
+          c.add_record-done.ensures,
     )
 
-same_length : tie.Need-same-length invariant-loop decreases-loop
+same_length : tie.Need-shape_of-answers invariant-loop decreases-loop
 same_length c =
-    answered-length c.before.loop.invariant.1
-    (omega (arith, length-waits c.before.before.before.before.args.space.now))
+    answered-length c.loop-i.invariant.1
+    (omega (arith, length-waits c.args.space.now))
 
 returns : tie.Need-returns invariant-loop decreases-loop
 unfolding close_waits
 returns c =
-    let s = c.before.before.before.before.args.space.now in
-    answered-all (waits-read s) (omega arith) c.before.loop.invariant.1
+    let s = c.args.space.now in
+    answered-all (waits-read s) (omega arith) c.loop-i.invariant.1
 
-pub put-nothings-spec : {M : Type 1} → statement M
-put-nothings-spec =
+pub put_nothings_spec : {M : Type 1} → statement M
+put_nothings_spec =
     tie.close
     (tie.spec
     invariant-loop decreases-loop (λ c κs. tt) (λ c. (omega arith, answered-start)) (λ c κs. omega arith) (λ c κs. omega arith)

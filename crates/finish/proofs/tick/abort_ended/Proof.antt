@@ -9,34 +9,34 @@ use Rattle.finish.proofs.AbortingLaws.{Aborting, aborting_more, aborting_done}
 use Rattle.finish.proofs.tick.abort_ended.Statement.{statement}
 use Rattle.finish.proofs.tick.abort_ended.Tie as tie
 
-abbrev invariant-loop : tie.invariant-loop
+abbrev invariant-loop : tie.invariant-loop-t
 invariant-loop space₀ space = Aborting (view space₀) (view space)
 
-abbrev decreases-loop : tie.decreases-loop
+abbrev decreases-loop : tie.decreases-loop-t
 decreases-loop space₀ space = length (view space).txns
 
-loop-holds : tie.Need-loop-init invariant-loop decreases-loop
+loop-holds : tie.Need-loop-t-init invariant-loop decreases-loop
 loop-holds c = record { rest = refl }
 
-returns : tie.Need-returns invariant-loop decreases-loop
+returns : tie.Need-returns-in_default invariant-loop decreases-loop
 returns c =
-    let first = c.before.before in
-    aborting_done first.before.before.loop.invariant
-    (sym first.first_ended.ensures ∙ ap live_of c.enum_told.given.1)
+    let first = c in
+    aborting_done first.loop-t.invariant
+    (sym first.first_ended.ensures ∙ ap live_of c.enum_told-1.given.1)
 
 -- one is aborted: fewer live, and the rest is still to be done
-turn : (c : tie.After-abort-txn invariant-loop decreases-loop)
-    → let loop = c.before.before.before.before.before.before.before in
-    let m = view c.abort-txn.new.0 in
-    Aborting (view loop.before.args.space.now) m × (length m.txns < length (view loop.loop.space).txns)
+turn : (c : tie.After-abort_txn invariant-loop decreases-loop)
+    → let loop = c in
+    let m = view c.abort_txn.new.space in
+    Aborting (view loop.args.space.now) m × (length m.txns < length (view loop.loop-t.space).txns)
 turn c =
-    let t = c.before.before.before in
-    let first = t.before.before in
-    aborting_more first.before.before.loop.invariant (sym first.first_ended.ensures ∙ ap live_of t.t.given.1)
-    c.abort-txn.ensures.0
+    let t = c in
+    let first = t in
+    aborting_more first.loop-t.invariant (sym first.first_ended.ensures ∙ ap live_of t.t-1.given.1)
+    c.abort_txn.ensures.0
 
-pub abort-ended-spec : {M : Type 1} → statement M
-abort-ended-spec =
+pub abort_ended_spec : {M : Type 1} → statement M
+abort_ended_spec =
     tie.close
     (tie.spec
     invariant-loop decreases-loop loop-holds (λ c κs. tt) (λ c. search rules) (λ c. search rules) returns (λ c κs. tt)

@@ -10,40 +10,40 @@ use Rattle.words.proofs.Tables.{txns-read}
 use Rattle.finish.proofs.tick.first_ended.Statement.{statement}
 use Rattle.finish.proofs.tick.first_ended.Tie as tie
 
-abbrev invariant-loop : tie.invariant-loop
-invariant-loop space now n i₀ i = (i ≤ n) × Searching (λ t. reached now t.end) (txn_row space) i × (now ≡ (view space).clock)
+abbrev invariant-loop : tie.invariant-loop-i
+invariant-loop space now n i₀ i = (i ≤ n) × Searching (λ t. reached now t.end) (txn_row space) i × (now ≡ (view space).clock-now)
 
-abbrev decreases-loop : tie.decreases-loop
+abbrev decreases-loop : tie.decreases-loop-i
 decreases-loop space now n i₀ i = n - i
 
-loop-holds : tie.Need-loop-init invariant-loop decreases-loop
-loop-holds c = (omega arith, search_start, c.before.clock.ensures)
+loop-holds : tie.Need-loop-i-init invariant-loop decreases-loop
+loop-holds c = (omega arith, search_start, c.clock-now.ensures)
 
-returns : tie.Need-returns invariant-loop decreases-loop
+returns : tie.Need-returns-then-reached_at invariant-loop decreases-loop
 returns c =
-    let loop = c.before.before.before.before in
-    let s = loop.before.before.before.args.space.now in
-    rw (sym loop.loop.invariant.2)
-    (sym (search_found (txns-read s) loop.loop.invariant.1 (omega arith) c.before.before.txn-at.ensures
-    (sym c.before.reached-at.ensures ∙ c.if1.true)))
+    let loop = c in
+    let s = loop.args.space.now in
+    rw (sym loop.loop-i.invariant.2)
+    (sym (search_found (txns-read s) loop.loop-i.invariant.1 (omega arith) c.txn_at-t.ensures
+    (sym c.reached_at.ensures ∙ c.if-reached_at.true)))
 
-loop-again : tie.Need-loop-preserved invariant-loop decreases-loop
+loop-again : tie.Need-loop-i-preserved invariant-loop decreases-loop
 loop-again c =
-    let l = c.before.before.before.before.loop in (
+    let l = c.loop-i in (
       omega arith,
-      search_more l.invariant.1 c.before.before.txn-at.ensures
-          (sym c.before.reached-at.ensures ∙ c.if1.false),
+      search_more l.invariant.1 c.txn_at-t.ensures
+          (sym c.reached_at.ensures ∙ c.if-reached_at.false),
       l.invariant.2,
     )
 
-returns-2 : tie.Need-returns-2 invariant-loop decreases-loop
+returns-2 : tie.Need-returns invariant-loop decreases-loop
 returns-2 c =
-    let l = c.before.loop in
+    let l = c.loop-i in
     rw (sym l.invariant.2)
-    (sym (search_none (txns-read c.before.before.before.before.args.space.now) l.invariant.1 (omega arith)))
+    (sym (search_none (txns-read c.args.space.now) l.invariant.1 (omega arith)))
 
-pub first-ended-spec : {M : Type 1} → statement M
-first-ended-spec =
+pub first_ended_spec : {M : Type 1} → statement M
+first_ended_spec =
     tie.close
     (tie.spec
     invariant-loop decreases-loop (λ c κs. tt) (λ c κs. tt) loop-holds (λ c κs. omega arith) (λ c κs. tt) returns

@@ -8,14 +8,14 @@ use Rattle.finish.proofs.tick.lapse.Tie as tie
 returns : tie.Need-returns
 unfolding lapsed
 returns c =
-    let aborted = c.before.before in
+    let aborted = c in
     record {
-      model = c.drop-ended.ensures ∙ ap drop_ended aborted.abort-ended.ensures;
-      adds = aborted.before.before.before.before.put-exceptions.ensures;
+      model = c.drop_ended.ensures ∙ ap drop_ended aborted.abort_ended.ensures;
+      adds = aborted.put_exceptions-done.ensures;
     }
 
-pub lapse-spec : {M : Type 1} → statement M
-lapse-spec =
+pub lapse_spec : {M : Type 1} → statement M
+lapse_spec =
     tie.close
     (tie.spec
     (λ c κs. search rules) (λ c κs. search rules) (λ c κs. search rules) (λ c. search rules) returns)

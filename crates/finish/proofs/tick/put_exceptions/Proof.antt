@@ -20,53 +20,53 @@ use Rattle.finish.proofs.tick.put_exceptions.Tie as tie
 abbrev ends : ℕ → Txn → Bool
 ends now t = reached now t.end
 
-abbrev invariant-loop : tie.invariant-loop
+abbrev invariant-loop : tie.invariant-loop-i
 invariant-loop space answers₀ count now txns done₀ i₀ answers done i =
-    (i ≤ txns) × Answered (ends now) exception (txn_row space) answers₀ answers count done i × (now ≡ (view space).clock)
+    (i ≤ txns) × Answered (ends now) exception (txn_row space) answers₀ answers count done i × (now ≡ (view space).clock-now)
 
-abbrev decreases-loop : tie.decreases-loop
+abbrev decreases-loop : tie.decreases-loop-i
 decreases-loop space answers₀ count now txns done₀ i₀ answers done i = txns - i
 
-loop-holds : tie.Need-loop-init invariant-loop decreases-loop
-loop-holds c = (omega arith, answered-start, c.before.clock.ensures)
+loop-holds : tie.Need-loop-i-init invariant-loop decreases-loop
+loop-holds c = (omega arith, answered-start, c.clock-now.ensures)
 
-loop-again : tie.Need-loop-preserved invariant-loop decreases-loop
+loop-again : tie.Need-loop-i-preserved-then-not-reached_at invariant-loop decreases-loop
 loop-again c =
-    let l = c.before.before.before.before.loop in (
+    let l = c.loop-i in (
       omega arith,
-      answered_passed l.invariant.1 c.before.before.txn-at.ensures
-          (sym c.before.reached-at.ensures ∙ not-true _ c.if1.true),
+      answered_passed l.invariant.1 c.txn_at-t.ensures
+          (sym c.reached_at.ensures ∙ not-true _ c.if-not-reached_at.true),
       l.invariant.2,
     )
 
-add-record-requires : tie.Need-add-record-requires invariant-loop decreases-loop
-add-record-requires c κs = answered-room c.before.before.before.before.before.before.loop.invariant.1 (omega arith)
+add-record-requires : tie.Need-add_record-done-requires invariant-loop decreases-loop
+add-record-requires c κs = answered-room c.loop-i.invariant.1 (omega arith)
 
-loop-again-2 : tie.Need-loop-preserved-2 invariant-loop decreases-loop
+loop-again-2 : tie.Need-loop-i-preserved invariant-loop decreases-loop
 unfolding exception
 loop-again-2 c =
-    let made = c.before.before.before.before in
-    let test = made.before.before in
-    let l = test.before.before.before.loop in
-    let ends_now = sym test.reached-at.ensures ∙ not-false _ made.before.if1.false in (
+    let made = c in
+    let test = made in
+    let l = test.loop-i in
+    let ends_now = sym test.reached_at.ensures ∙ not-false _ made.if-not-reached_at.false in (
       omega arith,
-      answered_more l.invariant.1 test.before.txn-at.ensures ends_now made.plain-record.ensures
-          (omega arith) c.before.before.add-record.ensures,
+      answered_more l.invariant.1 test.txn_at-t.ensures ends_now made.plain_record-r.ensures
+          (omega arith) c.add_record-done.ensures,
       l.invariant.2,
     )
 
-same_length : tie.Need-same-length invariant-loop decreases-loop
-same_length c = answered-length c.before.loop.invariant.1 (omega arith)
+same_length : tie.Need-shape_of-answers invariant-loop decreases-loop
+same_length c = answered-length c.loop-i.invariant.1 (omega arith)
 
 returns : tie.Need-returns invariant-loop decreases-loop
 unfolding ended_txns
 returns c =
-    let l = c.before.loop in
-    let s = c.before.before.before.before.before.args.space.now in
+    let l = c.loop-i in
+    let s = c.args.space.now in
     rw (sym l.invariant.2) (answered-all (txns-read s) (omega arith) l.invariant.1)
 
-pub put-exceptions-spec : {M : Type 1} → statement M
-put-exceptions-spec =
+pub put_exceptions_spec : {M : Type 1} → statement M
+put_exceptions_spec =
     tie.close
     (tie.spec
     invariant-loop decreases-loop (λ c κs. tt) (λ c κs. tt) loop-holds (λ c κs. omega arith) (λ c. omega arith) (λ c κs. tt)

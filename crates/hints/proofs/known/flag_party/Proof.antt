@@ -7,7 +7,7 @@ use Rattle.hints.proofs.known.flag_party.Tie as tie
 returns : tie.Need-returns
 returns c = flag-stands _ c.whole.ensures _
 
-pub flag-party-spec : {M : Type 1} → statement M
-flag-party-spec =
+pub flag_party_spec : {M : Type 1} → statement M
+flag_party_spec =
     tie.close
     (tie.spec (λ c κs. search rules) (λ c. search rules) (λ c. search rules) (λ c. search rules) returns)

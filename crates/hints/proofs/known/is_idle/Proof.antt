@@ -6,7 +6,7 @@ use Rattle.hints.proofs.known.is_idle.Statement.{statement}
 use Rattle.hints.proofs.known.is_idle.Tie as tie
 
 returns : tie.Need-returns
-returns c = λ t. let l = ltb-true _ _ t in (l, omega (arith, l, c.before.before.well-formed))
+returns c = λ t. let l = ltb-true _ _ t in (l, omega (arith, l, c.well_formed))
 
-pub is-idle-spec : {M : Type 1} → statement M
-is-idle-spec = tie.close (tie.spec (λ c. search rules) returns)
+pub is_idle_spec : {M : Type 1} → statement M
+is_idle_spec = tie.close (tie.spec (λ c. search rules) returns)

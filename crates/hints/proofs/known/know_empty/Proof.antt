@@ -12,5 +12,5 @@ returns c =
       idle = λ _. all_none _;
     }
 
-pub know-empty-spec : {M : Type 1} → statement M
-know-empty-spec = tie.close (tie.spec (λ c. search rules) returns)
+pub know_empty_spec : {M : Type 1} → statement M
+know_empty_spec = tie.close (tie.spec (λ c. search rules) returns)

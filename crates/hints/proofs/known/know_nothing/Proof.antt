@@ -22,5 +22,5 @@ returns c = λ m.
       idle = λ l. absurd (omega arith);
     }
 
-pub know-nothing-spec : {M : Type 1} → statement M
-know-nothing-spec = tie.close (tie.spec (λ c. search rules) returns)
+pub know_nothing_spec : {M : Type 1} → statement M
+know_nothing_spec = tie.close (tie.spec (λ c. search rules) returns)

@@ -5,14 +5,14 @@ use Rattle.hints.proofs.HintLaws.{least-falls, weaker-same}
 use Rattle.hints.proofs.known.lower.Statement.{statement}
 use Rattle.hints.proofs.known.lower.Tie as tie
 
-returns : tie.Need-returns
+returns : tie.Need-returns-then-tick-hints
 returns c =
-    let a = c.before.before.before.before.args in
-    let l = least-falls a.hints.now c.before.before.whole.ensures a.tick (omega (arith, c.if1.true)) in
+    let a = c.args in
+    let l = least-falls a.hints.now c.whole.ensures a.tick (omega (arith, c.if-tick-hints.true)) in
     (l.0, omega (arith, l.1))
 
-returns-2 : tie.Need-returns-2
-returns-2 c = (weaker-same, omega (arith, c.if1.false))
+returns-2 : tie.Need-returns-else-tick-hints
+returns-2 c = (weaker-same, omega (arith, c.if-tick-hints.false))
 
 pub lower_spec : {M : Type 1} → statement M
 lower_spec =

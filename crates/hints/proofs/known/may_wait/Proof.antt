@@ -7,5 +7,5 @@ use Rattle.hints.proofs.known.may_wait.Statement.{statement}
 returns : tie.Need-returns
 returns c = λ e. eqb-true _ 0 (not-false _ e)
 
-pub may-wait-spec : {M : Type 1} → statement M
-may-wait-spec = tie.close (tie.spec (λ c. search rules) (λ c. search rules) (λ c. search rules) returns)
+pub may_wait_spec : {M : Type 1} → statement M
+may_wait_spec = tie.close (tie.spec (λ c. search rules) (λ c. search rules) (λ c. search rules) returns)

@@ -5,9 +5,9 @@ use Rattle.hints.proofs.HintLaws.{acted-grows}
 use Rattle.hints.proofs.known.note_acted.Statement.{statement}
 use Rattle.hints.proofs.known.note_acted.Tie as tie
 
-returns : tie.Need-returns
-returns c = acted-grows _ c.before.before.before.whole.ensures _ (omega (arith, c.if1.true))
+returns : tie.Need-returns-then-hints-id
+returns c = acted-grows _ c.whole.ensures _ (omega (arith, c.if-hints-id.true))
 
-pub note-acted-spec : {M : Type 1} → statement M
-note-acted-spec =
+pub note_acted_spec : {M : Type 1} → statement M
+note_acted_spec =
     tie.close (tie.spec (λ c κs. search rules) (λ c. search rules) (λ c. search rules) returns (λ c. search rules))

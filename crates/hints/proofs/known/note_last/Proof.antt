@@ -11,29 +11,29 @@ use Rattle.hints.proofs.HintLaws.{weaker-same, weaker-then, word-not_before, row
 use Rattle.hints.proofs.known.note_last.Statement.{statement}
 use Rattle.hints.proofs.known.note_last.Tie as tie
 
-returns : tie.Need-returns
+returns : tie.Need-returns-then-n-eq0
 returns c = (
   weaker-same,
   λ vs w e.
-      let r = row_last (waits-read c.before.before.args.space.now) vs w e in
-      absurd (omega (arith, r.0, c.if1.true, c.before.wait-count.ensures)),
+      let r = row_last (waits-read c.args.space.now) vs w e in
+      absurd (omega (arith, r.0, c.if-n-eq0.true, c.wait_count-n.ensures)),
 )
 
-returns-2 : tie.Need-returns-2
+returns-2 : tie.Need-returns
 returns-2 c =
-    let f = c.flag-party.ensures in
-    let l = c.before.before.lower.ensures in
-    let s = c.before.before.before.wait-end.ensures in
-    let at = c.before.before.before.before.before in
-    let start = at.before.before.before in (
+    let f = c.flag_party.ensures in
+    let l = c.lower.ensures in
+    let s = c.wait_end.ensures in
+    let at = c in
+    let start = at in (
       weaker-then l.0 f.0,
       λ vs w e.
           let r = row_last (waits-read start.args.space.now) vs w e in
-          let hs = c.flag-party.new.0 in
+          let hs = c.flag_party.new.hints in
           let q =
           r.1
-          ∙ ap (wait_row start.args.space.now) (omega (arith, at.before.before.wait-count.ensures))
-          ∙ sym at.wait-at.ensures in
+          ∙ ap (wait_row start.args.space.now) (omega (arith, at.wait_count-n.ensures))
+          ∙ sym at.wait_at-w.ensures in
           subst⁻¹ (λ (v : LookUp). NotBefore (least hs) v.deadline × Flagged hs v) q (
             word-not_before _ (omega (
               arith,
@@ -41,14 +41,14 @@ returns-2 c =
               l.1,
               s,
               ap (λ (v : LookUp). until_word v.deadline)
-                  at.wait-at.ensures,
+                  at.wait_at-w.ensures,
             )),
             f.1,
           ),
     )
 
-pub note-last-spec : {M : Type 1} → statement M
-note-last-spec =
+pub note_last_spec : {M : Type 1} → statement M
+note_last_spec =
     tie.close
     (tie.spec (λ c κs. search rules) returns (λ c. search rules) (λ c κs. search rules) (λ c κs. search rules)
     (λ c κs. search rules) (λ c κs. search rules) returns-2)

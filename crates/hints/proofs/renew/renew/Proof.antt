@@ -8,12 +8,12 @@ use Rattle.hints.proofs.renew.renew.Statement.{statement}
 
 returns : tie.Need-returns
 returns c =
-    let f = c.flag-waiting.ensures in
-    let s = c.before.before.set-least.ensures in
-    let w = c.before.before.before.before.waits-end.ensures in
-    let g = c.before.before.before.before.before.registrations-end.ensures in
-    let t = c.before.before.before.before.before.before.txns-end.ensures in
-    let e = c.before.before.before.before.before.before.before.entries-end.ensures in
+    let f = c.flag_waiting.ensures in
+    let s = c.set_least.ensures in
+    let w = c.waits_end-d.ensures in
+    let g = c.registrations_end-c.ensures in
+    let t = c.txns_end-b.ensures in
+    let e = c.entries_end-a.ensures in
     let least = f.1 ∙ s.0 in
     record {
       ends = record {
@@ -26,8 +26,8 @@ returns c =
       same = f.2 ∙ s.1;
     }
 
-pub renew-spec : {M : Type 1} → statement M
-renew-spec =
+pub renew_spec : {M : Type 1} → statement M
+renew_spec =
     tie.close
     (tie.spec
     (λ c κs. search rules) (λ c κs. search rules) (λ c κs. search rules) (λ c κs. search rules) (λ c κs. search rules)

@@ -11,36 +11,36 @@ use Rattle.hints.proofs.HintLaws.{Passed, passed_none, passed_more, passed_all, 
 use Rattle.hints.proofs.renew.txns_end.Statement.{statement}
 use Rattle.hints.proofs.renew.txns_end.Tie as tie
 
-abbrev invariant-loop : tie.invariant-loop
+abbrev invariant-loop : tie.invariant-loop-i
 invariant-loop space tick n least₀ i₀ least i =
     (i ≤ n) × (least ≤ tick) × Passed (λ (t : Txn). NotBefore least t.end) (txn_row space) i
 
-abbrev decreases-loop : tie.decreases-loop
+abbrev decreases-loop : tie.decreases-loop-i
 decreases-loop space tick n least₀ i₀ least i = n - i
 
-loop-holds : tie.Need-loop-init invariant-loop decreases-loop
+loop-holds : tie.Need-loop-i-init invariant-loop decreases-loop
 loop-holds c = (omega arith, omega arith, passed_none)
 
-loop-again : tie.Need-loop-preserved invariant-loop decreases-loop
+loop-again : tie.Need-loop-i-preserved invariant-loop decreases-loop
 loop-again c =
-    let l = c.before.before.before.loop in
+    let l = c.loop-i in
     let i = l.invariant in
-    let s = c.sooner.ensures in
-    let x = txn_row c.before.before.before.before.before.args.space.now l.i in
-    let ends = word-not_before {n = c.sooner.result} x.end (omega (arith, s.1, c.before.txn-end.ensures)) in
+    let s = c.sooner-least.ensures in
+    let x = txn_row c.args.space.now l.i in
+    let ends = word-not_before {n = c.sooner-least.result} x.end (omega (arith, s.1, c.txn_end.ensures)) in
     let more = passed_more i.2 (λ y p. sooner_still _ s.0 p) refl ends in
     (omega arith, omega (arith, s.0, i.1), more)
 
 returns : tie.Need-returns invariant-loop decreases-loop
 returns c =
-    let i = c.before.loop.invariant in
+    let i = c.loop-i.invariant in
     let all =
-    passed_all (txns-read c.before.before.before.args.space.now) i.2
-    (λ l. omega (arith, l, c.loop-test.false, c.before.before.txn-count.ensures.0)) in
+    passed_all (txns-read c.args.space.now) i.2
+    (λ l. omega (arith, l, c.loop-i-test.false, c.txn_count-n.ensures.0)) in
     (i.1, all)
 
-pub txns-end-spec : {M : Type 1} → statement M
-txns-end-spec =
+pub txns_end_spec : {M : Type 1} → statement M
+txns_end_spec =
     tie.close
     (tie.spec
     invariant-loop decreases-loop (λ c κs. tt) loop-holds (λ c κs. omega arith) (λ c κs. tt) (λ c. omega arith) (λ c. omega arith)

@@ -11,17 +11,17 @@ use Rattle.holds.proofs.endings.abort_txn.Tie as tie
 
 returns : tie.Need-returns
 returns c =
-    let b = c.before.before.before.before in
-    let a = b.before.before.before.before.args in
-    let left = c.before.before.leave-waits.ensures in
+    let b = c in
+    let a = b.args in
+    let left = c.leave_waits.ensures in
     let done =
-    aborted-model a.space.now a.id _ b.before.before.slot_of.ensures.0 _ _ _ b.pass-over.ensures.0
-    left c.remove-txn.ensures in
-    let front : Model → List Entry = λ m. take b.pass-over.result m.entries in
-    (done, ap front c.remove-txn.ensures ∙ ap front left ∙ b.pass-over.ensures.2)
+    aborted-model a.space.now a.id _ b.slot_of-p.ensures.0 _ _ _ b.pass_over-first.ensures.0
+    left c.remove_txn.ensures in
+    let front : Model → List Entry = λ m. take b.pass_over-first.result m.entries in
+    (done, ap front c.remove_txn.ensures ∙ ap front left ∙ b.pass_over-first.ensures.2)
 
-pub abort-txn-spec : {M : Type 1} → statement M
-abort-txn-spec =
+pub abort_txn_spec : {M : Type 1} → statement M
+abort_txn_spec =
     tie.close
     (tie.spec (λ c κs. search rules) (λ c κs. search rules) (λ c κs. search rules) (λ c κs. search rules)
     returns)

@@ -9,14 +9,14 @@ use Rattle.holds.proofs.endings.commit_txn.Tie as tie
 
 returns : tie.Need-returns
 returns c =
-    let b = c.before.before in
-    let a = b.before.before.before.before.args in
+    let b = c in
+    let a = b.args in
     let done =
-    committed-model a.space.now a.id _ b.before.before.slot_of.ensures.0 _ _ b.pass-over.ensures.0
-    c.remove-txn.ensures in
-    let same = ap (λ (m : Model). take b.pass-over.result m.entries) c.remove-txn.ensures in
-    (done, same ∙ b.pass-over.ensures.2)
+    committed-model a.space.now a.id _ b.slot_of-p.ensures.0 _ _ b.pass_over-first.ensures.0
+    c.remove_txn.ensures in
+    let same = ap (λ (m : Model). take b.pass_over-first.result m.entries) c.remove_txn.ensures in
+    (done, same ∙ b.pass_over-first.ensures.2)
 
-pub commit-txn-spec : {M : Type 1} → statement M
-commit-txn-spec =
+pub commit_txn_spec : {M : Type 1} → statement M
+commit_txn_spec =
     tie.close (tie.spec (λ c κs. search rules) (λ c κs. search rules) (λ c κs. search rules) returns)

@@ -17,10 +17,10 @@ use Rattle.holds.specs.Leave.{leaves, stays}
 use Rattle.holds.proofs.endings.leave_waits.Statement.{statement}
 use Rattle.holds.proofs.endings.leave_waits.Tie as tie
 
-abbrev invariant-loop : tie.invariant-loop
+abbrev invariant-loop : tie.invariant-loop-i
 invariant-loop space₀ l count i₀ n₀ space i n = (i ≤ count) × Leaving wait_table (stays (view space₀) l) space₀ space i n
 
-abbrev decreases-loop : tie.decreases-loop
+abbrev decreases-loop : tie.decreases-loop-i
 decreases-loop space₀ l count i₀ n₀ space i n = count - i
 
 -- what leaves is told by entries, transactions and clock, which stay
@@ -30,35 +30,35 @@ unfolding is_over
 leaves-same (Inside t) c k w = refl
 leaves-same Over {ws₀} {ws} c k w = ap (λ m. is_over m w) (view-waits ws ws₀ (compact_mid c k))
 
-loop-again : tie.Need-loop-preserved invariant-loop decreases-loop
+loop-again : tie.Need-loop-i-preserved-then-is_leaving invariant-loop decreases-loop
 loop-again c =
-    let loop = c.before.before.before.before in
-    let i = loop.loop.invariant in
-    let same = leaves-same loop.before.before.before.args.l i.1 (omega arith) _ in
-    let test = ap not (sym same ∙ sym c.before.is-leaving.ensures ∙ c.if1.true) in
+    let loop = c in
+    let i = loop.loop-i.invariant in
+    let same = leaves-same loop.args.l i.1 (omega arith) _ in
+    let test = ap not (sym same ∙ sym c.is_leaving.ensures ∙ c.if-is_leaving.true) in
     (omega arith, compact_passed i.1 refl test)
 
-loop-again-2 : tie.Need-loop-preserved-2 invariant-loop decreases-loop
+loop-again-2 : tie.Need-loop-i-preserved invariant-loop decreases-loop
 loop-again-2 c =
-    let b = c.before.before in
-    let loop = b.before.before.before.before in
-    let i = loop.loop.invariant in
-    let long = loop.before.wait-count.ensures.1 in
-    let same = leaves-same loop.before.before.before.args.l i.1 (omega arith) _ in
-    let test = ap not (sym same ∙ sym b.before.is-leaving.ensures ∙ b.if1.false) in
-    (omega arith, compact_moved i.1 refl test (omega arith) (omega (arith, long)) c.move-wait.ensures refl)
+    let b = c in
+    let loop = b in
+    let i = loop.loop-i.invariant in
+    let long = loop.wait_count-count.ensures.1 in
+    let same = leaves-same loop.args.l i.1 (omega arith) _ in
+    let test = ap not (sym same ∙ sym b.is_leaving.ensures ∙ b.if-is_leaving.false) in
+    (omega arith, compact_moved i.1 refl test (omega arith) (omega (arith, long)) c.move_wait.ensures refl)
 
 returns : tie.Need-returns invariant-loop decreases-loop
 unfolding view waits
 returns c =
-    let l = c.before.before.before.loop in
-    let long = c.before.before.before.before.wait-count.ensures.1 in
-    view-waits _ _ (leaving_done l.invariant.1 c.set-wait-count.ensures (omega arith) (omega (arith, long)))
+    let l = c.loop-i in
+    let long = c.wait_count-count.ensures.1 in
+    view-waits _ _ (leaving_done l.invariant.1 c.set_wait_count.ensures (omega arith) (omega (arith, long)))
 
-pub leave-waits-spec : {M : Type 1} → statement M
-leave-waits-spec =
+pub leave_waits_spec : {M : Type 1} → statement M
+leave_waits_spec =
     tie.close
     (tie.spec invariant-loop decreases-loop (λ c κs. tt) (λ c. (omega arith, compact_start)) (λ c κs. omega arith)
     (λ c. omega arith) (λ c. omega arith) loop-again (λ c κs. omega arith) (λ c. omega arith)
     (λ c. omega arith) (λ c. omega arith) loop-again-2
-    (λ c κs. omega (arith, c.before.before.loop.invariant.1.behind)) returns)
+    (λ c κs. omega (arith, c.loop-i.invariant.1.behind)) returns)

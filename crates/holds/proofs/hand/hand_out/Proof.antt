@@ -19,61 +19,61 @@ use Rattle.holds.proofs.hand.hand_out.Tie as tie
 found : (s : tie.Start) → let a = s.args in get_or (view a.space.now).entries a.row a.e ≡ a.e
 found s = entry_in s.args.space.now s.args.row s.args.e s.requires.0 ∙ sym s.requires.1
 
-returns : tie.Need-returns
+returns : tie.Need-returns-then-is_removed
 unfolding removes
 returns c =
-    let b = c.before.before in
-    let s = b.before.before.before.before in
+    let b = c in
+    let s = b in
     let a = s.args in
     let ws = a.space.now in
-    let t = sym b.before.is_removed.ensures ∙ b.if1.true in (
+    let t = sym b.is_removed.ensures ∙ b.if-is_removed.true in (
       c.remove_entry.ensures.0 ∙ handed_removed a.w a.e a.row (view ws) t,
       c.remove_entry.ensures.1,
     )
 
-returns-2 : tie.Need-returns-2
+returns-2 : tie.Need-returns-then-is_marked
 unfolding removes
 returns-2 c =
-    let slot = c.before.before.before.before.before in
-    let b = slot.before.before in
-    let s = b.before.before.before.before in
+    let slot = c in
+    let b = slot in
+    let s = b in
     let a = s.args in
     let ws = a.space.now in
-    let t = sym b.before.is_removed.ensures ∙ b.if1.false in (
-      c.set-entry.ensures.0
-          ∙ ap (λ x. with_entries (set (view ws).entries a.row x) (view ws)) c.before.before.mark.ensures
-          ∙ handed-marked ws a.w _ slot.slot_of.ensures.0 a.e t a.row,
-      c.set-entry.ensures.1,
+    let t = sym b.is_removed.ensures ∙ b.if-is_removed.false in (
+      c.set_entry.ensures.0
+          ∙ ap (λ x. with_entries (set (view ws).entries a.row x) (view ws)) c.mark-x.ensures
+          ∙ handed-marked ws a.w _ slot.slot_of-p.ensures.0 a.e t a.row,
+      c.set_entry.ensures.1,
     )
 
-returns-3 : tie.Need-returns-3
+returns-3 : tie.Need-returns
 unfolding removes
 returns-3 c =
-    let slot = c.before.before.before.before in
-    let b = slot.before.before in
-    let s = b.before.before.before.before in
+    let slot = c in
+    let b = slot in
+    let s = b in
     let a = s.args in
-    let p = slot.slot_of.result in
+    let p = slot.slot_of-p.result in
     let no = not (eqb p no_slot) in
-    let u = sym c.before.before.before.is-marked.ensures ∙ c.before.before.if2.false in
+    let u = sym c.is_marked.ensures ∙ c.if-is_marked.false in
     let z = eqb-true p no_slot (not-false (eqb p no_slot) (or_right a.w.takes no u)) in
-    let t = sym b.before.is_removed.ensures ∙ b.if1.false in (
-      handed_unmarked a.space.now a.w p slot.slot_of.ensures.0 a.e t a.row (found s) z
+    let t = sym b.is_removed.ensures ∙ b.if-is_removed.false in (
+      handed_unmarked a.space.now a.w p slot.slot_of-p.ensures.0 a.e t a.row (found s.before.before.before.before.before.before.before.before) z
           (or_left a.w.takes no u),
       c.whole.ensures,
     )
 
-set-entry-requires : tie.Need-set-entry-requires
+set-entry-requires : tie.Need-set_entry-requires
 set-entry-requires c κs =
-    let s = c.before.before.before.before.before.before.before.before.before.before in
+    let s = c in
     let a = s.args in (
       s.requires.0,
-      rw (c.before.mark.ensures, s.requires.1)
-          (marked-fits a.w.takes a.w.txn _ (row entries_at entry_width a.space.now a.row)),
+      rw (c.mark-x.ensures, s.requires.1)
+          (marked-fits a.w.takes a.w.txn-1 _ (row entries_at entry_width a.space.now a.row)),
     )
 
-pub hand-out-spec : {M : Type 1} → statement M
-hand-out-spec =
+pub hand_out_spec : {M : Type 1} → statement M
+hand_out_spec =
     tie.close
     (tie.spec (λ c κs. search rules) (λ c κs. search rules) returns (λ c κs. search rules) (λ c κs. search rules)
     (λ c κs. search rules) set-entry-requires returns-2 (λ c κs. search rules) returns-3)

@@ -5,17 +5,17 @@ use Rattle.holds.specs.Sweep.{marked_at}
 use Rattle.holds.proofs.hand.mark.Statement.{statement}
 use Rattle.holds.proofs.hand.mark.Tie as tie
 
-returns : tie.Need-returns
+returns : tie.Need-returns-then-e-t
 unfolding marked_at
-returns c = rw (eq-eqb _ _ c.if1.true)
+returns c = rw (eq-eqb _ _ c.if-e-t.true)
 
-returns-2 : tie.Need-returns-2
+returns-2 : tie.Need-returns-then-takes
 unfolding marked_at
-returns-2 c = rw (ne_eqb _ _ c.before.before.if1.false, c.before.if2.true, c.drop-reader.ensures)
+returns-2 c = rw (ne_eqb _ _ c.if-e-t.false, c.if-takes.true, c.drop_reader.ensures)
 
-returns-3 : tie.Need-returns-3
+returns-3 : tie.Need-returns
 unfolding marked_at
-returns-3 c = rw (ne_eqb _ _ c.before.before.if1.false, c.before.if2.false, c.add-reader.ensures)
+returns-3 c = rw (ne_eqb _ _ c.if-e-t.false, c.if-takes.false, c.add_reader.ensures)
 
 pub mark_spec : {M : Type 1} → statement M
 mark_spec = tie.close (tie.spec returns (λ c κs. search rules) returns-2 (λ c κs. search rules) returns-3)

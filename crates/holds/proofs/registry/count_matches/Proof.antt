@@ -4,21 +4,21 @@ use borrow.Author.Rules.{rules}
 use Rattle.holds.proofs.registry.count_matches.Tie as tie
 use Rattle.holds.proofs.registry.count_matches.Statement.{statement}
 
-returns : tie.Need-returns
+returns : tie.Need-returns-then-fields_match
 returns c =
-    let told = c.before.before.before.before in
-    rw (told.p.given.1, sym c.before.fields-match.ensures ∙ c.if1.true)
+    let told = c in
+    rw (told.p-1.given.1, sym c.fields_match.ensures ∙ c.if-fields_match.true)
 
-returns-2 : tie.Need-returns-2
+returns-2 : tie.Need-returns-else-fields_match
 returns-2 c =
-    let told = c.before.before.before.before in
-    rw (told.p.given.1, sym c.before.fields-match.ensures ∙ c.if1.false)
+    let told = c in
+    rw (told.p-1.given.1, sym c.fields_match.ensures ∙ c.if-fields_match.false)
 
-returns-3 : tie.Need-returns-3
-returns-3 c = rw (c.before.before.p2.given.1, c.count-own.ensures)
+returns-3 : tie.Need-returns-in-Committed
+returns-3 c = rw (c.p-in-Committed-1.given.1, c.count_own.ensures)
 
-pub count-matches-spec : {M : Type 1} → statement M
-count-matches-spec =
+pub count_matches_spec : {M : Type 1} → statement M
+count_matches_spec =
     tie.close
     (tie.spec
     (λ c. search rules) (λ c κs. search rules) (λ c. search rules) (λ c κs. search rules) returns returns-2 returns-3)

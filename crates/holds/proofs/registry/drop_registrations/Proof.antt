@@ -16,49 +16,49 @@ use Rattle.holds.proofs.registry.drop_registrations.Statement.{statement}
 abbrev lasts : ℕ → Registration → Bool
 lasts clock g = not (reached clock g.end)
 
-abbrev invariant-loop : tie.invariant-loop
+abbrev invariant-loop : tie.invariant-loop-i
 invariant-loop space₀ now count i₀ n₀ space i n =
-    (i ≤ count) × Leaving registration_table (lasts (view space₀).clock) space₀ space i n
+    (i ≤ count) × Leaving registration_table (lasts (view space₀).clock-now) space₀ space i n
 
-abbrev decreases-loop : tie.decreases-loop
+abbrev decreases-loop : tie.decreases-loop-i
 decreases-loop space₀ now count i₀ n₀ space i n = count - i
 
-loop-again : tie.Need-loop-preserved invariant-loop decreases-loop
+loop-again : tie.Need-loop-i-preserved-then-reached_at invariant-loop decreases-loop
 loop-again c =
-    let read = c.before.before in
-    let loop = read.before.before.before in
-    let now = loop.before.before.before.clock.ensures in
-    let test = ap (λ t. lasts t read.registration-at.result) (sym now)
-    ∙ ap not (sym c.before.reached-at.ensures ∙ c.if1.true) in
-    (omega arith, compact_passed loop.loop.invariant.1 read.registration-at.ensures test)
+    let read = c in
+    let loop = read in
+    let now = loop.clock-now.ensures in
+    let test = ap (λ t. lasts t read.registration_at-g.result) (sym now)
+    ∙ ap not (sym c.reached_at.ensures ∙ c.if-reached_at.true) in
+    (omega arith, compact_passed loop.loop-i.invariant.1 read.registration_at-g.ensures test)
 
-loop-again-2 : tie.Need-loop-preserved-2 invariant-loop decreases-loop
+loop-again-2 : tie.Need-loop-i-preserved invariant-loop decreases-loop
 loop-again-2 c =
-    let b = c.before.before in
-    let read = b.before.before in
-    let loop = read.before.before.before in
-    let now = loop.before.before.before.clock.ensures in
-    let long = loop.before.registration-count.ensures.1 in
-    let test = ap (λ t. lasts t read.registration-at.result) (sym now)
-    ∙ ap not (sym b.before.reached-at.ensures ∙ b.if1.false) in (
+    let b = c in
+    let read = b in
+    let loop = read in
+    let now = loop.clock-now.ensures in
+    let long = loop.registration_count-count.ensures.1 in
+    let test = ap (λ t. lasts t read.registration_at-g.result) (sym now)
+    ∙ ap not (sym b.reached_at.ensures ∙ b.if-reached_at.false) in (
       omega arith,
-      compact_moved loop.loop.invariant.1 read.registration-at.ensures test (omega arith) (omega (arith, long))
-          c.move-registration.ensures refl,
+      compact_moved loop.loop-i.invariant.1 read.registration_at-g.ensures test (omega arith) (omega (arith, long))
+          c.move_registration.ensures refl,
     )
 
 returns : tie.Need-returns invariant-loop decreases-loop
 unfolding view registrations unregistered
 returns c =
-    let l = c.before.before.before.loop in
-    let long = c.before.before.before.before.registration-count.ensures.1 in
+    let l = c.loop-i in
+    let long = c.registration_count-count.ensures.1 in
     view-registrations _ _
-    (leaving_done l.invariant.1 c.set-registration-count.ensures (omega arith) (omega (arith, long)))
+    (leaving_done l.invariant.1 c.set_registration_count.ensures (omega arith) (omega (arith, long)))
 
-pub drop-registrations-spec : {M : Type 1} → statement M
-drop-registrations-spec =
+pub drop_registrations_spec : {M : Type 1} → statement M
+drop_registrations_spec =
     tie.close
     (tie.spec
     invariant-loop decreases-loop (λ c κs. tt) (λ c κs. tt) (λ c. (omega arith, compact_start)) (λ c κs. omega arith) (λ c κs. tt)
     (λ c. omega arith) (λ c. omega arith) loop-again (λ c κs. omega arith) (λ c. omega arith) (λ c. omega arith)
     (λ c. omega arith) loop-again-2
-    (λ c κs. omega (arith, c.before.before.loop.invariant.1.behind)) returns)
+    (λ c κs. omega (arith, c.loop-i.invariant.1.behind)) returns)

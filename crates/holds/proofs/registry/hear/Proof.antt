@@ -13,70 +13,70 @@ use Rattle.holds.specs.Registry.{heard_once, heard_by}
 use Rattle.holds.proofs.RegistryLaws.{heard_all, heard-count, heard-row, end-registered}
 use Rattle.holds.proofs.registry.hear.Statement.{statement}
 
-abbrev invariant-loop : tie.invariant-loop
+abbrev invariant-loop : tie.invariant-loop-i
 invariant-loop space₀ counts limit n i₀ space i =
     (i ≤ n)
-    × (view space ≡ with_registrations (heard_by (view space₀).next_entry (take i counts) (view space₀).registrations)
+    × (view space ≡ with_registrations (heard_by (view space₀).next_entry-limit (take i counts) (view space₀).registrations)
     (view space₀))
 
-abbrev decreases-loop : tie.decreases-loop
+abbrev decreases-loop : tie.decreases-loop-i
 decreases-loop space₀ counts limit n i₀ space i = n - i
 
-begun : tie.Need-loop-init invariant-loop decreases-loop
+begun : tie.Need-loop-i-init invariant-loop decreases-loop
 unfolding heard_by
 begun c = (omega arith, refl)
 
-set-registration-requires : tie.Need-set-registration-requires invariant-loop decreases-loop
+set-registration-requires : tie.Need-set_registration-requires invariant-loop decreases-loop
 set-registration-requires c κs =
-    let read = c.before.before.before in
-    let loop = read.before.before.before in
-    let row = read.registration-at.ensures in
-    let made = c.before.hear-once.ensures in
-    let cs = loop.before.before.before.before.before.before.args.counts.now in (
+    let read = c in
+    let loop = read in
+    let row = read.registration_at-g.ensures in
+    let made = c.hear_once-x.ensures in
+    let cs = loop.args.counts.now in (
       omega (
         arith,
-        heard-count _ _ cs loop.loop.i loop.loop.invariant.1,
-        loop.before.registration-count.ensures.0,
-        read.before.before.loop-test.true,
+        heard-count _ _ cs loop.loop-i.i loop.loop-i.invariant.1,
+        loop.registration_count-n.ensures.0,
+        read.loop-i-test.true,
       ),
       subst⁻¹ (λ (x : Registration). FitsWord x.end) (made ∙ ap (heard_once _ _) row) (end-registered _ _),
     )
 
-loop-again : tie.Need-loop-preserved invariant-loop decreases-loop
+loop-again : tie.Need-loop-i-preserved invariant-loop decreases-loop
 loop-again c =
-    let read = c.before.before.before.before in
-    let loop = read.before.before.before in
-    let n = loop.before.registration-count.ensures.0 in
-    let limit = loop.before.before.before.next-entry.ensures in
-    let whole = loop.before.before.before.before.before.whole.ensures in (
+    let read = c in
+    let loop = read in
+    let n = loop.registration_count-n.ensures.0 in
+    let limit = loop.next_entry-limit.ensures in
+    let whole = loop.whole.ensures in (
       omega arith,
-      heard-row _ _ _ _ loop.loop.invariant.1 _ limit (omega (arith, n)) (omega (arith, whole))
-          read.registration-at.ensures
-          c.before.before.hear-once.ensures c.set-registration.ensures.0,
+      heard-row _ _ _ _ loop.loop-i.invariant.1 _ limit (omega (arith, n)) (omega (arith, whole))
+          read.registration_at-g.ensures
+          c.hear_once-x.ensures c.set_registration.ensures.0,
     )
 
 returns : tie.Need-returns invariant-loop decreases-loop
 returns c =
-    let loop = c.before in
-    let ws = loop.before.before.before.before.before.before.args.space.now in
-    let cs = loop.before.before.before.before.before.before.args.counts.now in
-    let all : loop.loop.i ≡ length (view ws).registrations =
+    let loop = c in
+    let ws = loop.args.space.now in
+    let cs = loop.args.counts.now in
+    let all : loop.loop-i.i ≡ length (view ws).registrations =
     omega (
       arith,
       length-registrations ws,
-      c.loop-test.false,
-      loop.loop.invariant.0,
-      loop.before.registration-count.ensures.0,
+      c.loop-i-test.false,
+      loop.loop-i.invariant.0,
+      loop.registration_count-n.ensures.0,
     ) in
-    loop.loop.invariant.1
+    loop.loop-i.invariant.1
     ∙ ap (λ gs. with_registrations gs (view ws))
-    (ap (λ k. heard_by (view ws).next_entry (take k cs) (view ws).registrations) all
+    (ap (λ k. heard_by (view ws).next_entry-limit (take k cs) (view ws).registrations) all
     ∙ heard_all _ cs (view ws).registrations)
 
-pub hear-spec : {M : Type 1} → statement M
-hear-spec =
+pub hear_spec : {M : Type 1} → statement M
+hear_spec =
     tie.close
     (tie.spec
     invariant-loop decreases-loop (λ c κs. tt) (λ c κs. tt) (λ c κs. tt) begun (λ c κs. omega arith) (λ c. omega arith)
-    (λ c. omega (arith, c.before.before.before.before.registration-count.ensures.0))
+    (λ c. omega (arith, c.registration_count-n.ensures.0))
     (λ c κs. tt) set-registration-requires (λ c. omega arith) (λ c. omega arith) loop-again returns)

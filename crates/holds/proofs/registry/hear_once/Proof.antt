@@ -6,7 +6,7 @@ use Rattle.rules.specs.Notify.{with_total}
 use Rattle.holds.proofs.registry.hear_once.Statement.{statement}
 
 returns : tie.Need-returns
-returns c = ap (λ n. with_total n c.before.args.g) c.sum.ensures
+returns c = ap (λ n. with_total n c.args.g) c.sum.ensures
 
-pub hear-once-spec : {M : Type 1} → statement M
-hear-once-spec = tie.close (tie.spec (λ c κs. search rules) returns)
+pub hear_once_spec : {M : Type 1} → statement M
+hear_once_spec = tie.close (tie.spec (λ c κs. search rules) returns)

@@ -4,13 +4,13 @@ use borrow.Author.Rules.{rules}
 use Rattle.holds.proofs.registry.is_own_match.Tie as tie
 use Rattle.holds.proofs.registry.is_own_match.Statement.{statement}
 
-returns : tie.Need-returns
+returns : tie.Need-returns-then-is_own
 returns c =
-    let b = c.before.before.before in
-    rw (sym b.before.is-own.ensures ∙ b.if1.true, c.fields-match.ensures)
+    let b = c in
+    rw (sym b.is_own.ensures ∙ b.if-is_own.true, c.fields_match.ensures)
 
-returns-2 : tie.Need-returns-2
-returns-2 c = rw (sym c.before.is-own.ensures ∙ c.if1.false)
+returns-2 : tie.Need-returns-else-is_own
+returns-2 c = rw (sym c.is_own.ensures ∙ c.if-is_own.false)
 
-pub is-own-match-spec : {M : Type 1} → statement M
-is-own-match-spec = tie.close (tie.spec (λ c κs. search rules) (λ c κs. search rules) returns returns-2)
+pub is_own_match_spec : {M : Type 1} → statement M
+is_own_match_spec = tie.close (tie.spec (λ c κs. search rules) (λ c κs. search rules) returns returns-2)

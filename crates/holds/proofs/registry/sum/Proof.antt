@@ -8,23 +8,23 @@ use borrow.Author.Tests.{le-leb, lt-leb}
 use Rattle.holds.proofs.registry.sum.Tie as tie
 use Rattle.holds.proofs.registry.sum.Statement.{statement}
 
-returns : tie.Need-returns
+returns : tie.Need-returns-then-limit-total
 returns c =
-    let a = c.before.args in
+    let a = c.args in
     sym (ap (λ b. cond b (a.total + a.count) a.limit)
-    (lt-leb (a.total + a.count) a.limit (omega (arith, c.if1.true))))
+    (lt-leb (a.total + a.count) a.limit (omega (arith, c.if-limit-total.true))))
 
-returns-2 : tie.Need-returns-2
+returns-2 : tie.Need-returns-then-limit-total-2
 returns-2 c =
-    let a = c.before.before.args in
+    let a = c.args in
     sym (ap (λ b. cond b (a.total + a.count) a.limit)
-    (lt-leb (a.total + a.count) a.limit (omega (arith, c.if2.true, c.before.if1.false))))
+    (lt-leb (a.total + a.count) a.limit (omega (arith, c.if-limit-total-2.true, c.if-limit-total.false))))
 
-returns-3 : tie.Need-returns-3
+returns-3 : tie.Need-returns-else-limit-total-2
 returns-3 c =
-    let a = c.before.before.args in
+    let a = c.args in
     sym (ap (λ b. cond b (a.total + a.count) a.limit)
-    (le-leb (a.total + a.count) a.limit (omega (arith, c.if2.false, c.before.if1.false))))
+    (le-leb (a.total + a.count) a.limit (omega (arith, c.if-limit-total-2.false, c.if-limit-total.false))))
 
-pub sum-spec : {M : Type 1} → statement M
-sum-spec = tie.close (tie.spec returns (λ c. search rules) returns-2 returns-3)
+pub sum_spec : {M : Type 1} → statement M
+sum_spec = tie.close (tie.spec returns (λ c. search rules) returns-2 returns-3)

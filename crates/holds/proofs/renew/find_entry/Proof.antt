@@ -12,41 +12,41 @@ use Rattle.words.proofs.SearchLaws.{Searching, search_start, search_more, search
 use Rattle.words.proofs.Tables.{entries-read}
 use Rattle.holds.proofs.renew.find_entry.Statement.{statement}
 
-abbrev invariant-loop : tie.invariant-loop
+abbrev invariant-loop : tie.invariant-loop-i
 invariant-loop space id n i₀ i = (i ≤ n) × Searching (has_number id.0) (entry_row space) i
 
-abbrev decreases-loop : tie.decreases-loop
+abbrev decreases-loop : tie.decreases-loop-i
 decreases-loop space id n i₀ i = n - i
 
-returns : tie.Need-returns invariant-loop decreases-loop
+returns : tie.Need-returns-then-entry_number-id invariant-loop decreases-loop
 unfolding stored_entry
 returns c =
-    let seen = c.before.before.before in
-    let l = seen.before.before in
-    let ws = l.before.before.args.space.now in
+    let seen = c in
+    let l = seen in
+    let ws = l.args.space.now in
     let is = c.entry_at.ensures in
-    let its = ap (λ (e : Entry). e.id.0) is ∙ sym seen.entry-number.ensures ∙ c.before.if1.true in
-    let count = l.before.entry-count.ensures.0 in (
-      sym (search_found (entries-read ws) l.loop.invariant.1 (omega arith) is (eq-eqb _ _ its)),
+    let its = ap (λ (e : Entry). e.id.0) is ∙ sym seen.entry_number.ensures ∙ c.if-entry_number-id.true in
+    let count = l.entry_count-n.ensures.0 in (
+      sym (search_found (entries-read ws) l.loop-i.invariant.1 (omega arith) is (eq-eqb _ _ its)),
       (omega (arith, count), is),
     )
 
-loop-again : tie.Need-loop-preserved invariant-loop decreases-loop
+loop-again : tie.Need-loop-i-preserved invariant-loop decreases-loop
 loop-again c =
-    let seen = c.before.before in
-    let l = seen.before.before.loop in (
+    let seen = c in
+    let l = seen.loop-i in (
       omega arith,
-      search_more l.invariant.1 refl (ne_eqb _ _ (λ q. c.if1.false (seen.entry-number.ensures ∙ q))),
+      search_more l.invariant.1 refl (ne_eqb _ _ (λ q. c.if-entry_number-id.false (seen.entry_number.ensures ∙ q))),
     )
 
-returns-2 : tie.Need-returns-2 invariant-loop decreases-loop
+returns-2 : tie.Need-returns invariant-loop decreases-loop
 unfolding stored_entry
 returns-2 c =
-    let ws = c.before.before.before.args.space.now in
-    (sym (search_none (entries-read ws) c.before.loop.invariant.1 (omega arith)), tt)
+    let ws = c.args.space.now in
+    (sym (search_none (entries-read ws) c.loop-i.invariant.1 (omega arith)), tt)
 
-pub find-entry-spec : {M : Type 1} → statement M
-find-entry-spec =
+pub find_entry_spec : {M : Type 1} → statement M
+find_entry_spec =
     tie.close
     (tie.spec invariant-loop decreases-loop (λ c κs. search rules) (λ c. (omega arith, search_start)) (λ c κs. omega arith)
     (λ c κs. omega arith) returns (λ c. omega arith) (λ c. omega arith) loop-again returns-2)

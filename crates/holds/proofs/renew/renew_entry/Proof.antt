@@ -11,33 +11,33 @@ use Rattle.holds.specs.Renew.{renewed_at}
 use Rattle.holds.proofs.renew.renew_entry.Statement.{statement}
 use Rattle.holds.proofs.renew.renew_entry.Tie as tie
 
-returns : tie.Need-returns
+returns : tie.Need-returns-then-lease-eq0
 unfolding renewed_at
-returns c = rw (eq-eqb _ _ c.before.before.if1.true) c.remove_entry.ensures.0
+returns c = rw (eq-eqb _ _ c.if-lease-eq0.true) c.remove_entry.ensures.0
 
-end-of-requires : tie.Need-end-of-requires
-end-of-requires c κs = rw c.clock.ensures c.before.before.before.requires.2
+end-of-requires : tie.Need-end_of-requires
+end-of-requires c κs = rw c.clock.ensures c.requires.2
 
-set-entry-requires : tie.Need-set-entry-requires
+set-entry-requires : tie.Need-set_entry-requires
 set-entry-requires c κs =
-    let ended = c.before.before in
-    (ended.before.before.before.before.requires.0, rw c.before.Ending-at.ensures ended.end_of_lem.ensures.1)
+    let ended = c in
+    (ended.requires.0, rw c.ending_at-x.ensures ended.end_of_lem.ensures.1)
 
-returns-2 : tie.Need-returns-2
+returns-2 : tie.Need-returns
 unfolding renewed_at
 returns-2 c =
-    let ending = c.before.before in
-    let timed = ending.before.before in
-    let start = timed.before.before.before in
+    let ending = c in
+    let timed = ending in
+    let start = timed in
     let m = view start.args.space.now in
     let end =
-    ending.before.end_of_lem.ensures.0 ∙ ap (λ k. until k start.args.lease) timed.clock.ensures in
-    rw (ne_eqb _ _ timed.before.before.if1.false)
-    (c.set-entry.ensures.0 ∙ ap (λ x. with_entries (set m.entries start.args.row x) m)
-    (ending.Ending-at.ensures ∙ ap (λ u. ending_at u start.args.e) end))
+    ending.end_of_lem.ensures.0 ∙ ap (λ k. until k start.args.lease) timed.clock.ensures in
+    rw (ne_eqb _ _ timed.if-lease-eq0.false)
+    (c.set_entry.ensures.0 ∙ ap (λ x. with_entries (set m.entries start.args.row x) m)
+    (ending.ending_at-x.ensures ∙ ap (λ u. ending_at u start.args.e) end))
 
-pub renew-entry-spec : {M : Type 1} → statement M
-renew-entry-spec =
+pub renew_entry_spec : {M : Type 1} → statement M
+renew_entry_spec =
     tie.close
     (tie.spec (λ c κs. search rules) returns (λ c κs. search rules) end-of-requires (λ c κs. search rules)
     set-entry-requires returns-2)

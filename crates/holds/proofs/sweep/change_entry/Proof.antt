@@ -8,19 +8,19 @@ use Rattle.holds.proofs.sweep.change_entry.Statement.{statement}
 use Rattle.holds.proofs.sweep.change_entry.Tie as tie
 
 release-requires : tie.Need-release-requires
-release-requires c κs = subst (λ s. slot_in s ≤ no_slot) c.before.s.given.1 c.before.before.before.requires
+release-requires c κs = subst (λ s. slot_in s ≤ no_slot) c.s-1.given.1 c.requires
 
-release-requires-2 : tie.Need-release-requires-2
-release-requires-2 c κs = subst (λ s. slot_in s ≤ no_slot) c.before.s2.given.1 c.before.before.before.requires
+release-requires-2 : tie.Need-release-requires-in-Abort
+release-requires-2 c κs = subst (λ s. slot_in s ≤ no_slot) c.s-in-Abort-1.given.1 c.requires
 
-returns-2 : tie.Need-returns-2
-returns-2 c = rw c.before.before.s.given.1 c.release.ensures
+returns-2 : tie.Need-returns-in-Commit
+returns-2 c = rw c.s-1.given.1 c.release.ensures
 
-returns-3 : tie.Need-returns-3
-returns-3 c = rw c.before.before.s2.given.1 c.release2.ensures
+returns-3 : tie.Need-returns-in-Abort
+returns-3 c = rw c.s-in-Abort-1.given.1 c.release-in-Abort.ensures
 
-pub change-entry-spec : {M : Type 1} → statement M
-change-entry-spec =
+pub change_entry_spec : {M : Type 1} → statement M
+change_entry_spec =
     tie.close
     (tie.spec (λ c. search rules) (λ c. search rules) release-requires (λ c. search rules) release-requires-2
     (λ c. search rules) returns-2 returns-3)

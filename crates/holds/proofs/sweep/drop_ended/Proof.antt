@@ -10,10 +10,10 @@ use Rattle.holds.proofs.sweep.drop_ended.Tie as tie
 
 returns : tie.Need-returns
 returns c =
-    let m = view c.before.before.before.before.args.space.now in
-    c.pass-over.ensures.0
-    ∙ ap (λ t. sweep_model (Expire t) m) c.before.before.clock.ensures
+    let m = view c.args.space.now in
+    c.pass_over.ensures.0
+    ∙ ap (λ t. sweep_model (Expire t) m) c.clock-now.ensures
     ∙ sym (drop-ended m)
 
-pub drop-ended-spec : {M : Type 1} → statement M
-drop-ended-spec = tie.close (tie.spec (λ c κs. search rules) (λ c κs. search rules) returns)
+pub drop_ended_spec : {M : Type 1} → statement M
+drop_ended_spec = tie.close (tie.spec (λ c κs. search rules) (λ c κs. search rules) returns)

@@ -12,10 +12,10 @@ use Rattle.holds.specs.Sweep.{FreeOf, FreeBefore}
 use Rattle.holds.proofs.sweep.first_held.Statement.{statement}
 use Rattle.holds.proofs.sweep.first_held.Tie as tie
 
-abbrev invariant-loop : tie.invariant-loop
+abbrev invariant-loop : tie.invariant-loop-i
 invariant-loop space t p count i₀ i = (i ≤ count) × FreeBefore t.0 p space i
 
-abbrev decreases-loop : tie.decreases-loop
+abbrev decreases-loop : tie.decreases-loop-i
 decreases-loop space t p count i₀ i = count - i
 
 -- nor of row i
@@ -26,21 +26,21 @@ one_more ws t p i h x k l = go (dec_lt k i)
     go (yes b) = h k b
     go (no b) = let e : i ≡ k = omega arith in subst (λ j. FreeOf t p (entry_row ws j)) e x
 
-loop-again : tie.Need-loop-preserved invariant-loop decreases-loop
+loop-again : tie.Need-loop-i-preserved invariant-loop decreases-loop
 loop-again c =
-    let s = c.before.before.before.before in
-    let row = c.before.before.entry_at.ensures in (
+    let s = c in
+    let row = c.entry_at-e.ensures in (
       omega arith,
-      one_more _ _ _ _ s.loop.invariant.1
-          (subst (FreeOf _ _) row (c.before.is-free-of.ensures (not-false _ c.if1.false))),
+      one_more _ _ _ _ s.loop-i.invariant.1
+          (subst (FreeOf _ _) row (c.is_free_of.ensures (not-false _ c.if-not-is_free_of.false))),
     )
 
-returns-2 : tie.Need-returns-2 invariant-loop decreases-loop
-returns-2 c = (omega arith, λ k h. c.before.loop.invariant.1 k (omega arith))
+returns-2 : tie.Need-returns invariant-loop decreases-loop
+returns-2 c = (omega arith, λ k h. c.loop-i.invariant.1 k (omega arith))
 
-pub first-held-spec : {M : Type 1} → statement M
-first-held-spec =
+pub first_held_spec : {M : Type 1} → statement M
+first_held_spec =
     tie.close
     (tie.spec invariant-loop decreases-loop (λ c. (omega arith, λ k h. absurd (omega arith))) (λ c κs. omega arith)
-    (λ c κs. search rules) (λ c. (omega arith, c.before.before.before.before.loop.invariant.1)) (λ c. omega arith)
+    (λ c κs. search rules) (λ c. (omega arith, c.loop-i.invariant.1)) (λ c. omega arith)
     (λ c. omega arith) loop-again returns-2)

@@ -14,10 +14,10 @@ use Rattle.holds.specs.Sweep.{keeps, Still}
 use Rattle.holds.proofs.sweep.first_over.Statement.{statement}
 use Rattle.holds.proofs.sweep.first_over.Tie as tie
 
-abbrev invariant-loop : tie.invariant-loop
+abbrev invariant-loop : tie.invariant-loop-i
 invariant-loop space clock count i₀ i = (i ≤ count) × Still (Expire clock) space i
 
-abbrev decreases-loop : tie.decreases-loop
+abbrev decreases-loop : tie.decreases-loop-i
 decreases-loop space clock count i₀ i = count - i
 
 -- nor has row i ended
@@ -29,21 +29,21 @@ one_more ws clock i h x k l = go (dec_lt k i)
     go (yes b) = h k b
     go (no b) = let e : i ≡ k = omega arith in (subst (λ j. keeps (Expire clock) (entry_row ws j) ≡ true) e x, refl)
 
-loop-again : tie.Need-loop-preserved invariant-loop decreases-loop
+loop-again : tie.Need-loop-i-preserved invariant-loop decreases-loop
 loop-again c =
-    let a = c.before.before.before.before.before.args in
-    let l = c.before.before.before.before.loop in
-    let ended = sym c.before.reached-at.ensures ∙ c.if1.false in
-    let kept = ap not (ap (λ (e : Entry). reached a.clock e.end) (sym c.before.before.entry_at.ensures)
+    let a = c.args in
+    let l = c.loop-i in
+    let ended = sym c.reached_at.ensures ∙ c.if-reached_at.false in
+    let kept = ap not (ap (λ (e : Entry). reached a.clock e.end) (sym c.entry_at-e.ensures)
     ∙ ended) in
     (omega arith, one_more a.space.now a.clock l.i l.invariant.1 kept)
 
-returns-2 : tie.Need-returns-2 invariant-loop decreases-loop
-returns-2 c = (omega arith, λ k h. c.before.loop.invariant.1 k (omega arith))
+returns-2 : tie.Need-returns invariant-loop decreases-loop
+returns-2 c = (omega arith, λ k h. c.loop-i.invariant.1 k (omega arith))
 
-pub first-over-spec : {M : Type 1} → statement M
-first-over-spec =
+pub first_over_spec : {M : Type 1} → statement M
+first_over_spec =
     tie.close
     (tie.spec invariant-loop decreases-loop (λ c. (omega arith, λ k h. absurd (omega arith))) (λ c κs. omega arith)
-    (λ c κs. search rules) (λ c. (omega arith, c.before.before.before.before.loop.invariant.1)) (λ c. omega arith)
+    (λ c κs. search rules) (λ c. (omega arith, c.loop-i.invariant.1)) (λ c. omega arith)
     (λ c. omega arith) loop-again returns-2)

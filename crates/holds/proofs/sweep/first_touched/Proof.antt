@@ -8,41 +8,41 @@ use Rattle.holds.specs.Sweep.{slot_in, Still}
 use Rattle.holds.proofs.SweepLaws.{still-commit, still-abort}
 use Rattle.holds.proofs.sweep.first_touched.Statement.{statement}
 
-returns : tie.Need-returns
+returns : tie.Need-returns-in-Expire
 returns c =
-    let a = c.before.before.before.before.args in
-    let s = c.before.before.s.given in
-    let r = c.first-over.result in
-    (c.first-over.ensures.0, subst (λ v. Still v a.space.now r) (sym s.1) c.first-over.ensures.1)
+    let a = c.args in
+    let s = c.s-1.given in
+    let r = c.first_over.result in
+    (c.first_over.ensures.0, subst (λ v. Still v a.space.now r) (sym s.1) c.first_over.ensures.1)
 
-returns-2 : tie.Need-returns-2
+returns-2 : tie.Need-returns-in-Commit
 returns-2 c =
-    let a = c.before.before.before.before.args in
-    let s = c.before.before.s2.given in
-    let r = c.first-held.result in
-    let still = still-commit s.0.0 _ a.space.now r c.first-held.ensures.1 in
-    (c.first-held.ensures.0, subst (λ v. Still v a.space.now r) (sym s.1) still)
+    let a = c.args in
+    let s = c.s-in-Commit-1.given in
+    let r = c.first_held.result in
+    let still = still-commit s.0.0 _ a.space.now r c.first_held.ensures.1 in
+    (c.first_held.ensures.0, subst (λ v. Still v a.space.now r) (sym s.1) still)
 
-returns-3 : tie.Need-returns-3
+returns-3 : tie.Need-returns-in-Abort
 returns-3 c =
-    let a = c.before.before.before.before.args in
-    let s = c.before.before.s3.given in
-    let r = c.first-held2.result in
-    let still = still-abort s.0.0 _ a.space.now r c.first-held2.ensures.1 in
-    (c.first-held2.ensures.0, subst (λ v. Still v a.space.now r) (sym s.1) still)
+    let a = c.args in
+    let s = c.s-in-Abort-1.given in
+    let r = c.first_held-in-Abort.result in
+    let still = still-abort s.0.0 _ a.space.now r c.first_held-in-Abort.ensures.1 in
+    (c.first_held-in-Abort.ensures.0, subst (λ v. Still v a.space.now r) (sym s.1) still)
 
-first-held-requires : tie.Need-first-held-requires
+first-held-requires : tie.Need-first_held-requires
 first-held-requires c κs =
-    let p = c.before.before.before.requires in
-    (subst (λ s. slot_in s ≤ no_slot) c.before.s2.given.1 p.0, p.1)
+    let p = c.requires in
+    (subst (λ s. slot_in s ≤ no_slot) c.s-in-Commit-1.given.1 p.0, p.1)
 
-first-held-requires-2 : tie.Need-first-held-requires-2
+first-held-requires-2 : tie.Need-first_held-requires-in-Abort
 first-held-requires-2 c κs =
-    let p = c.before.before.before.requires in
-    (subst (λ s. slot_in s ≤ no_slot) c.before.s3.given.1 p.0, p.1)
+    let p = c.requires in
+    (subst (λ s. slot_in s ≤ no_slot) c.s-in-Abort-1.given.1 p.0, p.1)
 
-pub first-touched-spec : {M : Type 1} → statement M
-first-touched-spec =
+pub first_touched_spec : {M : Type 1} → statement M
+first_touched_spec =
     tie.close
     (tie.spec (λ c. search rules) (λ c κs. search rules) (λ c. search rules) first-held-requires (λ c. search rules)
     first-held-requires-2 returns returns-2 returns-3)

@@ -10,55 +10,55 @@ use Rattle.holds.specs.Sweep.{SameBefore}
 use Rattle.holds.proofs.sweep.pass_over.Statement.{statement}
 use Rattle.holds.proofs.sweep.pass_over.Tie as tie
 
-abbrev invariant-loop : tie.invariant-loop
+abbrev invariant-loop : tie.invariant-loop-i
 invariant-loop space₀ s count first i₀ n₀ space i n = (i ≤ count) × Sweeping s space₀ space i n
 
-abbrev decreases-loop : tie.decreases-loop
+abbrev decreases-loop : tie.decreases-loop-i
 decreases-loop space₀ s count first i₀ n₀ space i n = count - i
 
-loop-holds : tie.Need-loop-init invariant-loop decreases-loop
+loop-holds : tie.Need-loop-i-init invariant-loop decreases-loop
 loop-holds c =
-    let a = c.before.before.before.before.args in
-    (c.first-touched.ensures.0, sweep_still a.s a.space.now _ c.first-touched.ensures.1)
+    let a = c.args in
+    (c.first_touched-first.ensures.0, sweep_still a.s a.space.now _ c.first_touched-first.ensures.1)
 
-keep-entry-requires : tie.Need-keep-entry-requires invariant-loop decreases-loop
+keep-entry-requires : tie.Need-keep_entry-requires invariant-loop decreases-loop
 keep-entry-requires c κs =
-    let b = c.before.before.before.before.before.before in
-    (b.before.before.before.before.before.requires, omega (arith, b.loop.invariant.1.behind))
+    let b = c in
+    (b.requires, omega (arith, b.loop-i.invariant.1.behind))
 
-loop-again : tie.Need-loop-preserved invariant-loop decreases-loop
+loop-again : tie.Need-loop-i-preserved invariant-loop decreases-loop
 loop-again c =
-    let a = c.before.before.before.before.before.before.before.before.before.before.args in
-    let l = c.before.before.before.before.before.loop in
-    let long = c.before.before.before.before.before.before.before.before.entry-count.ensures.1 in
-    let r = c.before.before.entry_at.ensures in
-    let k = c.before.keeps_entry.ensures in (
+    let a = c.args in
+    let l = c.loop-i in
+    let long = c.entry_count-count.ensures.1 in
+    let r = c.entry_at-e.ensures in
+    let k = c.keeps_entry.ensures in (
       omega arith,
       ⊎_elim
           (λ w. subst₂ (λ x m. Sweeping a.s a.space.now x (l.i + 1) m) (sym w.3) (sym w.4)
           (sweep_kept a.s l.invariant.1 long (omega arith) r (sym k ∙ w.0.taken) w.2.ensures))
           (λ w. subst₂ (λ x m. Sweeping a.s a.space.now x (l.i + 1) m) (sym w.1) (sym w.2)
           (compact_passed l.invariant.1 r (sym k ∙ w.0.left)))
-          c.if1.branch,
+          c.if-keeps_entry.branch,
     )
 
 returns : tie.Need-returns invariant-loop decreases-loop
 returns c =
-    let begin = c.before.before.before.before in
-    let a = begin.before.before.before.before.args in
-    let count = begin.before.before.entry-count.ensures in
-    let first = begin.first-touched.ensures in
+    let begin = c in
+    let a = begin.args in
+    let count = begin.entry_count-count.ensures in
+    let first = begin.first_touched-first.ensures in
     let done =
-    sweep_done a.s c.before.before.before.loop.invariant.1 count.1 (omega arith) c.set-entry-count.ensures
+    sweep_done a.s c.loop-i.invariant.1 count.1 (omega arith) c.set_entry_count.ensures
     in
-    let r = begin.first-touched.result in
+    let r = begin.first_touched-first.result in
     let same = same_before a.s a.space.now r (omega (arith, first.0, count.0)) first.1 in
     (done.0, done.1, subst⁻¹ (SameBefore r (view a.space.now)) done.0 same)
 
-pub pass-over-spec : {M : Type 1} → statement M
-pass-over-spec =
+pub pass_over_spec : {M : Type 1} → statement M
+pass_over_spec =
     tie.close
     (tie.spec
-    invariant-loop decreases-loop (λ c κs. tt) (λ c κs. (c.before.before.before.requires, omega arith)) loop-holds
+    invariant-loop decreases-loop (λ c κs. tt) (λ c κs. (c.requires, omega arith)) loop-holds
     (λ c κs. omega arith) (λ c κs. tt) keep-entry-requires (λ c. omega arith) (λ c. omega arith) (λ c. omega arith)
-    loop-again (λ c κs. omega (arith, c.before.before.loop.invariant.1.behind)) returns)
+    loop-again (λ c κs. omega (arith, c.loop-i.invariant.1.behind)) returns)

@@ -23,33 +23,33 @@ slot k = k
 slots : Rows (0 ∷ 1 ∷ 2 ∷ 3 ∷ 4 ∷ 5 ∷ 6 ∷ 7 ∷ []) slot max_txns
 slots = record { is = refl }
 
-abbrev invariant-loop : tie.invariant-loop
+abbrev invariant-loop : tie.invariant-loop-p
 invariant-loop space used p₀ p = (p ≤ max_txns) × Searching (is_free (view space).txns) slot p
 
-abbrev decreases-loop : tie.decreases-loop
+abbrev decreases-loop : tie.decreases-loop-p
 decreases-loop space used p₀ p = max_txns - p
 
-returns : tie.Need-returns invariant-loop decreases-loop
+returns : tie.Need-returns-then-not-has_bit invariant-loop decreases-loop
 unfolding free_slot
 returns c =
-    let l = c.before.before.before.loop in
-    let used = c.before.before.before.before.used-slots.ensures in
-    let test = ap not (sym (used _) ∙ sym c.before.has-bit.ensures) ∙ c.if1.true in
+    let l = c.loop-p in
+    let used = c.used_slots-used.ensures in
+    let test = ap not (sym (used _) ∙ sym c.has_bit.ensures) ∙ c.if-not-has_bit.true in
     (sym (ap or_zero (search_found slots l.invariant.1 (omega arith) refl test)), omega arith)
 
-loop-again : tie.Need-loop-preserved invariant-loop decreases-loop
+loop-again : tie.Need-loop-p-preserved invariant-loop decreases-loop
 loop-again c =
-    let l = c.before.before.before.loop in
-    let used = c.before.before.before.before.used-slots.ensures in
-    let test = ap not (sym (used _) ∙ sym c.before.has-bit.ensures) ∙ c.if1.false in
+    let l = c.loop-p in
+    let used = c.used_slots-used.ensures in
+    let test = ap not (sym (used _) ∙ sym c.has_bit.ensures) ∙ c.if-not-has_bit.false in
     (omega arith, search_more l.invariant.1 refl test)
 
-returns-2 : tie.Need-returns-2 invariant-loop decreases-loop
+returns-2 : tie.Need-returns invariant-loop decreases-loop
 unfolding free_slot
-returns-2 c = (sym (ap or_zero (search_none slots c.before.loop.invariant.1 (omega arith))), omega arith)
+returns-2 c = (sym (ap or_zero (search_none slots c.loop-p.invariant.1 (omega arith))), omega arith)
 
-pub free-slot-spec : {M : Type 1} → statement M
-free-slot-spec =
+pub free_slot_spec : {M : Type 1} → statement M
+free_slot_spec =
     tie.close
     (tie.spec
     invariant-loop decreases-loop (λ c κs. tt) (λ c. (omega arith, search_start)) (λ c κs. omega arith) returns (λ c. omega arith)

@@ -16,37 +16,37 @@ use Rattle.holds.proofs.txns.remove_txn.Tie as tie
 abbrev other : ℕ → Txn → Bool
 other t x = not (eqb x.id.0 t)
 
-abbrev invariant-loop : tie.invariant-loop
+abbrev invariant-loop : tie.invariant-loop-i
 invariant-loop space₀ id count i₀ n₀ space i n = (i ≤ count) × Leaving txn_table (other id.0) space₀ space i n
 
-abbrev decreases-loop : tie.decreases-loop
+abbrev decreases-loop : tie.decreases-loop-i
 decreases-loop space₀ id count i₀ n₀ space i n = count - i
 
-loop-again : tie.Need-loop-preserved invariant-loop decreases-loop
+loop-again : tie.Need-loop-i-preserved-then-t-id invariant-loop decreases-loop
 loop-again c =
-    let l = c.before.before.before.before.before.before.loop in
-    let test = ap not (eq-eqb _ _ c.if1.true) in
-    (omega arith, compact_passed l.invariant.1 c.before.before.before.txn-at.ensures test)
+    let l = c.loop-i in
+    let test = ap not (eq-eqb _ _ c.if-t-id.true) in
+    (omega arith, compact_passed l.invariant.1 c.txn_at-t.ensures test)
 
-loop-again-2 : tie.Need-loop-preserved-2 invariant-loop decreases-loop
+loop-again-2 : tie.Need-loop-i-preserved invariant-loop decreases-loop
 loop-again-2 c =
-    let b = c.before.before in
-    let l = b.before.before.before.before.before.before.loop in
-    let long = b.before.before.before.before.before.before.before.txn-count.ensures.1 in
-    let test = ap not (ne_eqb _ _ b.if1.false) in
-    let r = b.before.before.before.txn-at.ensures in
-    (omega arith, compact_moved l.invariant.1 r test (omega arith) (omega (arith, long)) c.move-txn.ensures refl)
+    let b = c in
+    let l = b.loop-i in
+    let long = b.txn_count-count.ensures.1 in
+    let test = ap not (ne_eqb _ _ b.if-t-id.false) in
+    let r = b.txn_at-t.ensures in
+    (omega arith, compact_moved l.invariant.1 r test (omega arith) (omega (arith, long)) c.move_txn.ensures refl)
 
 returns : tie.Need-returns invariant-loop decreases-loop
 unfolding view txns without_txn
 returns c =
-    let l = c.before.before.before.loop in
-    let long = c.before.before.before.before.txn-count.ensures.1 in
-    view-txns _ _ (leaving_done l.invariant.1 c.set-txn-count.ensures (omega arith) (omega (arith, long)))
+    let l = c.loop-i in
+    let long = c.txn_count-count.ensures.1 in
+    view-txns _ _ (leaving_done l.invariant.1 c.set_txn_count.ensures (omega arith) (omega (arith, long)))
 
-pub remove-txn-spec : {M : Type 1} → statement M
-remove-txn-spec =
+pub remove_txn_spec : {M : Type 1} → statement M
+remove_txn_spec =
     tie.close
     (tie.spec invariant-loop decreases-loop (λ c κs. tt) (λ c. (omega arith, compact_start)) (λ c κs. omega arith)
     (λ c. omega arith) (λ c. omega arith) loop-again (λ c κs. omega arith) (λ c. omega arith) (λ c. omega arith)
-    (λ c. omega arith) loop-again-2 (λ c κs. omega (arith, c.before.before.loop.invariant.1.behind)) returns)
+    (λ c. omega arith) loop-again-2 (λ c κs. omega (arith, c.loop-i.invariant.1.behind)) returns)

@@ -12,38 +12,38 @@ use Rattle.holds.proofs.SlotLaws.{Used, used_none, used_more, used_all, slot-low
 use Rattle.holds.proofs.txns.used_slots.Statement.{statement}
 use Rattle.holds.proofs.txns.used_slots.Tie as tie
 
-abbrev invariant-loop : tie.invariant-loop
+abbrev invariant-loop : tie.invariant-loop-i
 invariant-loop space n used₀ i₀ used i = (i ≤ n) × Used (txn_row space) used i
 
-abbrev decreases-loop : tie.decreases-loop
+abbrev decreases-loop : tie.decreases-loop-i
 decreases-loop space n used₀ i₀ used i = n - i
 
 low : {t : Txn} (ws : List ℕ) (i : ℕ) → t ≡ txn_row ws i → t.slot < no_slot
 low ws i e = subst⁻¹ (λ (x : Txn). x.slot < no_slot) e (slot-low (row txns_at txn_width ws i))
 
-add-reader-requires : tie.Need-add-reader-requires invariant-loop decreases-loop
+add-reader-requires : tie.Need-add_reader-used-requires invariant-loop decreases-loop
 add-reader-requires c κs =
-    let l = c.before.before.loop in
-    let fits = low c.before.before.before.before.args.space.now l.i c.txn-at.ensures in
+    let l = c.loop-i in
+    let fits = low c.args.space.now l.i c.txn_at-t.ensures in
     omega arith
 
-loop-again : tie.Need-loop-preserved invariant-loop decreases-loop
+loop-again : tie.Need-loop-i-preserved invariant-loop decreases-loop
 loop-again c =
-    let l = c.before.before.before.loop in
-    let r = c.before.txn-at.ensures in (
+    let l = c.loop-i in
+    let r = c.txn_at-t.ensures in (
       omega arith,
-      used_more l.invariant.1 r (low c.before.before.before.before.before.args.space.now l.i r)
-          c.add-reader.ensures,
+      used_more l.invariant.1 r (low c.args.space.now l.i r)
+          c.add_reader-used.ensures,
     )
 
 returns : tie.Need-returns invariant-loop decreases-loop
 returns c =
-    let start = c.before.before.before in
-    used_all (txns-read start.args.space.now) c.before.loop.invariant.1
-    (omega (arith, c.loop-test.false, c.before.loop.invariant.0, c.before.before.txn-count.ensures.0))
+    let start = c in
+    used_all (txns-read start.args.space.now) c.loop-i.invariant.1
+    (omega (arith, c.loop-i-test.false, c.loop-i.invariant.0, c.txn_count-n.ensures.0))
 
-pub used-slots-spec : {M : Type 1} → statement M
-used-slots-spec =
+pub used_slots_spec : {M : Type 1} → statement M
+used_slots_spec =
     tie.close
     (tie.spec
     invariant-loop decreases-loop (λ c κs. tt) (λ c. (omega arith, used_none)) (λ c κs. omega arith) add-reader-requires

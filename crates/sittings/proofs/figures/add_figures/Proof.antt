@@ -6,16 +6,16 @@ use Rattle.sittings.proofs.figures.add_figures.Tie as tie
 
 returns : tie.Need-returns
 returns c =
-    let second = c.before.before.before in
-    let read = second.before.before in
-    let start = read.before.before.before.before in
-    stored_one start.args.report.now start.args.party start.args.more read.figures-at.result
-    read.before.before.whole.ensures start.requires read.figures-at.ensures
-    second.before.wrapping-add-u32.ensures second.wrapping-add-u322.ensures
-    c.before.before.greater-of.ensures c.before.wrapping-add-u323.ensures c.wrapping-add-u324.ensures
+    let second = c in
+    let read = second in
+    let start = read in
+    stored_one start.args.report.now start.args.party start.args.more read.figures_at-old.result
+    read.whole.ensures start.requires read.figures_at-old.ensures
+    second.wrapping_add_u32.ensures second.wrapping_add_u32-2.ensures
+    c.greater_of.ensures c.wrapping_add_u32-3.ensures c.wrapping_add_u32-4.ensures
 
-pub add-figures-spec : {M : Type 1} → statement M
-add-figures-spec =
+pub add_figures_spec : {M : Type 1} → statement M
+add_figures_spec =
     tie.close
     (tie.spec
     (λ c κs. search rules) (λ c κs. search rules) (λ c. search rules) (λ c. search rules) (λ c. search rules)

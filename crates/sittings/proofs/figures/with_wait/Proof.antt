@@ -6,5 +6,5 @@ use Rattle.sittings.proofs.figures.with_wait.Tie as tie
 returns : tie.Need-returns
 returns c = one_wait _ _
 
-pub with-wait-spec : {M : Type 1} → statement M
-with-wait-spec = tie.close (tie.spec returns)
+pub with_wait_spec : {M : Type 1} → statement M
+with_wait_spec = tie.close (tie.spec returns)

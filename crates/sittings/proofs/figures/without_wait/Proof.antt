@@ -8,5 +8,5 @@ returns : tie.Need-returns
 unfolding sum greatest
 returns c = refl
 
-pub without-wait-spec : {M : Type 1} → statement M
-without-wait-spec = tie.close (tie.spec returns)
+pub without_wait_spec : {M : Type 1} → statement M
+without_wait_spec = tie.close (tie.spec returns)

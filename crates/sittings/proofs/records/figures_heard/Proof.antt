@@ -4,24 +4,24 @@ use Rattle.sittings.proofs.WatchLaws.{own-heard, own-waited}
 use Rattle.sittings.proofs.records.figures_heard.Statement.{statement}
 use Rattle.sittings.proofs.records.figures_heard.Tie as tie
 
-returns : tie.Need-returns
+returns : tie.Need-returns-then-is_closed_by
 returns c =
-    let closed = c.before.before.before in
-    let a = closed.before.before.before.args in
-    c.with-wait.ensures
-    ∙ own-waited a.w a.a a.clock c.before.ticks-between.ensures closed.before.one-if.ensures.0
-    (sym closed.is-closed-by.ensures ∙ c.before.before.if1.true)
+    let closed = c in
+    let a = closed.args in
+    c.with_wait.ensures
+    ∙ own-waited a.w a.a a.clock c.ticks_between.ensures closed.one_if-founds.ensures.0
+    (sym closed.is_closed_by.ensures ∙ c.if-is_closed_by.true)
 
-returns-2 : tie.Need-returns-2
+returns-2 : tie.Need-returns-else-is_closed_by
 returns-2 c =
-    let closed = c.before.before in
-    let a = closed.before.before.before.args in
-    c.without-wait.ensures
-    ∙ own-heard a.w a.a a.clock {b = false} closed.before.one-if.ensures.0
-    (sym closed.is-closed-by.ensures ∙ c.before.if1.false)
+    let closed = c in
+    let a = closed.args in
+    c.without_wait.ensures
+    ∙ own-heard a.w a.a a.clock {b = false} closed.one_if-founds.ensures.0
+    (sym closed.is_closed_by.ensures ∙ c.if-is_closed_by.false)
 
-pub figures-heard-spec : {M : Type 1} → statement M
-figures-heard-spec =
+pub figures_heard_spec : {M : Type 1} → statement M
+figures_heard_spec =
     tie.close
     (tie.spec
     (λ c κs. search rules) (λ c κs. search rules) (λ c κs. search rules) (λ c κs. search rules)

@@ -4,34 +4,34 @@ use Rattle.sittings.proofs.WatchLaws.{heard-own, heard_nobody, is_in_lem, is_out
 use Rattle.sittings.proofs.records.hear_record.Statement.{statement}
 use Rattle.sittings.proofs.records.hear_record.Tie as tie
 
-wait-at-requires : tie.Need-wait-at-requires
-wait-at-requires c κs = let test = c.before in (is_in_lem _ (sym test.before.is_party.ensures ∙ test.if1.true)).last
+wait-at-requires : tie.Need-wait_at-w-requires
+wait-at-requires c κs = let test = c in (is_in_lem _ (sym test.is_party.ensures ∙ test.if-is_party.true)).last
 
-add-figures-requires : tie.Need-add-figures-requires
+add-figures-requires : tie.Need-add_figures-requires
 add-figures-requires c κs =
-    let test = c.before.before.before.before in is_in_lem _ (sym test.before.is_party.ensures ∙ test.if1.true)
+    let test = c in is_in_lem _ (sym test.is_party.ensures ∙ test.if-is_party.true)
 
-set-wait-requires : tie.Need-set-wait-requires
+set-wait-requires : tie.Need-set_wait-requires
 set-wait-requires c κs =
-    let test = c.before.before.before.before.before.before.before in
-    (is_in_lem _ (sym test.before.is_party.ensures ∙ test.if1.true)).last
+    let test = c in
+    (is_in_lem _ (sym test.is_party.ensures ∙ test.if-is_party.true)).last
 
-returns : tie.Need-returns
+returns : tie.Need-returns-then-is_party
 returns c =
-    let added = c.before.before.before in
-    let read = added.before.before.before in
-    heard-own read.before.before.before.before.args.a read.wait-at.ensures
-    added.before.figures-heard.ensures c.before.wait_left.ensures added.add-figures.ensures
-    c.set-wait.ensures
+    let added = c in
+    let read = added in
+    heard-own read.args.a read.wait_at-w.ensures
+    added.figures_heard.ensures c.wait_left.ensures added.add_figures.ensures
+    c.set_wait.ensures
 
-returns-2 : tie.Need-returns-2
+returns-2 : tie.Need-returns-else-is_party
 returns-2 c =
-    let a = c.before.before.args in
+    let a = c.args in
     heard_nobody a.report.now a.waits.now a.a
-    (is_out a.a.party (sym c.before.is_party.ensures ∙ c.if1.false))
+    (is_out a.a.party (sym c.is_party.ensures ∙ c.if-is_party.false))
 
-pub hear-record-spec : {M : Type 1} → statement M
-hear-record-spec =
+pub hear_record_spec : {M : Type 1} → statement M
+hear_record_spec =
     tie.close
     (tie.spec
     (λ c κs. search rules) wait-at-requires (λ c κs. search rules) add-figures-requires (λ c κs. search rules)

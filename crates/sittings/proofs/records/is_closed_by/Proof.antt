@@ -4,7 +4,7 @@ use Rattle.sittings.proofs.records.is_closed_by.Statement.{statement}
 use Rattle.sittings.proofs.records.is_closed_by.Tie as tie
 
 returns : tie.Need-returns
-returns c = own-closed c.before.before.before.args.w c.before.before.before.args.a
+returns c = own-closed c.args.w c.args.a
 
-pub is-closed-by-spec : {M : Type 1} → statement M
-is-closed-by-spec = tie.close (tie.spec returns)
+pub is_closed_by_spec : {M : Type 1} → statement M
+is_closed_by_spec = tie.close (tie.spec returns)

@@ -6,16 +6,16 @@ use Rattle.sittings.proofs.records.note_frame.Tie as tie
 
 returns : tie.Need-returns
 returns c =
-    let heard = c.before.before.before in
-    let counted = heard.before.before.before in
-    let clock = counted.before.before.before.args.clock in (
-      λ rs s. noted (ap (λ n. clock + n) (counted.count_of.ensures.0 rs s)) (heard.hear-records.ensures rs s)
-          (c.note-look-up.ensures rs s),
+    let heard = c in
+    let counted = heard in
+    let clock = counted.args.clock in (
+      λ rs s. noted (ap (λ n. clock + n) (counted.count_of.ensures.0 rs s)) (heard.hear_records.ensures rs s)
+          (c.note_look_up.ensures rs s),
       omega (arith, counted.count_of.ensures.1),
     )
 
-pub note-frame-spec : {M : Type 1} → statement M
-note-frame-spec =
+pub note_frame_spec : {M : Type 1} → statement M
+note_frame_spec =
     tie.close
     (tie.spec
     (λ c κs. search rules) (λ c. search rules) (λ c κs. search rules) (λ c κs. search rules) returns)

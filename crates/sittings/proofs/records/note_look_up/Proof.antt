@@ -7,65 +7,65 @@ use Rattle.sittings.proofs.WatchLaws.{is_in_lem, asked-waits, asked-answered, no
 use Rattle.sittings.proofs.records.note_look_up.Statement.{statement}
 use Rattle.sittings.proofs.records.note_look_up.Tie as tie
 
-add-figures-requires : tie.Need-add-figures-requires
+add-figures-requires : tie.Need-add_figures-requires
 add-figures-requires c κs =
-    let looks = c.before.before.before.before in
-    let asker = looks.before in
-    let op = asker.before.before.byte_at.result in
-    is_in_lem _ (sym asker.is_party.ensures ∙ and_right (is_look_up op) asker.is_party.result looks.if1.true)
+    let looks = c in
+    let asker = looks in
+    let op = asker.byte_at-op.result in
+    is_in_lem _ (sym asker.is_party.ensures ∙ and_right (is_look_up op) asker.is_party.result looks.if-op-is_party.true)
 
-set-wait-requires : tie.Need-set-wait-requires
+set-wait-requires : tie.Need-set_wait-requires
 set-wait-requires c κs =
-    let looks = c.before.before.before.before.before.before.before.before.before in
-    let asker = looks.before in
-    let op = asker.before.before.byte_at.result in
-    (is_in_lem _ (sym asker.is_party.ensures ∙ and_right (is_look_up op) asker.is_party.result looks.if1.true)
+    let looks = c in
+    let asker = looks in
+    let op = asker.byte_at-op.result in
+    (is_in_lem _ (sym asker.is_party.ensures ∙ and_right (is_look_up op) asker.is_party.result looks.if-op-is_party.true)
     ).last
 
-returns : tie.Need-returns
+returns : tie.Need-returns-then-count_of-ne0
 unfolding decode
 returns c rs s =
-    let added = c.before.before.before.before.before in
-    let looks = added.before.before.before.before.before in
-    let asker = looks.before in
-    let op = asker.before.before.byte_at.result in
-    asked-waits (logged asker.before.before.before.before.before.args.frame.now rs)
-    asker.before.before.byte_at.ensures asker.before.byte-at2.ensures
-    (and_left (is_look_up op) asker.is_party.result looks.if1.true)
-    (added.before.before.one-if.ensures.0
-    ∙ ap (λ b. one (not b)) (added.before.before.before.is_refused.ensures rs s))
-    added.before.without-wait.ensures added.add-figures.ensures
-    (c.before.before.before.before.count_of.ensures.0 rs s)
-    c.before.before.before.if2.true c.before.before.number_at.ensures c.set-wait.ensures
+    let added = c in
+    let looks = added in
+    let asker = looks in
+    let op = asker.byte_at-op.result in
+    asked-waits (logged asker.args.frame.now rs)
+    asker.byte_at-op.ensures asker.byte_at-party.ensures
+    (and_left (is_look_up op) asker.is_party.result looks.if-op-is_party.true)
+    (added.one_if.ensures.0
+    ∙ ap (λ b. one (not b)) (added.is_refused.ensures rs s))
+    added.without_wait.ensures added.add_figures.ensures
+    (c.count_of.ensures.0 rs s)
+    c.if-count_of-ne0.true c.number_at.ensures c.set_wait.ensures
 
-returns-2 : tie.Need-returns-2
+returns-2 : tie.Need-returns-else-count_of-ne0
 unfolding decode
 returns-2 c rs s =
-    let added = c.before.before in
-    let looks = added.before.before.before.before.before in
-    let asker = looks.before in
-    let op = asker.before.before.byte_at.result in
-    let a = asker.before.before.before.before.before.args in
-    asked-answered (logged a.frame.now rs) asker.before.before.byte_at.ensures
-    asker.before.byte-at2.ensures a.waits.now
-    (and_left (is_look_up op) asker.is_party.result looks.if1.true)
-    (added.before.before.one-if.ensures.0
-    ∙ ap (λ b. one (not b)) (added.before.before.before.is_refused.ensures rs s))
-    added.before.without-wait.ensures added.add-figures.ensures (c.before.count_of.ensures.0 rs s)
-    c.if2.false
+    let added = c in
+    let looks = added in
+    let asker = looks in
+    let op = asker.byte_at-op.result in
+    let a = asker.args in
+    asked-answered (logged a.frame.now rs) asker.byte_at-op.ensures
+    asker.byte_at-party.ensures a.waits.now
+    (and_left (is_look_up op) asker.is_party.result looks.if-op-is_party.true)
+    (added.one_if.ensures.0
+    ∙ ap (λ b. one (not b)) (added.is_refused.ensures rs s))
+    added.without_wait.ensures added.add_figures.ensures (c.count_of.ensures.0 rs s)
+    c.if-count_of-ne0.false
 
-returns-3 : tie.Need-returns-3
+returns-3 : tie.Need-returns-else-op-is_party
 unfolding decode
 returns-3 c rs s =
-    let asker = c.before in
-    let op = asker.before.before.byte_at.result in
-    let a = asker.before.before.before.before.before.args in
-    not-asked (logged a.frame.now rs) asker.before.before.byte_at.ensures asker.before.byte-at2.ensures
+    let asker = c in
+    let op = asker.byte_at-op.result in
+    let a = asker.args in
+    not-asked (logged a.frame.now rs) asker.byte_at-op.ensures asker.byte_at-party.ensures
     a.clock a.report.now a.waits.now
-    (ap (λ b. is_look_up op && b) (sym asker.is_party.ensures) ∙ c.if1.false)
+    (ap (λ b. is_look_up op && b) (sym asker.is_party.ensures) ∙ c.if-op-is_party.false)
 
-pub note-look-up-spec : {M : Type 1} → statement M
-note-look-up-spec =
+pub note_look_up_spec : {M : Type 1} → statement M
+note_look_up_spec =
     tie.close
     (tie.spec
     (λ c κs. search rules) (λ c κs. search rules) (λ c κs. search rules) (λ c κs. search rules)

@@ -5,7 +5,7 @@ use Rattle.sittings.proofs.records.wait_left.Statement.{statement}
 use Rattle.sittings.proofs.records.wait_left.Tie as tie
 
 returns : tie.Need-returns
-returns c = own-left c.before.before.args.w c.before.before.args.a c.before.is-closed-by.ensures
+returns c = own-left c.args.w c.args.a c.is_closed_by.ensures
 
-pub wait-left-spec : {M : Type 1} → statement M
-wait-left-spec = tie.close (tie.spec (λ c κs. search rules) returns)
+pub wait_left_spec : {M : Type 1} → statement M
+wait_left_spec = tie.close (tie.spec (λ c κs. search rules) returns)

@@ -8,7 +8,7 @@ use Rattle.sittings.proofs.SittingLaws.{told, ends_in, Watching, watching_none, 
 use Rattle.sittings.proofs.sitting.add_sitting.Statement.{statement}
 use Rattle.sittings.proofs.sitting.add_sitting.Tie as tie
 
-abbrev invariant-loop : tie.invariant-loop
+abbrev invariant-loop : tie.invariant-loop-i
 invariant-loop report₀ tray count space₀ hints₀ answers₀ waits₀ clock₀ i₀ report space hints answers waits clock i =
     Watching tray report₀ space hints report waits i clock
     × (count ≡ frame_count tray)
@@ -16,69 +16,69 @@ invariant-loop report₀ tray count space₀ hints₀ answers₀ waits₀ clock�
     × (i ≤ count)
     × (length answers ≡ step_area)
 
-abbrev decreases-loop : tie.decreases-loop
+abbrev decreases-loop : tie.decreases-loop-i
 decreases-loop report₀ tray count space₀ hints₀ answers₀ waits₀ clock₀ i₀ report space hints answers waits clock i = count - i
 
-loop-holds : tie.Need-loop-init invariant-loop decreases-loop
+loop-holds : tie.Need-loop-i-init invariant-loop decreases-loop
 loop-holds c =
-    let counted = c.before.before.before.before in
-    let start = counted.before.before in
-    let count = counted.pair-count.ensures in
+    let counted = c in
+    let start = counted in
+    let count = counted.pair_count-count.ensures in
     let few = few-frames _ (passes start.args.tray.now start.requires).0 in (
-      watching_none start.args.report.now (λ j. omega (arith, counted.before.shared-slice-known.given j))
-          c.before.before.set-empty.ensures.0 c.know-empty.ensures,
+      watching_none start.args.report.now (λ j. omega (arith, counted.shared_slice_known-1.given j))
+          c.set_empty.ensures.0 c.know_empty.ensures,
       count,
       omega (arith, count, few),
       omega arith,
       refl,
     )
 
-pair-at-requires : tie.Need-pair-at-requires invariant-loop decreases-loop
+pair-at-requires : tie.Need-pair_at-pair-requires invariant-loop decreases-loop
 pair-at-requires c κs =
-    let loop = c.before in
-    let start = loop.before.before.before.before.before.before.before in
-    pair_there _ _ (passes start.args.tray.now start.requires).0 (omega (arith, loop.loop.invariant.1))
+    let loop = c in
+    let start = loop in
+    pair_there _ _ (passes start.args.tray.now start.requires).0 (omega (arith, loop.loop-i.invariant.1))
 
 part_step_hinted_end : tie.Need-slice-bounds-step-hinted-end invariant-loop decreases-loop
 part_step_hinted_end c =
     let pair = c.before.before in
     let start = pair.before.before.before.before.before.before.before.before.before in
-    ends_in start.args.tray.now start.requires pair.pair-at.ensures (omega arith)
+    ends_in start.args.tray.now start.requires pair.pair_at-pair.ensures (omega arith)
 
-slice_aggregate_step_hinted : tie.Need-slice-aggregate-step-hinted invariant-loop decreases-loop
-slice_aggregate_step_hinted c = sym c.before.before.before.before.before.before.loop.invariant.4
+slice_aggregate_step_hinted : tie.Need-slice_bounds-step_hinted-end-in-loop-i invariant-loop decreases-loop
+slice_aggregate_step_hinted c = sym c.loop-i.invariant.4
 
-step-hinted-requires : tie.Need-step-hinted-requires invariant-loop decreases-loop
-step-hinted-requires c κs = c.before.before.before.before.before.before.loop.invariant.0.reliable
+step-hinted-requires : tie.Need-step_hinted-answer-requires invariant-loop decreases-loop
+step-hinted-requires c κs = c.loop-i.invariant.0.reliable
 
 part_note_frame-end : tie.Need-slice-bounds-note-frame-end invariant-loop decreases-loop
 part_note_frame-end c =
     let pair = c.before.before.before.before.before.before.before.before in
     let start = pair.before.before.before.before.before.before.before.before.before in
-    ends_in start.args.tray.now start.requires pair.pair-at.ensures (omega arith)
+    ends_in start.args.tray.now start.requires pair.pair_at-pair.ensures (omega arith)
 
-slice_aggregate_note_frame : tie.Need-slice-aggregate-note-frame invariant-loop decreases-loop
+slice_aggregate_note_frame : tie.Need-slice_bounds-note_frame-end-in-loop-i invariant-loop decreases-loop
 slice_aggregate_note_frame c =
-    let l = c.before.before.before.before.before.before.before.before.before.before.before.before.loop in
-    sym (told l.invariant.0.sound l.invariant.4 c.before.before.before.before.before.step-hinted.ensures.0).long
+    let l = c.loop-i in
+    sym (told l.invariant.0.sound l.invariant.4 c.step_hinted-answer.ensures.0).long
 
-note-frame-requires : tie.Need-note-frame-requires invariant-loop decreases-loop
+note-frame-requires : tie.Need-note_frame-clock-requires invariant-loop decreases-loop
 note-frame-requires c κs =
-    let step = c.before.before.before.before.before.step-hinted.ensures in
-    let l = c.before.before.before.before.before.before.before.before.before.before.before.before.loop in
+    let step = c.step_hinted-answer.ensures in
+    let l = c.loop-i in
     let t = told l.invariant.0.sound l.invariant.4 step.0 in
     (t.few, omega (arith, t.few, l.invariant.0.few))
 
-loop-again : tie.Need-loop-preserved invariant-loop decreases-loop
+loop-again : tie.Need-loop-i-preserved invariant-loop decreases-loop
 loop-again c =
-    let step = c.before.before.before.before.before.before.step-hinted.ensures in
-    let pair = c.before.before.before.before.before.before.before.before.before.before.before in
-    let loop = pair.before.before in
-    let l = loop.loop in
-    let tray = loop.before.before.before.before.before.before.before.args.tray.now in
+    let step = c.step_hinted-answer.ensures in
+    let pair = c in
+    let loop = pair in
+    let l = loop.loop-i in
+    let tray = loop.args.tray.now in
     let t = told l.invariant.0.sound l.invariant.4 step.0 in (
-      watching_more l.invariant.0 (omega (arith, l.invariant.1)) (part_is_frame tray pair.pair-at.ensures) t step.1
-          c.note-frame.ensures.0 c.note-frame.ensures.1,
+      watching_more l.invariant.0 (omega (arith, l.invariant.1)) (part_is_frame tray pair.pair_at-pair.ensures) t step.1
+          c.note_frame-clock.ensures.0 c.note_frame-clock.ensures.1,
       l.invariant.1,
       l.invariant.2,
       omega arith,
@@ -87,11 +87,11 @@ loop-again c =
 
 returns : tie.Need-returns invariant-loop decreases-loop
 returns c =
-    let l = c.before.before.before.before.loop in
-    watching_done l.invariant.0 (omega (arith, l.invariant)) c.end-waits.ensures
+    let l = c.loop-i in
+    watching_done l.invariant.0 (omega (arith, l.invariant)) c.end_waits.ensures
 
-pub add-sitting-spec : {M : Type 1} → statement M
-add-sitting-spec =
+pub add_sitting_spec : {M : Type 1} → statement M
+add_sitting_spec =
     tie.close
     (tie.spec
     invariant-loop decreases-loop (λ c κs. search rules) (λ c κs. search rules) (λ c κs. search rules) loop-holds

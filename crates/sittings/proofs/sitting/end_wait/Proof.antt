@@ -4,20 +4,20 @@ use Rattle.sittings.proofs.WatchLaws.{left_open, left_shut}
 use Rattle.sittings.proofs.sitting.end_wait.Statement.{statement}
 use Rattle.sittings.proofs.sitting.end_wait.Tie as tie
 
-returns : tie.Need-returns
+returns : tie.Need-returns-then-w
 returns c =
-    let test = c.before.before.before.before in
-    let a = test.before.before.args in
-    left_open a.clock a.party a.waits.now test.before.wait-at.ensures test.if1.true
-    c.before.with-wait.ensures c.before.before.ticks-between.ensures c.add-figures.ensures
+    let test = c in
+    let a = test.args in
+    left_open a.clock a.party a.waits.now test.wait_at-w.ensures test.if-w.true
+    c.with_wait.ensures c.ticks_between.ensures c.add_figures.ensures
 
-returns-2 : tie.Need-returns-2
+returns-2 : tie.Need-returns-else-w
 returns-2 c =
-    let a = c.before.before.args in
-    left_shut a.clock a.party a.waits.now a.report.now c.before.wait-at.ensures c.if1.false
+    let a = c.args in
+    left_shut a.clock a.party a.waits.now a.report.now c.wait_at-w.ensures c.if-w.false
 
-pub end-wait-spec : {M : Type 1} → statement M
-end-wait-spec =
+pub end_wait_spec : {M : Type 1} → statement M
+end_wait_spec =
     tie.close
     (tie.spec
     (λ c κs. search rules) (λ c κs. search rules) (λ c κs. search rules) (λ c κs. search rules) returns

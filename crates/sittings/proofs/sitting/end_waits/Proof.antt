@@ -7,34 +7,34 @@ use Rattle.sittings.proofs.WatchLaws.{ended_to, ended-none, ended-next, ended-al
 use Rattle.sittings.proofs.sitting.end_waits.Statement.{statement}
 use Rattle.sittings.proofs.sitting.end_waits.Tie as tie
 
-abbrev invariant-loop : tie.invariant-loop
+abbrev invariant-loop : tie.invariant-loop-party
 invariant-loop report₀ waits clock party₀ report party =
     Gained report₀ (ended_to clock waits party) report × (1 ≤ party) × (party ≤ max_party + 1)
 
-abbrev decreases-loop : tie.decreases-loop
+abbrev decreases-loop : tie.decreases-loop-party
 decreases-loop report₀ waits clock party₀ report party = max_party + 1 - party
 
-loop-holds : tie.Need-loop-init invariant-loop decreases-loop
+loop-holds : tie.Need-loop-party-init invariant-loop decreases-loop
 loop-holds c = let a = c.args in (ended-none a.clock a.waits.now a.report.now, omega arith, omega arith)
 
-end-wait-requires : tie.Need-end-wait-requires invariant-loop decreases-loop
+end-wait-requires : tie.Need-end_wait-requires invariant-loop decreases-loop
 end-wait-requires c κs = record { first = omega arith; last = omega arith }
 
-loop-again : tie.Need-loop-preserved invariant-loop decreases-loop
+loop-again : tie.Need-loop-party-preserved invariant-loop decreases-loop
 loop-again c =
-    let loop = c.before.before.before in
-    let l = loop.loop in
-    let a = loop.before.args in
-    (ended-next a.clock a.waits.now l.party l.invariant.0 c.end-wait.ensures, omega arith, omega arith)
+    let loop = c in
+    let l = loop.loop-party in
+    let a = loop.args in
+    (ended-next a.clock a.waits.now l.party l.invariant.0 c.end_wait.ensures, omega arith, omega arith)
 
 returns : tie.Need-returns invariant-loop decreases-loop
 returns c =
-    let l = c.before.loop in
-    let a = c.before.before.args in
+    let l = c.loop-party in
+    let a = c.args in
     ended-all a.clock a.waits.now l.party (omega arith) l.invariant.0
 
-pub end-waits-spec : {M : Type 1} → statement M
-end-waits-spec =
+pub end_waits_spec : {M : Type 1} → statement M
+end_waits_spec =
     tie.close
     (tie.spec
     invariant-loop decreases-loop loop-holds end-wait-requires (λ c. omega arith) (λ c. omega arith) loop-again returns)

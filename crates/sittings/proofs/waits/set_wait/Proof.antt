@@ -6,12 +6,12 @@ use Rattle.sittings.proofs.waits.set_wait.Tie as tie
 
 returns : tie.Need-returns
 returns c =
-    let a = c.before.before.before.args in
-    stored_wait a.waits.now a.party a.w c.before.whole.ensures c.before.before.before.requires
-    c.one-if.ensures.0
+    let a = c.args in
+    stored_wait a.waits.now a.party a.w c.whole.ensures c.requires
+    c.one_if.ensures.0
 
-pub set-wait-spec : {M : Type 1} → statement M
-set-wait-spec =
+pub set_wait_spec : {M : Type 1} → statement M
+set_wait_spec =
     tie.close
     (tie.spec
     (λ c κs. search rules) (λ c. search rules) (λ c κs. search rules) (λ c. search rules) (λ c. search rules)

@@ -9,13 +9,13 @@ use Rattle.step.proofs.kinds.commit_frame.Statement.{statement}
 
 returns : tie.Need-returns
 returns c =
-    let taken = c.before.before in
-    let start = taken.before.before.before.before.before.before in
+    let taken = c in
+    let start = taken in
     let q = Commit start.args.party start.args.id in (
-      taken.take-commit.ensures,
-      stays-reliable start.requires.0 taken.take-commit.ensures start.requires.2
+      taken.take_commit.ensures,
+      stays-reliable start.requires.0 taken.take_commit.ensures start.requires.2
           (follows_same (frame_of q) refl refl refl refl),
     )
 
-pub commit-frame-spec : {M : Type 1} → statement M
-commit-frame-spec = tie.close (tie.spec (λ c κs. search rules) (λ c. search rules) returns)
+pub commit_frame_spec : {M : Type 1} → statement M
+commit_frame_spec = tie.close (tie.spec (λ c κs. search rules) (λ c. search rules) returns)

@@ -5,25 +5,25 @@ use Rattle.step.proofs.FollowLaws.{stays-reliable, follows-create}
 use Rattle.step.proofs.kinds.create_frame.Statement.{statement}
 use Rattle.step.proofs.kinds.create_frame.Tie as tie
 
-take-create-requires : tie.Need-take-create-requires
+take-create-requires : tie.Need-take_create-requires
 take-create-requires c κs =
-    let lease = c.before.before.before in
-    let start = lease.before.before.before.before.before.before in
-    (start.requires.0, start.requires.1, weaker-reliable lease.note-lease.ensures.0 start.requires.2)
+    let lease = c in
+    let start = lease in
+    (start.requires.0, start.requires.1, weaker-reliable lease.note_lease.ensures.0 start.requires.2)
 
 returns : tie.Need-returns
 returns c =
-    let taken = c.before.before in
-    let lease = taken.before.before.before.before in
-    let start = lease.before.before.before.before.before.before in (
-      taken.take-create.ensures,
-      stays-reliable start.requires.0 taken.take-create.ensures start.requires.2
-          (follows-create start.args.party start.args.lease lease.before.clock.ensures
-          lease.note-lease.ensures),
+    let taken = c in
+    let lease = taken in
+    let start = lease in (
+      taken.take_create.ensures,
+      stays-reliable start.requires.0 taken.take_create.ensures start.requires.2
+          (follows-create start.args.party start.args.lease lease.clock.ensures
+          lease.note_lease.ensures),
     )
 
-pub create-frame-spec : {M : Type 1} → statement M
-create-frame-spec =
+pub create_frame_spec : {M : Type 1} → statement M
+create_frame_spec =
     tie.close
     (tie.spec
     (λ c κs. search rules) (λ c κs. search rules) take-create-requires (λ c. search rules) returns)

@@ -5,25 +5,25 @@ use Rattle.hints.proofs.ReliableLaws.{weaker-reliable}
 use Rattle.step.proofs.FollowLaws.{stays-reliable, follows-notify}
 use Rattle.step.proofs.kinds.notify_frame.Statement.{statement}
 
-take-notify-requires : tie.Need-take-notify-requires
+take-notify-requires : tie.Need-take_notify-requires
 take-notify-requires c κs =
-    let lease = c.before.before.before in
-    let start = lease.before.before.before.before.before.before in
-    (start.requires.0, start.requires.1, weaker-reliable lease.note-lease.ensures.0 start.requires.2)
+    let lease = c in
+    let start = lease in
+    (start.requires.0, start.requires.1, weaker-reliable lease.note_lease.ensures.0 start.requires.2)
 
 returns : tie.Need-returns
 returns c =
-    let taken = c.before.before in
-    let lease = taken.before.before.before.before in
-    let start = lease.before.before.before.before.before.before in (
-      taken.take-notify.ensures,
-      stays-reliable start.requires.0 taken.take-notify.ensures start.requires.2
-          (follows-notify start.args.q lease.before.clock.ensures
-          lease.note-lease.ensures),
+    let taken = c in
+    let lease = taken in
+    let start = lease in (
+      taken.take_notify.ensures,
+      stays-reliable start.requires.0 taken.take_notify.ensures start.requires.2
+          (follows-notify start.args.q lease.clock.ensures
+          lease.note_lease.ensures),
     )
 
-pub notify-frame-spec : {M : Type 1} → statement M
-notify-frame-spec =
+pub notify_frame_spec : {M : Type 1} → statement M
+notify_frame_spec =
     tie.close
     (tie.spec
     (λ c κs. search rules) (λ c κs. search rules) take-notify-requires (λ c. search rules) returns)

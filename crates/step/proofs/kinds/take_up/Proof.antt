@@ -3,48 +3,48 @@ use borrow.Author.Rules.{rules}
 use Rattle.step.proofs.kinds.take_up.Tie as tie
 use Rattle.step.proofs.kinds.take_up.Statement.{statement}
 
-write-frame-requires : tie.Need-write-frame-requires
+write-frame-requires : tie.Need-write_frame-requires
 write-frame-requires c κs =
-    let told = c.before.before.before.before in rw told.q.given.1 at
-    told.before.before.before.before.requires
+    let told = c in rw told.q-1.given.1 at
+    told.requires
 
-find-frame-requires : tie.Need-find-frame-requires
+find-frame-requires : tie.Need-find_frame-requires
 find-frame-requires c κs =
-    let told = c.before.before.before.before in rw told.q2.given.1 at
-    told.before.before.before.before.requires
+    let told = c in rw told.q-in-Find-1.given.1 at
+    told.requires
 
-create-frame-requires : tie.Need-create-frame-requires
+create-frame-requires : tie.Need-create_frame-requires
 create-frame-requires c κs =
-    let told = c.before.before.before.before in rw told.q3.given.1 at
-    told.before.before.before.before.requires
+    let told = c in rw told.q-in-Create-1.given.1 at
+    told.requires
 
-commit-frame-requires : tie.Need-commit-frame-requires
+commit-frame-requires : tie.Need-commit_frame-requires
 commit-frame-requires c κs =
-    let told = c.before.before.before.before in rw told.q4.given.1 at
-    told.before.before.before.before.requires
+    let told = c in rw told.q-in-Commit-1.given.1 at
+    told.requires
 
-abort-frame-requires : tie.Need-abort-frame-requires
+abort-frame-requires : tie.Need-abort_frame-requires
 abort-frame-requires c κs =
-    let told = c.before.before.before.before in rw told.q5.given.1 at
-    told.before.before.before.before.requires
+    let told = c in rw told.q-in-Abort-1.given.1 at
+    told.requires
 
-renew-frame-requires : tie.Need-renew-frame-requires
+renew-frame-requires : tie.Need-renew_frame-requires
 renew-frame-requires c κs =
-    let told = c.before.before.before.before.before in rw told.q6.given.1 at
-    told.before.before.before.before.requires
+    let told = c in rw told.q-in-Renew-1.given.1 at
+    told.requires
 
-notify-frame-requires : tie.Need-notify-frame-requires
+notify-frame-requires : tie.Need-notify_frame-requires
 notify-frame-requires c κs =
-    let told = c.before.before.before.before in rw told.q7.given.1 at
-    told.before.before.before.before.requires
+    let told = c in rw told.q-in-Notify-1.given.1 at
+    told.requires
 
-tick-frame-requires : tie.Need-tick-frame-requires
+tick-frame-requires : tie.Need-tick_frame-requires
 tick-frame-requires c κs =
-    let told = c.before.before.before in rw told.enum_told.given.1 at
-    told.before.before.before.before.requires
+    let told = c in rw told.enum_told-1.given.1 at
+    told.requires
 
-pub take-up-spec : {M : Type 1} → statement M
-take-up-spec =
+pub take_up_spec : {M : Type 1} → statement M
+take_up_spec =
     tie.close
     (tie.spec
     (λ c. search rules) write-frame-requires (λ c. search rules) find-frame-requires (λ c. search rules)

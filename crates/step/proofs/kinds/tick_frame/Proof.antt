@@ -10,12 +10,12 @@ use Rattle.step.proofs.kinds.tick_frame.Statement.{statement}
 
 returns : tie.Need-returns
 returns c =
-    let taken = c.before.before.before.before.before in
-    let start = taken.before.before.before.before.before.before in
+    let taken = c in
+    let start = taken in
     let stays =
-    stays-reliable start.requires.0 taken.take-tick.ensures start.requires.2
+    stays-reliable start.requires.0 taken.take_tick-r.ensures start.requires.2
     (follows_same (frame_of Tick) refl refl refl refl) in
-    (taken.take-tick.ensures, λ s. renewed-reliable c.renew-reached.ensures (stays s))
+    (taken.take_tick-r.ensures, λ s. renewed-reliable c.renew_reached.ensures (stays s))
 
-pub tick-frame-spec : {M : Type 1} → statement M
-tick-frame-spec = tie.close (tie.spec (λ c κs. search rules) (λ c κs. search rules) (λ c. search rules) returns)
+pub tick_frame_spec : {M : Type 1} → statement M
+tick_frame_spec = tie.close (tie.spec (λ c κs. search rules) (λ c κs. search rules) (λ c. search rules) returns)

@@ -18,41 +18,41 @@ use Rattle.step.proofs.PassedLaws.{find_in_time}
 use Rattle.step.proofs.look_up.find.Statement.{statement}
 use Rattle.step.proofs.look_up.find.Tie as tie
 
-look-up-of-requires : tie.Need-look-up-of-requires
-look-up-of-requires c κs = find_in_time (view c.before.args.space.now) c.before.args.l c.before.requires
+look-up-of-requires : tie.Need-look_up_of-w-requires
+look-up-of-requires c κs = find_in_time (view c.args.space.now) c.args.l c.requires
 
-returns : tie.Need-returns
+returns : tie.Need-returns-in_default
 returns c ready =
-    let search = c.before.before.before.before in
-    let asked = search.before.before in
-    let l = asked.before.before.args.l in
-    let n = sym search.find-available.ensures.0 ∙ ap match_of c.before.before.enum_told.given.1 in
-    none_found _ _ (frame_of (Find l)) _ asked.look-up-of.ensures.0 n (c.wait-or-nothing.ensures ready.room)
+    let search = c in
+    let asked = search in
+    let l = asked.args.l in
+    let n = sym search.find_available.ensures.0 ∙ ap match_of c.enum_told-1.given.1 in
+    none_found _ _ (frame_of (Find l)) _ asked.look_up_of-w.ensures.0 n (c.wait_or_nothing.ensures ready.room)
 
 -- the entry that is found stands in its row
-in_row : (c : tie.After-known-told)
-    → let a = c.before.before.before.before.before.before.before.args in
-    let g = c.before.e.given.0 in
+in_row : (c : tie.In-At)
+    → let a = c.args in
+    let g = c.e-1.given.0 in
     (g.1.0 < entry_count a.space.now) × (g.0 ≡ entry_row a.space.now g.1.0)
 in_row c =
-    let a = c.before.before.before.before.before.before.before.args in
-    subst (InRow a.space.now) c.before.e.given.1 c.before.before.before.find-available.ensures.1
+    let a = c.args in
+    subst (InRow a.space.now) c.e-1.given.1 c.find_available.ensures.1
 
-returns-2 : tie.Need-returns-2
+returns-2 : tie.Need-returns
 unfolding answer_found handed_at
 returns-2 c ready =
-    let told = c.before.before.before in
-    let found = told.before in
-    let search = found.before.before in
-    let asked = search.before.before in
-    let a = asked.before.before.args in
+    let told = c in
+    let found = told in
+    let search = found in
+    let asked = search in
+    let a = asked.args in
     let ws = a.space.now in
-    let n = sym search.find-available.ensures.0 ∙ ap match_of found.e.given.1 in
-    let r = in_row told in
+    let n = sym search.find_available.ensures.0 ∙ ap match_of found.e-1.given.1 in
+    let r = in_row told.before.before.before in
     let by = by_row (view ws).txns _ _ (view ws).entries _ (omega (arith, r.0, length-entries ws))
     (entry_in ws _ _ r.0 ∙ sym r.1) ready.numbered in
-    one_found _ _ (frame_of (Find a.l)) _ asked.look-up-of.ensures.0 n
-    (c.before.hand-out.ensures.0 ∙ ap (λ es. with_entries es (view ws)) by) c.found-record.ensures
+    one_found _ _ (frame_of (Find a.l)) _ asked.look_up_of-w.ensures.0 n
+    (c.hand_out.ensures.0 ∙ ap (λ es. with_entries es (view ws)) by) c.found_record.ensures
 
 pub find_spec : {M : Type 1} → statement M
 find_spec =

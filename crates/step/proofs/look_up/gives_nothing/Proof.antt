@@ -9,22 +9,22 @@ use Rattle.rules.specs.Words.{view}
 use Rattle.step.proofs.look_up.gives_nothing.Statement.{statement}
 use Rattle.step.proofs.look_up.gives_nothing.Tie as tie
 
-returns : tie.Need-returns
+returns : tie.Need-returns-then-timeout-eq0
 unfolding gives_nothing
-returns c = rw (eq-eqb _ _ c.if1.true)
+returns c = rw (eq-eqb _ _ c.if-timeout-eq0.true)
 
-returns-2 : tie.Need-returns-2
+returns-2 : tie.Need-returns-then-w
 unfolding gives_nothing
 returns-2 c =
-    let a = c.before.before.before.args in
+    let a = c.args in
     let m = view a.space.now in
-    ap not c.any-conflict.ensures
+    ap not c.any_conflict.ensures
     ∙ sym (ap₂ (λ x y. x || y && not (some_conflicts m.txns a.w m.entries))
-    (ne_eqb _ _ c.before.before.if1.false) c.before.if2.true)
+    (ne_eqb _ _ c.if-timeout-eq0.false) c.if-w.true)
 
-returns-3 : tie.Need-returns-3
+returns-3 : tie.Need-returns-else-w
 unfolding gives_nothing
-returns-3 c = rw (ne_eqb _ _ c.before.if1.false, c.if2.false)
+returns-3 c = rw (ne_eqb _ _ c.if-timeout-eq0.false, c.if-w.false)
 
-pub gives-nothing-spec : {M : Type 1} → statement M
-gives-nothing-spec = tie.close (tie.spec returns (λ c κs. search rules) returns-2 returns-3)
+pub gives_nothing_spec : {M : Type 1} → statement M
+gives_nothing_spec = tie.close (tie.spec returns (λ c κs. search rules) returns-2 returns-3)

@@ -6,24 +6,24 @@ use Rattle.step.proofs.LookUpAnswers.{gets_nothing, waits_on}
 use Rattle.step.proofs.look_up.wait_or_nothing.Statement.{statement}
 use Rattle.step.proofs.look_up.wait_or_nothing.Tie as tie
 
-returns : tie.Need-returns
+returns : tie.Need-returns-then-gives_nothing
 unfolding nothing
 returns c _ =
-    let asked = c.before.before in
-    let a = asked.before.before.args in
-    gets_nothing _ _ a.w a.timeout (sym asked.Gives-nothing.ensures ∙ c.before.if1.true) refl
-    c.plain-record.ensures
+    let asked = c in
+    let a = asked.args in
+    gets_nothing _ _ a.w a.timeout (sym asked.gives_nothing.ensures ∙ c.if-gives_nothing.true) refl
+    c.plain_record.ensures
 
-returns-2 : tie.Need-returns-2
+returns-2 : tie.Need-returns
 unfolding waiting
 returns-2 c free =
-    let asked = c.before.before.before.before in
-    let a = asked.before.before.args in
-    waits_on _ _ a.w a.timeout (sym asked.Gives-nothing.ensures ∙ c.before.before.before.if1.false)
-    (c.before.add-wait.ensures free) c.plain-record2.ensures
+    let asked = c in
+    let a = asked.args in
+    waits_on _ _ a.w a.timeout (sym asked.gives_nothing.ensures ∙ c.if-gives_nothing.false)
+    (c.add_wait.ensures free) c.plain_record-2.ensures
 
-pub wait-or-nothing-spec : {M : Type 1} → statement M
-wait-or-nothing-spec =
+pub wait_or_nothing_spec : {M : Type 1} → statement M
+wait_or_nothing_spec =
     tie.close
     (tie.spec
     (λ c κs. search rules) (λ c κs. search rules) returns (λ c κs. search rules) (λ c κs. search rules) returns-2)

@@ -8,8 +8,8 @@ use Rattle.step.proofs.own.abort.Tie as tie
 returns : tie.Need-returns
 unfolding abort_frame aborted
 returns c =
-    let done = c.before.abort-txn.ensures in
-    (record { model = done.0; own = c.plain-record.ensures }, done.1)
+    let done = c.abort_txn-from.ensures in
+    (record { model = done.0; own = c.plain_record-answer.ensures }, done.1)
 
-pub abort-spec : {M : Type 1} → statement M
-abort-spec = tie.close (tie.spec (λ c κs. search rules) (λ c κs. search rules) returns)
+pub abort_spec : {M : Type 1} → statement M
+abort_spec = tie.close (tie.spec (λ c κs. search rules) (λ c κs. search rules) returns)

@@ -6,7 +6,7 @@ use Rattle.step.proofs.own.abort_idle.Tie as tie
 
 returns : tie.Need-returns
 unfolding aborted
-returns c = (c.before.remove-txn.ensures, c.plain-record.ensures)
+returns c = (c.remove_txn.ensures, c.plain_record.ensures)
 
-pub abort-idle-spec : {M : Type 1} → statement M
-abort-idle-spec = tie.close (tie.spec (λ c κs. search rules) (λ c κs. search rules) returns)
+pub abort_idle_spec : {M : Type 1} → statement M
+abort_idle_spec = tie.close (tie.spec (λ c κs. search rules) (λ c κs. search rules) returns)

@@ -11,12 +11,12 @@ use Rattle.step.proofs.own.advance.Statement.{statement}
 returns : tie.Need-returns
 unfolding ticked
 returns c =
-    let clock = c.before.before.before in
-    let m = view clock.before.before.args.space.now in
-    (c.before.set-clock.ensures ∙ ap (λ t. with_clock (t + 1) m) clock.clock.ensures, c.plain-record.ensures)
+    let clock = c in
+    let m = view clock.args.space.now in
+    (c.set_clock.ensures ∙ ap (λ t. with_clock (t + 1) m) clock.clock-t.ensures, c.plain_record.ensures)
 
-pub advance-spec : {M : Type 1} → statement M
-advance-spec =
+pub advance_spec : {M : Type 1} → statement M
+advance_spec =
     tie.close
     (tie.spec
     (λ c κs. search rules) (λ c. search rules) (λ c κs. search rules) (λ c κs. search rules) returns)

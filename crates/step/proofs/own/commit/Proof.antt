@@ -7,8 +7,8 @@ use Rattle.step.proofs.own.commit.Statement.{statement}
 returns : tie.Need-returns
 unfolding committed
 returns c =
-    let done = c.before.commit-txn.ensures in
-    (done.0, c.plain-record.ensures, done.1)
+    let done = c.commit_txn-from.ensures in
+    (done.0, c.plain_record-answer.ensures, done.1)
 
-pub commit-spec : {M : Type 1} → statement M
-commit-spec = tie.close (tie.spec (λ c κs. search rules) (λ c κs. search rules) returns)
+pub commit_spec : {M : Type 1} → statement M
+commit_spec = tie.close (tie.spec (λ c κs. search rules) (λ c κs. search rules) returns)

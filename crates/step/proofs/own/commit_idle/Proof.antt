@@ -6,7 +6,7 @@ use Rattle.step.proofs.own.commit_idle.Tie as tie
 
 returns : tie.Need-returns
 unfolding committed
-returns c = (c.before.remove-txn.ensures, c.plain-record.ensures)
+returns c = (c.remove_txn.ensures, c.plain_record.ensures)
 
-pub commit-idle-spec : {M : Type 1} → statement M
-commit-idle-spec = tie.close (tie.spec (λ c κs. search rules) (λ c κs. search rules) returns)
+pub commit_idle_spec : {M : Type 1} → statement M
+commit_idle_spec = tie.close (tie.spec (λ c κs. search rules) (λ c κs. search rules) returns)

@@ -9,11 +9,11 @@ use Rattle.step.proofs.PassedLaws.{create_in_time, create-room, create-number}
 use Rattle.step.proofs.own.create.Statement.{statement}
 use Rattle.step.proofs.own.create.Tie as tie
 
-create-txn-requires : tie.Need-create-txn-requires
+create-txn-requires : tie.Need-create_txn-id-requires
 create-txn-requires c κs =
-    let a = c.before.args in
+    let a = c.args in
     let m = view a.space.now in
-    let p = c.before.requires in
+    let p = c.requires in
     record {
       in_time = create_in_time m a.party a.lease p;
       room = create-room m a.party a.lease p;
@@ -23,9 +23,9 @@ create-txn-requires c κs =
 returns : tie.Need-returns
 unfolding create created
 returns c =
-    let t = c.before.create-txn in
-    let party = c.before.before.before.args.party in
-    record { model = t.ensures.0; own = c.plain-record.ensures ∙ ap (plain kind_created party) t.ensures.1 }
+    let t = c.create_txn-id in
+    let party = c.args.party in
+    record { model = t.ensures.0; own = c.plain_record.ensures ∙ ap (plain kind_created party) t.ensures.1 }
 
-pub create-spec : {M : Type 1} → statement M
-create-spec = tie.close (tie.spec create-txn-requires (λ c κs. search rules) returns)
+pub create_spec : {M : Type 1} → statement M
+create_spec = tie.close (tie.spec create-txn-requires (λ c κs. search rules) returns)

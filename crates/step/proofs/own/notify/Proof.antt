@@ -10,22 +10,22 @@ use Rattle.rules.specs.Words.{view}
 use Rattle.step.proofs.PassedLaws.{notify_in_time, notify-room, notify-number}
 use Rattle.step.proofs.own.notify.Statement.{statement}
 
-register-requires : tie.Need-register-requires
+register-requires : tie.Need-register-id-requires
 register-requires c κs =
-    let a = c.before.args in
+    let a = c.args in
     let m = view a.space.now in
-    let p = c.before.requires in
+    let p = c.requires in
     record { in_time = notify_in_time m a.q p; room = notify-room m a.q p; number = notify-number m a.q p }
 
 returns : tie.Need-returns
 unfolding notify
 returns c =
-    let r = c.before.register in
-    let q = c.before.before.before.args.q in
+    let r = c.register-id in
+    let q = c.args.q in
     record {
       model = r.ensures.0;
-      own = c.notified-record.ensures ∙ ap (notified (frame_of (Notify q))) r.ensures.1;
+      own = c.notified_record.ensures ∙ ap (notified (frame_of (Notify q))) r.ensures.1;
     }
 
-pub notify-spec : {M : Type 1} → statement M
-notify-spec = tie.close (tie.spec register-requires (λ c κs. search rules) returns)
+pub notify_spec : {M : Type 1} → statement M
+notify_spec = tie.close (tie.spec register-requires (λ c κs. search rules) returns)

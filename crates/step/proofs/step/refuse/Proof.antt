@@ -8,16 +8,16 @@ use Rattle.step.proofs.step.refuse.Tie as tie
 
 returns : tie.Need-returns
 returns c =
-    let added = c.before.before.add-record in
-    let made = c.before.before.before.before in
-    let area = made.before.before.before.args.answers.now in (
+    let added = c.add_record in
+    let made = c in
+    let area = made.args.answers.now in (
       refl,
-      subst (λ r. Adds (r ∷ []) area added.new.0 0 1) made.refused_record.ensures
+      subst (λ r. Adds (r ∷ []) area added.new.0 0 1) made.refused_record-r.ensures
           (record { counts = refl; bytes = added.ensures.bytes }),
     )
 
-pub refuse-spec : {M : Type 1} → statement M
-refuse-spec =
+pub refuse_spec : {M : Type 1} → statement M
+refuse_spec =
     tie.close
     (tie.spec
     (λ c κs. search rules) (λ c κs. search rules) (λ c. search rules) (λ c. search rules) (λ c. search rules)

@@ -12,89 +12,89 @@ use Rattle.step.proofs.IdleStepped.{stepped-commit}
 use Rattle.step.proofs.SteppedLaws.{stepped-judged}
 use Rattle.step.proofs.step.take_commit.Statement.{statement}
 
-returns : tie.Need-returns
+returns : tie.Need-returns-then-n-ne0
 returns c =
-    let test = c.before.before.before.before in
-    let start = test.before.before.before.before.before in
-    stepped-judged start.requires.1 start.requires.0 test.before.commit-refusal.ensures test.if1.true refl
-    c.before.before.refuse.ensures
+    let test = c in
+    let start = test in
+    stepped-judged start.requires.1 start.requires.0 test.commit_refusal-n.ensures test.if-n-ne0.true refl
+    c.refuse.ensures
 
-returns-2 : tie.Need-returns-2
+returns-2 : tie.Need-returns-then-is_idle
 returns-2 c =
-    let own = c.before.before in
-    let carried = own.before.before in
-    let idle = carried.before.before in
-    let test = idle.before.before in
-    let start = test.before.before.before.before.before in
+    let own = c in
+    let carried = own in
+    let idle = carried in
+    let test = idle in
+    let start = test in
     stepped-commit start.args.space.now start.args.answers.now start.requires.1 start.requires.2
-    (idle.before.is-idle.ensures idle.if2.true) carried.commit-idle.ensures.0 start.requires.0
-    (sym test.before.commit-refusal.ensures ∙ test.if1.false) carried.commit-idle.ensures.1
-    own.add-record.ensures
+    (idle.is_idle.ensures idle.if-is_idle.true) carried.commit_idle-answer.ensures.0 start.requires.0
+    (sym test.commit_refusal-n.ensures ∙ test.if-n-ne0.false) carried.commit_idle-answer.ensures.1
+    own.add_record.ensures
 
-serve-and-close-requires : tie.Need-serve-and-close-requires
+serve-and-close-requires : tie.Need-serve_and_close-closed-requires
 serve-and-close-requires c κs =
-    let own = c.before.before.before.before in
-    let start = own.before.before.before.before.before.before.before.before.before.before.before.before.before.before.before.before.before.before in
-    let a = own.add-record2.ensures in
-    omega (arith, start.pre.1, a.counts, adds-length a (omega (arith, start.pre.1, a.counts)))
+    let own = c in
+    let start = own in
+    let a = own.add_record-count.ensures in
+    omega (arith, start.pre.1, a.counts-1, adds-length a (omega (arith, start.pre.1, a.counts-1)))
 
-put-bells-requires : tie.Need-put-bells-requires
+put-bells-requires : tie.Need-put_bells-requires
 put-bells-requires c κs =
-    let closed = c.before.before.before.before.before in
-    let own = closed.before.before.before.before.before in
-    let heard = own.before.before.before in
-    let start = own.before.before.before.before.before.before.before.before.before.before.before.before.before.before.before.before.before.before in
-    let counted = heard.before.before.before.before.before in
-    let ws = heard.hear.new.0 in
-    let a = own.add-record2.ensures in
-    let few = both-few heard.before.before.before.commit.result.from (view ws) in
-    let d = closed.serve-and-close.ensures in
-    let long = adds-length a (omega (arith, start.pre.1, a.counts)) in (
+    let closed = c in
+    let own = closed in
+    let heard = own in
+    let start = own in
+    let counted = heard in
+    let ws = heard.hear.new.space in
+    let a = own.add_record-count.ensures in
+    let few = both-few heard.commit-own.result.from (view ws) in
+    let d = closed.serve_and_close-closed.ensures in
+    let long = adds-length a (omega (arith, start.pre.1, a.counts-1)) in (
       omega (
         arith,
         start.pre.1,
-        a.counts,
+        a.counts-1,
         long,
-        d.adds.counts,
+        d.adds.counts-1,
         few,
         (view-bounded ws).waits-fit,
         adds-length d.adds (omega (
           arith,
           start.pre.1,
-          a.counts,
+          a.counts-1,
           long,
-          d.adds.counts,
+          d.adds.counts-1,
           few,
           (view-bounded ws
               ).waits-fit,
         )),
       ),
-      counted.count-public.ensures.1,
+      counted.count_public.ensures.1,
     )
 
-returns-3 : tie.Need-returns-3
+returns-3 : tie.Need-returns
 returns-3 c =
-    let closed = c.before.before.before.before.before.before.before.before in
-    let own = closed.before.before.before.before.before in
-    let heard = own.before.before.before in
-    let carried = heard.before.before.before in
-    let counted = carried.before.before in
-    let test = counted.before.before.before.before.before in
-    let start = test.before.before.before.before.before in
-    stepped-committed start.requires.1 start.requires.0 (sym test.before.commit-refusal.ensures ∙ test.if1.false)
-    _ _ counted.count-public.new.1.1.0 carried.commit.result.from counted.count-public.ensures.0
-    carried.commit.ensures heard.hear.ensures
-    own.add-record2.ensures
+    let closed = c in
+    let own = closed in
+    let heard = own in
+    let carried = heard in
+    let counted = carried in
+    let test = counted in
+    let start = test in
+    stepped-committed start.requires.1 start.requires.0 (sym test.commit_refusal-n.ensures ∙ test.if-n-ne0.false)
+    _ _ counted.count_public.new.counts carried.commit-own.result.from counted.count_public.ensures.0
+    carried.commit-own.ensures heard.hear.ensures
+    own.add_record-count.ensures
     (omega (
       arith,
       start.requires.1,
-      own.add-record2.ensures.counts,
-      adds-length own.add-record2.ensures (omega (arith, start.requires.1, own.add-record2.ensures.counts)),
+      own.add_record-count.ensures.counts-1,
+      adds-length own.add_record-count.ensures (omega (arith, start.requires.1, own.add_record-count.ensures.counts-1)),
     ))
-    closed.serve-and-close.ensures c.before.before.put-bells.ensures
+    closed.serve_and_close-closed.ensures c.put_bells.ensures
 
-pub take-commit-spec : {M : Type 1} → statement M
-take-commit-spec =
+pub take_commit_spec : {M : Type 1} → statement M
+take_commit_spec =
     tie.close
     (tie.spec
     (λ c κs. search rules) (λ c κs. search rules) (λ c. search rules) returns (λ c κs. search rules)

@@ -12,28 +12,28 @@ use Rattle.step.proofs.KindLaws.{create-quiet}
 use Rattle.step.proofs.SteppedLaws.{stepped-judged, stepped-done}
 use Rattle.step.proofs.step.take_create.Statement.{statement}
 
-returns : tie.Need-returns
+returns : tie.Need-returns-then-n-ne0
 returns c =
-    let test = c.before.before.before.before in
-    let start = test.before.before.before.before.before in
-    stepped-judged start.requires.1 start.requires.0 test.before.create-refusal.ensures test.if1.true refl
-    c.before.before.refuse.ensures
+    let test = c in
+    let start = test in
+    stepped-judged start.requires.1 start.requires.0 test.create_refusal-n.ensures test.if-n-ne0.true refl
+    c.refuse.ensures
 
-returns-2 : tie.Need-returns-2
+returns-2 : tie.Need-returns
 unfolding own_part
 returns-2 c =
-    let own = c.before.before in
-    let carried = own.before.before in
-    let test = carried.before.before in
-    let start = test.before.before.before.before.before in
-    let ws = carried.create.new.0 in
-    stepped-done start.requires.1 start.requires.0 0 (sym test.before.create-refusal.ensures ∙ test.if1.false)
-    (λ _. carried.create.ensures, refl) own.add-record.ensures _ (create-quiet _ _)
+    let own = c in
+    let carried = own in
+    let test = carried in
+    let start = test in
+    let ws = carried.create-answer.new.space in
+    stepped-done start.requires.1 start.requires.0 0 (sym test.create_refusal-n.ensures ∙ test.if-n-ne0.false)
+    (λ _. carried.create-answer.ensures, refl) own.add_record.ensures _ (create-quiet _ _)
     (λ _. none-rung _ _ refl refl)
     (does_as (sym (quiet-ends 0 (view ws) (view-bounded ws).entries_fit)) (does-nothing _ _ _))
 
-pub take-create-spec : {M : Type 1} → statement M
-take-create-spec =
+pub take_create_spec : {M : Type 1} → statement M
+take_create_spec =
     tie.close
     (tie.spec
     (λ c κs. search rules) (λ c κs. search rules) (λ c. search rules) returns (λ c κs. search rules)

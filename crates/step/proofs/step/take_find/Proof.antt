@@ -15,66 +15,66 @@ use Rattle.step.proofs.LookUpAnswers.{carries_as}
 use Rattle.step.proofs.SteppedLaws.{ready_for, stepped-judged, stepped-done}
 use Rattle.step.proofs.step.take_find.Statement.{statement}
 
-returns : tie.Need-returns
+returns : tie.Need-returns-then-n-ne0
 returns c =
-    let test = c.before.before.before.before in
-    let start = test.before.before.before.before.before in
-    stepped-judged start.requires.1 start.requires.0 test.before.find-refusal.ensures test.if1.true refl
-    c.before.before.refuse.ensures
+    let test = c in
+    let start = test in
+    stepped-judged start.requires.1 start.requires.0 test.find_refusal-n.ensures test.if-n-ne0.true refl
+    c.refuse.ensures
 
-close-in-vain-requires : tie.Need-close-in-vain-requires
+close-in-vain-requires : tie.Need-close_in_vain-requires
 close-in-vain-requires c κs =
-    let own = c.before.before.before.before.before.before.before in
-    let carried = own.before.before in
-    let start = carried.before.before.before.before.before.before.before in
+    let own = c in
+    let carried = own in
+    let start = carried in
     omega (
       arith,
       start.requires.1,
-      own.add-record.ensures.counts,
-      (view-bounded carried.find.new.0).waits-fit,
-      own.add-record.auto.0,
+      own.add_record-count.ensures.counts,
+      (view-bounded carried.find-answer.new.space).waits-fit,
+      own.add_record-count.auto.0,
     )
 
-returns-2 : tie.Need-returns-2
+returns-2 : tie.Need-returns-then-l
 returns-2 c =
-    let closed = c.before.before in
-    let inside = closed.before.before.before in
-    let own = inside.before.before.before.before.before in
-    let carried = own.before.before in
-    let test = carried.before.before in
-    let start = test.before.before.before.before.before in
+    let closed = c in
+    let inside = closed in
+    let own = inside in
+    let carried = own in
+    let test = carried in
+    let start = test in
     let l = start.args.l in
-    let ws = carried.find.new.0 in
-    stepped-done start.requires.1 start.requires.0 0 (sym test.before.find-refusal.ensures ∙ test.if1.false) (
-      λ s. carries_as _ _ (own_find _ l) (carried.find.ensures
-          (ready_for _ start.requires.0 (sym test.before.find-refusal.ensures ∙ test.if1.false) s
+    let ws = carried.find-answer.new.space in
+    stepped-done start.requires.1 start.requires.0 0 (sym test.find_refusal-n.ensures ∙ test.if-n-ne0.false) (
+      λ s. carries_as _ _ (own_find _ l) (carried.find-answer.ensures
+          (ready_for _ start.requires.0 (sym test.find_refusal-n.ensures ∙ test.if-n-ne0.false) s
           (looks_up l.takes l.if_exists))),
       refl,
     )
-    own.add-record.ensures Nothings (find_ends l Nothings refl refl (sym inside.if2.true))
+    own.add_record-count.ensures Nothings (find_ends l Nothings refl refl (sym inside.if-l.true))
     (λ _. look_up_silent _ _ (looks_up l.takes l.if_exists))
-    (does_as (sym (nothings-end 0 (view ws) (view-bounded ws).entries_fit)) closed.close-in-vain.ensures)
+    (does_as (sym (nothings-end 0 (view ws) (view-bounded ws).entries_fit)) closed.close_in_vain.ensures)
 
-returns-3 : tie.Need-returns-3
+returns-3 : tie.Need-returns
 returns-3 c =
-    let own = c.before.before.before.before.before in
-    let carried = own.before.before in
-    let test = carried.before.before in
-    let start = test.before.before.before.before.before in
+    let own = c in
+    let carried = own in
+    let test = carried in
+    let start = test in
     let l = start.args.l in
-    let ws = carried.find.new.0 in
-    stepped-done start.requires.1 start.requires.0 0 (sym test.before.find-refusal.ensures ∙ test.if1.false) (
-      λ s. carries_as _ _ (own_find _ l) (carried.find.ensures
-          (ready_for _ start.requires.0 (sym test.before.find-refusal.ensures ∙ test.if1.false) s
+    let ws = carried.find-answer.new.space in
+    stepped-done start.requires.1 start.requires.0 0 (sym test.find_refusal-n.ensures ∙ test.if-n-ne0.false) (
+      λ s. carries_as _ _ (own_find _ l) (carried.find-answer.ensures
+          (ready_for _ start.requires.0 (sym test.find_refusal-n.ensures ∙ test.if-n-ne0.false) s
           (looks_up l.takes l.if_exists))),
       refl,
     )
-    own.add-record.ensures Quiet (find_ends l Quiet refl refl (sym c.if2.false))
+    own.add_record-count.ensures Quiet (find_ends l Quiet refl refl (sym c.if-l.false))
     (λ _. look_up_silent _ _ (looks_up l.takes l.if_exists))
     (does_as (sym (quiet-ends 0 (view ws) (view-bounded ws).entries_fit)) (does-nothing _ _ _))
 
-pub take-find-spec : {M : Type 1} → statement M
-take-find-spec =
+pub take_find_spec : {M : Type 1} → statement M
+take_find_spec =
     tie.close
     (tie.spec
     (λ c κs. search rules) (λ c κs. search rules) (λ c. search rules) returns (λ c κs. search rules)

@@ -12,28 +12,28 @@ use Rattle.step.proofs.KindLaws.{notify-quiet}
 use Rattle.step.proofs.SteppedLaws.{stepped-judged, stepped-done}
 use Rattle.step.proofs.step.take_notify.Statement.{statement}
 
-returns : tie.Need-returns
+returns : tie.Need-returns-then-n-ne0
 returns c =
-    let test = c.before.before.before.before in
-    let start = test.before.before.before.before.before in
-    stepped-judged start.requires.1 start.requires.0 test.before.notify-refusal.ensures test.if1.true refl
-    c.before.before.refuse.ensures
+    let test = c in
+    let start = test in
+    stepped-judged start.requires.1 start.requires.0 test.notify_refusal-n.ensures test.if-n-ne0.true refl
+    c.refuse.ensures
 
-returns-2 : tie.Need-returns-2
+returns-2 : tie.Need-returns
 unfolding own_part
 returns-2 c =
-    let own = c.before.before in
-    let carried = own.before.before in
-    let test = carried.before.before in
-    let start = test.before.before.before.before.before in
-    let ws = carried.notify.new.0 in
-    stepped-done start.requires.1 start.requires.0 0 (sym test.before.notify-refusal.ensures ∙ test.if1.false)
-    (λ _. carried.notify.ensures, refl) own.add-record.ensures _ (notify-quiet _)
+    let own = c in
+    let carried = own in
+    let test = carried in
+    let start = test in
+    let ws = carried.notify-answer.new.space in
+    stepped-done start.requires.1 start.requires.0 0 (sym test.notify_refusal-n.ensures ∙ test.if-n-ne0.false)
+    (λ _. carried.notify-answer.ensures, refl) own.add_record.ensures _ (notify-quiet _)
     (λ _. none-rung _ _ refl refl)
     (does_as (sym (quiet-ends 0 (view ws) (view-bounded ws).entries_fit)) (does-nothing _ _ _))
 
-pub take-notify-spec : {M : Type 1} → statement M
-take-notify-spec =
+pub take_notify_spec : {M : Type 1} → statement M
+take_notify_spec =
     tie.close
     (tie.spec
     (λ c κs. search rules) (λ c κs. search rules) (λ c. search rules) returns (λ c κs. search rules)

@@ -21,97 +21,97 @@ use Rattle.step.proofs.RenewLaws.{renew-waits, renew-none, renew_some, renew_in_
 use Rattle.step.proofs.SteppedLaws.{stepped-judged, stepped-done}
 use Rattle.step.proofs.step.take_renew.Statement.{statement}
 
-returns : tie.Need-returns
+returns : tie.Need-returns-then-waits_already
 returns c =
-    let test = c.before.before.before.before in
-    let start = test.before.before.before.before.before in
+    let test = c in
+    let start = test in
     stepped-judged start.requires.1 start.requires.0
-    (renew-waits _ _ _ _ (sym test.before.waits-already.ensures ∙ test.if1.true)) (λ z. omega arith) refl
-    c.before.before.refuse.ensures
+    (renew-waits _ _ _ _ (sym test.waits_already.ensures ∙ test.if-waits_already.true)) (λ z. omega arith) refl
+    c.refuse.ensures
 
-returns-2 : tie.Need-returns-2
+returns-2 : tie.Need-returns-in_default
 returns-2 c =
-    let told = c.before.before.before.before in
-    let search = told.before.before in
-    let test = search.before.before in
-    let start = test.before.before.before.before.before in
-    let none_there = sym search.find-entry.ensures.0 ∙ ap match_of told.enum_told.given.1 in
+    let told = c in
+    let search = told in
+    let test = search in
+    let start = test in
+    let none_there = sym search.find_entry.ensures.0 ∙ ap match_of told.enum_told-1.given.1 in
     stepped-judged start.requires.1 start.requires.0
-    (renew-none _ _ _ _ (sym test.before.waits-already.ensures ∙ test.if1.false) none_there) (λ z. omega arith)
+    (renew-none _ _ _ _ (sym test.waits_already.ensures ∙ test.if-waits_already.false) none_there) (λ z. omega arith)
     refl
-    c.before.before.refuse2.ensures
+    c.refuse-in_default.ensures
 
 -- the entry that is found, and its row
-found : (c : tie.After-known-told)
-    → let e = c.before in let a = e.before.before.before.before.before.before.before.before.before.args in
-    stored_entry a.id.0 (view a.space.now).entries ≡ some e.e.given.0.0
+found : (c : tie.In-At)
+    → let e = c in let a = e.args in
+    stored_entry a.id.0 (view a.space.now).entries ≡ some e.e-1.given.0.0
 found c =
-    sym c.before.before.before.find-entry.ensures.0 ∙ ap match_of c.before.e.given.1
+    sym c.find_entry.ensures.0 ∙ ap match_of c.e-1.given.1
 
-in_row : (c : tie.After-known-told)
-    → let e = c.before in let a = e.before.before.before.before.before.before.before.before.before.args in
-    let g = e.e.given.0 in
+in_row : (c : tie.In-At)
+    → let e = c in let a = e.args in
+    let g = e.e-1.given.0 in
     (g.1.0 < entry_count a.space.now) × (g.0 ≡ entry_row a.space.now g.1.0)
 in_row c =
-    let e = c.before in
-    let a = e.before.before.before.before.before.before.before.before.before.args in
-    subst (InRow a.space.now) e.e.given.1 e.before.before.find-entry.ensures.1
+    let e = c in
+    let a = e.args in
+    subst (InRow a.space.now) e.e-1.given.1 e.find_entry.ensures.1
 
 -- the number of the table is that of the entry
-judged : (c : tie.After-entry-refusal)
-    → let a = c.before.before.before.before.before.before.before.before.before.before.before.before.args in
-    c.entry-refusal.result ≡ space_refusal (view a.space.now) (frame_of (renew_of a.party a.id a.lease))
+judged : (c : tie.After-entry_refusal-n)
+    → let a = c.args in
+    c.entry_refusal-n.result ≡ space_refusal (view a.space.now) (frame_of (renew_of a.party a.id a.lease))
 judged c =
-    let known = c.before.before in
-    let test = known.before.before.before.before.before in
-    c.entry-refusal.ensures
-    ∙ renew_some _ _ _ _ (sym test.before.waits-already.ensures ∙ test.if1.false) _ (found known)
+    let known = c in
+    let test = known in
+    c.entry_refusal-n.ensures
+    ∙ renew_some _ _ _ _ (sym test.waits_already.ensures ∙ test.if-waits_already.false) _ (found known.before)
 
-returns-3 : tie.Need-returns-3
+returns-3 : tie.Need-returns-then-n-ne0
 returns-3 c =
-    let test = c.before.before.before.before in
-    let start = test.before.before.before.before.before.before.before.before.before.before.before.before.before in
-    stepped-judged start.pre.1 start.pre.0 (judged test.before) test.if2.true refl
-    c.before.before.refuse3.ensures
+    let test = c in
+    let start = test in
+    stepped-judged start.pre.1 start.pre.0 (judged test.before.before.before.before.before) test.if-n-ne0.true refl
+    c.refuse-then-n-ne0.ensures
 
-renew-entry-requires : tie.Need-renew-entry-requires
+renew-entry-requires : tie.Need-renew_entry-requires
 renew-entry-requires c κs =
-    let test = c.before in
+    let test = c in
     let r = in_row test.before.before.before in
-    (r.0, r.1, renew_in_time _ _ _ _ (sym test.before.entry-refusal.ensures ∙ test.if2.false))
+    (r.0, r.1, renew_in_time _ _ _ _ (sym test.entry_refusal-n.ensures ∙ test.if-n-ne0.false))
 
-add-record-requires : tie.Need-add-record-requires
+add-record-requires : tie.Need-add_record-requires
 add-record-requires c κs =
-    let known = c.before.before.before.before.before.before.before in
-    let start = known.before.before.before.before.before.before.before.before.before.before in
+    let known = c in
+    let start = known in
     omega (arith, start.requires.1)
 
-returns-4 : tie.Need-returns-4
+returns-4 : tie.Need-returns
 unfolding own_part renew
 returns-4 c =
-    let own = c.before.before in
-    let done = own.before.before.before in
-    let test = done.before.before in
-    let known = test.before.before.before in
-    let start = known.before.before.before.before.before.before.before.before.before.before in
+    let own = c in
+    let done = own in
+    let test = done in
+    let known = test in
+    let start = known in
     let a = start.args in
-    let r = in_row known in
-    let ws = done.renew-entry.new.0 in
-    stepped-done start.requires.1 start.requires.0 0 (sym (judged test.before) ∙ test.if2.false) (
+    let r = in_row known.before.before.before.before.before.before.before.before.before in
+    let ws = done.renew_entry.new.space in
+    stepped-done start.requires.1 start.requires.0 0 (sym (judged test.before.before.before.before.before.before.before.before) ∙ test.if-n-ne0.false) (
       λ s. record {
-        model = done.renew-entry.ensures
-            ∙ renew-row (view a.space.now) _ a.id a.lease _ _ s (found known)
+        model = done.renew_entry.ensures
+            ∙ renew-row (view a.space.now) _ a.id a.lease _ _ s (found known.before.before.before.before.before.before.before.before.before)
             (omega (arith, r.0, length-entries a.space.now))
             (entry_in a.space.now _ _ r.0 ∙ sym r.1);
-        own = own.before.before.renewed-record.ensures;
+        own = own.renewed_record-answer.ensures;
       },
       refl,
-    ) own.add-record.ensures _ (renew-quiet _ _ _)
+    ) own.add_record.ensures _ (renew-quiet _ _ _)
     (λ _. none-rung _ _ refl refl)
     (does_as (sym (quiet-ends 0 (view ws) (view-bounded ws).entries_fit)) (does-nothing _ _ _))
 
-pub take-renew-spec : {M : Type 1} → statement M
-take-renew-spec =
+pub take_renew_spec : {M : Type 1} → statement M
+take_renew_spec =
     tie.close
     (tie.spec
     (λ c κs. search rules) (λ c κs. search rules) (λ c. search rules) returns (λ c κs. search rules) (λ c. search rules)

@@ -12,43 +12,43 @@ use Rattle.step.proofs.PassedLaws.{tick-clock}
 use Rattle.step.proofs.SteppedLaws.{stepped-judged, stepped-done}
 use Rattle.step.proofs.step.take_tick.Statement.{statement}
 
-returns : tie.Need-returns
+returns : tie.Need-returns-then-n-ne0
 returns c =
-    let test = c.before.before.before.before in
-    let start = test.before.before.before.before.before in
-    stepped-judged start.requires.1 start.requires.0 test.before.tick-refusal.ensures test.if1.true refl
-    c.before.before.refuse.ensures
+    let test = c in
+    let start = test in
+    stepped-judged start.requires.1 start.requires.0 test.tick_refusal-n.ensures test.if-n-ne0.true refl
+    c.refuse.ensures
 
-advance-requires : tie.Need-advance-requires
-advance-requires c κs = tick-clock _ (sym c.before.before.tick-refusal.ensures ∙ c.before.if1.false)
+advance-requires : tie.Need-advance-answer-requires
+advance-requires c κs = tick-clock _ (sym c.tick_refusal-n.ensures ∙ c.if-n-ne0.false)
 
-returns-2 : tie.Need-returns-2
+returns-2 : tie.Need-returns-then-clock-least_end
 returns-2 c =
-    let now = c.before.before in
-    let own = now.before.before.before.before in
-    let carried = own.before.before in
-    let test = carried.before.before in
-    let start = test.before.before.before.before.before in
+    let now = c in
+    let own = now in
+    let carried = own in
+    let test = carried in
+    let start = test in
     stepped-tick start.args.space.now start.args.answers.now start.requires.1 start.requires.2 start.requires.0
-    (sym test.before.tick-refusal.ensures ∙ test.if1.false) carried.advance.ensures
-    (omega (arith, c.if2.true, now.clock.ensures, c.before.least-end.ensures)) own.add-record.ensures
+    (sym test.tick_refusal-n.ensures ∙ test.if-n-ne0.false) carried.advance-answer.ensures
+    (omega (arith, c.if-clock-least_end.true, now.clock.ensures, c.least_end.ensures)) own.add_record-count.ensures
 
-returns-3 : tie.Need-returns-3
+returns-3 : tie.Need-returns
 unfolding own_part tick
 returns-3 c =
-    let dropped = c.before.before.before.before.before in
-    let own = dropped.before.before.before.before.before.before.before.before in
-    let carried = own.before.before in
-    let test = carried.before.before in
-    let start = test.before.before.before.before.before in
-    let now = carried.advance.ensures in
-    let model = dropped.drop-registrations.ensures ∙ ap unregistered now.0 in
-    stepped-done start.requires.1 start.requires.0 0 (sym test.before.tick-refusal.ensures ∙ test.if1.false)
-    (λ _. record { model = model; own = now.1 }, refl) own.add-record.ensures _ tick-ends
-    (λ _. none-rung _ _ refl refl) c.before.before.finish-tick.ensures
+    let dropped = c in
+    let own = dropped in
+    let carried = own in
+    let test = carried in
+    let start = test in
+    let now = carried.advance-answer.ensures in
+    let model = dropped.drop_registrations.ensures ∙ ap unregistered now.0 in
+    stepped-done start.requires.1 start.requires.0 0 (sym test.tick_refusal-n.ensures ∙ test.if-n-ne0.false)
+    (λ _. record { model = model; own = now.1 }, refl) own.add_record-count.ensures _ tick-ends
+    (λ _. none-rung _ _ refl refl) c.finish_tick.ensures
 
-pub take-tick-spec : {M : Type 1} → statement M
-take-tick-spec =
+pub take_tick_spec : {M : Type 1} → statement M
+take_tick_spec =
     tie.close
     (tie.spec
     (λ c κs. search rules) (λ c κs. search rules) (λ c. search rules) returns advance-requires (λ c κs. search rules)

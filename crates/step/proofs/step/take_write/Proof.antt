@@ -21,77 +21,77 @@ use Rattle.step.proofs.KindLaws.{write-serves, write-quiet}
 use Rattle.step.proofs.SteppedLaws.{stepped-judged, stepped-done}
 use Rattle.step.proofs.step.take_write.Statement.{statement}
 
-returns : tie.Need-returns
+returns : tie.Need-returns-then-n-ne0
 returns c =
-    let test = c.before.before.before.before in
-    let start = test.before.before.before.before.before in
-    stepped-judged start.requires.1 start.requires.0 test.before.write-refusal.ensures test.if1.true refl
-    c.before.before.refuse.ensures
+    let test = c in
+    let start = test in
+    stepped-judged start.requires.1 start.requires.0 test.write_refusal-n.ensures test.if-n-ne0.true refl
+    c.refuse.ensures
 
-returns-2 : tie.Need-returns-2
+returns-2 : tie.Need-returns-then-w-ne0
 unfolding own_part write_frame
 returns-2 c =
-    let own = c.before.before.before.before in
-    let carried = own.before.before.before in
-    let test = carried.before.before in
-    let start = test.before.before.before.before.before in
-    let ws = carried.write.new.0 in
-    let k = carried.write.result.from in
-    let silent = silent_inside (view start.args.space.now) start.args.w c.if2.true in
-    let done = carried.write.ensures.0 in
-    stepped-done start.requires.1 start.requires.0 k (sym test.before.write-refusal.ensures ∙ test.if1.false)
-    (λ _. record { model = done.model ∙ silent.0; own = done.own }, carried.write.ensures.1)
-    own.add-record.ensures Quiet (write-quiet _ c.if2.true) (λ _. silent.1)
+    let own = c in
+    let carried = own in
+    let test = carried in
+    let start = test in
+    let ws = carried.write-own.new.space in
+    let k = carried.write-own.result.from in
+    let silent = silent_inside (view start.args.space.now) start.args.w c.if-w-ne0.true in
+    let done = carried.write-own.ensures.0 in
+    stepped-done start.requires.1 start.requires.0 k (sym test.write_refusal-n.ensures ∙ test.if-n-ne0.false)
+    (λ _. record { model = done.model ∙ silent.0; own = done.own }, carried.write-own.ensures.1)
+    own.add_record-count.ensures Quiet (write-quiet _ c.if-w-ne0.true) (λ _. silent.1)
     (does_as (sym (quiet-ends k (view ws) (view-bounded ws).entries_fit)) (does-nothing _ _ _))
 
-serve-and-ring-requires : tie.Need-serve-and-ring-requires
+serve-and-ring-requires : tie.Need-serve_and_ring-requires
 serve-and-ring-requires c κs =
-    let own = c.before.before.before.before.before.before.before.before.before.before in
-    let start = own.before.before.before.before.before.before.before.before.before.before in
-    let a = own.add-record.ensures in
+    let own = c in
+    let start = own in
+    let a = own.add_record-count.ensures in
     omega (arith, start.requires.1, a.counts, adds-length a (omega (arith, start.requires.1, a.counts)))
 
-returns-3 : tie.Need-returns-3
+returns-3 : tie.Need-returns-then-may_ring
 returns-3 c =
-    let rung = c.before.before in
-    let rings = rung.before.before.before.before in
-    let outside = rings.before.before.before in
-    let own = outside.before.before.before.before in
-    let carried = own.before.before.before in
-    let test = carried.before.before in
-    let start = test.before.before.before.before.before in
-    let m = view carried.write.new.0 in
+    let rung = c in
+    let rings = rung in
+    let outside = rings in
+    let own = outside in
+    let carried = own in
+    let test = carried in
+    let start = test in
+    let m = view carried.write-own.new.space in
     let lasts =
     and_right (not (eqb (length m.registrations) 0)) (not (eqb start.args.w.lease 0))
-    (sym rings.before.may-ring.ensures ∙ rings.if3.true) in
-    stepped-written start.requires.1 start.requires.0 (sym test.before.write-refusal.ensures ∙ test.if1.false)
-    outside.if2.false (eqb-false _ 0 (not-true (eqb start.args.w.lease 0) lasts)) carried.write.result.from
-    carried.write.ensures own.add-record.ensures rung.before.before.before.mark_of.ensures
-    rung.serve-and-ring.ensures
+    (sym rings.may_ring.ensures ∙ rings.if-may_ring.true) in
+    stepped-written start.requires.1 start.requires.0 (sym test.write_refusal-n.ensures ∙ test.if-n-ne0.false)
+    outside.if-w-ne0.false (eqb-false _ 0 (not-true (eqb start.args.w.lease 0) lasts)) carried.write-own.result.from
+    carried.write-own.ensures own.add_record-count.ensures rung.mark_of-fields.ensures
+    rung.serve_and_ring.ensures
 
-returns-4 : tie.Need-returns-4
+returns-4 : tie.Need-returns
 unfolding own_part write_frame
 returns-4 c =
-    let served = c.before.before in
-    let rings = served.before.before.before in
-    let outside = rings.before.before.before in
-    let own = outside.before.before.before.before in
-    let carried = own.before.before.before in
-    let test = carried.before.before in
-    let start = test.before.before.before.before.before in
-    let done = carried.write.ensures.0 in
-    let none = sym rings.before.may-ring.ensures ∙ rings.if3.false in
+    let served = c in
+    let rings = served in
+    let outside = rings in
+    let own = outside in
+    let carried = own in
+    let test = carried in
+    let start = test in
+    let done = carried.write-own.ensures.0 in
+    let none = sym rings.may_ring.ensures ∙ rings.if-may_ring.false in
     let silent =
     silent_write (view start.args.space.now) start.args.w
     (ap (λ (m : Model). not (eqb (length m.registrations) 0) && not (eqb start.args.w.lease 0))
     (sym done.model) ∙ none) in
-    stepped-done start.requires.1 start.requires.0 _ (sym test.before.write-refusal.ensures ∙ test.if1.false)
-    (λ _. record { model = done.model ∙ silent.0; own = done.own }, carried.write.ensures.1)
-    own.add-record.ensures _ (write-serves _ outside.if2.false) (λ _. silent.1)
+    stepped-done start.requires.1 start.requires.0 _ (sym test.write_refusal-n.ensures ∙ test.if-n-ne0.false)
+    (λ _. record { model = done.model ∙ silent.0; own = done.own }, carried.write-own.ensures.1)
+    own.add_record-count.ensures _ (write-serves _ outside.if-w-ne0.false) (λ _. silent.1)
     (does_as (sym (service-ends _ _)) served.serve.ensures)
 
-pub take-write-spec : {M : Type 1} → statement M
-take-write-spec =
+pub take_write_spec : {M : Type 1} → statement M
+take_write_spec =
     tie.close
     (tie.spec
     (λ c κs. search rules) (λ c κs. search rules) (λ c. search rules) returns (λ c κs. search rules)

@@ -13,7 +13,7 @@ use Rattle.tray.proofs.TrayLaws.{part_is_frame, passes, frame_in, tray_done, tra
 use Rattle.tray.proofs.run.run_frames.Statement.{statement}
 use Rattle.tray.proofs.run.run_frames.Tie as tie
 
-abbrev invariant-loop : tie.invariant-loop
+abbrev invariant-loop : tie.invariant-loop-frames
 invariant-loop tray answers₀ count space₀ hints₀ frames₀ records₀ answers space hints frames records =
     Running tray answers₀ space hints answers frames records
     × (count ≡ frame_count tray)
@@ -21,16 +21,16 @@ invariant-loop tray answers₀ count space₀ hints₀ frames₀ records₀ answ
     × (frames ≤ count)
     × (length answers ≡ length answers₀)
 
-abbrev decreases-loop : tie.decreases-loop
+abbrev decreases-loop : tie.decreases-loop-frames
 decreases-loop tray answers₀ count space₀ hints₀ frames₀ records₀ answers space hints frames records = count - frames
 
-loop-holds : tie.Need-loop-init invariant-loop decreases-loop
+loop-holds : tie.Need-loop-frames-init invariant-loop decreases-loop
 loop-holds c =
-    let counted = c.before.before.before.before in
-    let start = counted.before.before.before in
+    let counted = c in
+    let start = counted in
     let few = few-frames _ (passes start.args.tray.now start.requires).0 in
-    let count = counted.pair-count.ensures in (
-      running_none c.before.before.set-empty.ensures.0 c.know-empty.ensures,
+    let count = counted.pair_count-count.ensures in (
+      running_none c.set_empty.ensures.0 c.know_empty.ensures,
       count,
       omega
           (arith, count, few),
@@ -39,62 +39,62 @@ loop-holds c =
     )
 
 packed-requires : tie.Need-packed-requires invariant-loop decreases-loop
-packed-requires c κs = omega (arith, c.before.before.loop.invariant.0.few)
+packed-requires c κs = omega (arith, c.loop-frames.invariant.0.few)
 
-returns : tie.Need-returns invariant-loop decreases-loop
+returns : tie.Need-returns-then-answers-at invariant-loop decreases-loop
 returns c =
-    let loop = c.before.before.before in
-    let i = loop.loop.invariant in
-    tray_stops _ loop.before.before.before.before.before.before.before.before.requires i.0 (omega (arith, i))
-    (omega (arith, i, c.before.if1.true)) c.packed.ensures
+    let loop = c in
+    let i = loop.loop-frames.invariant in
+    tray_stops _ loop.requires i.0 (omega (arith, i))
+    (omega (arith, i, c.if-answers-at.true)) c.packed.ensures
 
-pair-at-requires : tie.Need-pair-at-requires invariant-loop decreases-loop
+pair-at-requires : tie.Need-pair_at-pair-requires invariant-loop decreases-loop
 pair-at-requires c κs =
-    let loop = c.before.before in
-    let start = loop.before.before.before.before.before.before.before.before in
-    pair_there _ _ (passes start.args.tray.now start.requires).0 (omega (arith, loop.loop.invariant.1))
+    let loop = c in
+    let start = loop in
+    pair_there _ _ (passes start.args.tray.now start.requires).0 (omega (arith, loop.loop-frames.invariant.1))
 
 part_step_hinted_end : tie.Need-slice-bounds-step-hinted-end invariant-loop decreases-loop
 part_step_hinted_end c =
-    let pair = c.before.before.pair-at.ensures in
+    let pair = c.before.before.pair_at-pair.ensures in
     let loop = c.before.before.before.before.before in
     let start = loop.before.before.before.before.before.before.before.before in
     omega (
       arith,
-      frame_in start.args.tray.now start.requires loop.loop.frames (omega arith),
+      frame_in start.args.tray.now start.requires loop.loop-frames.frames (omega arith),
       pair.begins,
       pair.ends,
     )
 
-step-hinted-requires : tie.Need-step-hinted-requires invariant-loop decreases-loop
-step-hinted-requires c κs = c.before.before.before.before.before.before.before.loop.invariant.0.reliable
+step-hinted-requires : tie.Need-step_hinted-answer-requires invariant-loop decreases-loop
+step-hinted-requires c κs = c.loop-frames.invariant.0.reliable
 
-loop-again : tie.Need-loop-preserved invariant-loop decreases-loop
+loop-again : tie.Need-loop-frames-preserved invariant-loop decreases-loop
 loop-again c =
-    let step = c.before.before.step-hinted in
-    let pair = c.before.before.before.before.before.before.before in
-    let loop = pair.before.before.before in
-    let l = loop.loop in
-    let a = loop.before.before.before.before.before.before.before.before.args in
+    let step = c.step_hinted-answer in
+    let pair = c in
+    let loop = pair in
+    let l = loop.loop-frames in
+    let a = loop.args in
     let at = record_size * l.records in
     let more =
-    running_more l.invariant.0 (omega arith) (omega arith) (part_is_frame a.tray.now pair.pair-at.ensures)
-    (part_from l.answers at) step.ensures.0 step.ensures.1
-    (part_put l.answers step.new.1.1.1.0 at) in
+    running_more l.invariant.0 (omega arith) (omega arith) (part_is_frame a.tray.now pair.pair_at-pair.ensures)
+    (part_from l.answers-1 at) step.ensures.0 step.ensures.1
+    (part_put l.answers-1 step.new.1.1.1.0 at) in
     (more, l.invariant.1, l.invariant.2, omega arith, running_length more)
 
 packed-requires-2 : tie.Need-packed-requires-2 invariant-loop decreases-loop
-packed-requires-2 c κs = omega (arith, c.before.loop.invariant.0.few)
+packed-requires-2 c κs = omega (arith, c.loop-frames.invariant.0.few)
 
-returns-2 : tie.Need-returns-2 invariant-loop decreases-loop
+returns-2 : tie.Need-returns invariant-loop decreases-loop
 returns-2 c =
-    let loop = c.before.before in
-    let i = loop.loop.invariant in
-    tray_done _ loop.before.before.before.before.before.before.before.before.requires i.0 (omega (arith, i))
-    c.packed2.ensures
+    let loop = c in
+    let i = loop.loop-frames.invariant in
+    tray_done _ loop.requires i.0 (omega (arith, i))
+    c.packed-2.ensures
 
-pub run-frames-spec : {M : Type 1} → statement M
-run-frames-spec =
+pub run_frames_spec : {M : Type 1} → statement M
+run_frames_spec =
     tie.close
     (tie.spec
     invariant-loop decreases-loop (λ c κs. tt) (λ c κs. tt) (λ c κs. tt) loop-holds (λ c. omega arith) (λ c. omega arith)

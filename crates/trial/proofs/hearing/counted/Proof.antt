@@ -5,11 +5,11 @@ use borrow.Author.Rules.{rules}
 use Rattle.trial.proofs.hearing.counted.Statement.{statement}
 use Rattle.trial.proofs.hearing.counted.Tie as tie
 
-returns : tie.Need-returns
-returns c = rw (eq-eqb _ _ c.if1.true)
+returns : tie.Need-returns-then-kind-wanted
+returns c = rw (eq-eqb _ _ c.if-kind-wanted.true)
 
-returns-2 : tie.Need-returns-2
-returns-2 c = rw (ne_eqb _ _ c.if1.false) (omega arith)
+returns-2 : tie.Need-returns-else-kind-wanted
+returns-2 c = rw (ne_eqb _ _ c.if-kind-wanted.false) (omega arith)
 
 pub counted_spec : {M : Type 1} → statement M
 counted_spec = tie.close (tie.spec (λ c. search rules) returns returns-2)

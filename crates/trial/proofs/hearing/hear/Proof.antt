@@ -8,14 +8,14 @@ returns : tie.Need-returns
 unfolding heard_by
 returns c =
     rw (
-      c.before.before.before.hears.ensures,
-      c.before.before.counted.ensures,
-      c.before.counted2.ensures,
-      c.counted3.ensures,
+      c.hears-next.ensures,
+      c.counted.ensures,
+      c.counted-2.ensures,
+      c.counted-3.ensures,
     )
 
-pub hear-spec : {M : Type 1} → statement M
-hear-spec =
+pub hear_spec : {M : Type 1} → statement M
+hear_spec =
     tie.close
     (tie.spec
     (λ c κs. search rules) (λ c κs. search rules) (λ c κs. search rules) (λ c κs. search rules) returns)

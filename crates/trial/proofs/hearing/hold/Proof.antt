@@ -6,7 +6,7 @@ use Rattle.trial.proofs.hearing.hold.Tie as tie
 
 returns : tie.Need-returns
 unfolding held_by
-returns c = rw c.ticked.ensures
+returns c = rw c.ticked-next.ensures
 
-pub hold-spec : {M : Type 1} → statement M
-hold-spec = tie.close (tie.spec (λ c κs. search rules) returns)
+pub hold_spec : {M : Type 1} → statement M
+hold_spec = tie.close (tie.spec (λ c κs. search rules) returns)

@@ -7,13 +7,13 @@ use Rattle.trial.proofs.hearing.hold_all.Tie as tie
 
 returns : tie.Need-returns
 returns c =
-    let second = c.before.before.before.before in
-    let first = second.before.before in
-    four_by held_by first.before.before.args.t1 first.hold.ensures second.hold2.ensures
-    c.before.before.hold3.ensures c.hold4.ensures
+    let second = c in
+    let first = second in
+    four_by held_by first.args.t1 first.hold.ensures second.hold-2.ensures
+    c.hold-3.ensures c.hold-4.ensures
 
-pub hold-all-spec : {M : Type 1} → statement M
-hold-all-spec =
+pub hold_all_spec : {M : Type 1} → statement M
+hold_all_spec =
     tie.close
     (tie.spec
     (λ c. search rules) (λ c κs. search rules) (λ c. search rules) (λ c κs. search rules) (λ c. search rules)

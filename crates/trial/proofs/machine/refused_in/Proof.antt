@@ -3,11 +3,11 @@ use borrow.Author.Rules.{rules}
 use Rattle.trial.proofs.machine.refused_in.Statement.{statement}
 use Rattle.trial.proofs.machine.refused_in.Tie as tie
 
-pub refused-in-spec : {M : Type 1} → statement M
-refused-in-spec =
+pub refused_in_spec : {M : Type 1} → statement M
+refused_in_spec =
     tie.close
     (tie.spec
     (λ c. search rules) (λ c. search rules) (λ c. search rules) (λ c. search rules) (λ c. search rules)
-    (λ c. search rules) (λ c. search rules) (λ c. rw c.before.stage.given.1)
-    (λ c. rw c.before.stage2.given.1) (λ c. rw c.before.stage3.given.1)
-    (λ c. rw c.before.stage4.given.1) (λ c. rw c.before.stage5.given.1))
+    (λ c. search rules) (λ c. search rules) (λ c. rw c.stage-1.given.1)
+    (λ c. rw c.stage-in-Waits-1.given.1) (λ c. rw c.stage-in-Holds-1.given.1)
+    (λ c. rw c.stage-in-Commits-1.given.1) (λ c. rw c.stage-in-Aborts-1.given.1))

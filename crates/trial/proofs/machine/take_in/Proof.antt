@@ -6,7 +6,7 @@ use Rattle.trial.proofs.machine.take_in.Tie as tie
 
 returns : tie.Need-returns
 unfolding sends
-returns c = rw c.of-kind.ensures
+returns c = rw c.of_kind-fields.ensures
 
-pub take-in-spec : {M : Type 1} → statement M
-take-in-spec = tie.close (tie.spec (λ c κs. search rules) returns)
+pub take_in_spec : {M : Type 1} → statement M
+take_in_spec = tie.close (tie.spec (λ c κs. search rules) returns)

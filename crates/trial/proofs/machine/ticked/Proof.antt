@@ -4,13 +4,13 @@ use Rattle.trial.specs.Panes.{ticked}
 use Rattle.trial.proofs.machine.ticked.Statement.{statement}
 use Rattle.trial.proofs.machine.ticked.Tie as tie
 
-pub ticked-spec : {M : Type 1} → statement M
+pub ticked_spec : {M : Type 1} → statement M
 unfolding ticked
-ticked-spec =
+ticked_spec =
     tie.close
     (tie.spec
     (λ c. search rules) (λ c. search rules) (λ c. search rules) (λ c. search rules) (λ c. search rules)
-    (λ c. search rules) (λ c. search rules) (λ c. rw c.enum_told.given.1)
-    (λ c. rw c.before.stage.given.1) (λ c. rw c.before.stage2.given.1)
-    (λ c. rw (c.before.before.stage3.given.1, c.if1.true)) (λ c. rw c.before.before.stage3.given.1)
-    (λ c. rw c.before.stage4.given.1) (λ c. rw c.before.stage5.given.1))
+    (λ c. search rules) (λ c. search rules) (λ c. rw c.enum_told-1.given.1)
+    (λ c. rw c.stage-1.given.1) (λ c. rw c.stage-in-Waits-1.given.1)
+    (λ c. rw (c.stage-in-Holds-1.given.1, c.if-ticks-eq0.true)) (λ c. rw c.stage-in-Holds-1.given.1)
+    (λ c. rw c.stage-in-Commits-1.given.1) (λ c. rw c.stage-in-Aborts-1.given.1))

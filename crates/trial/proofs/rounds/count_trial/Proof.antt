@@ -18,65 +18,65 @@ use Rattle.trial.proofs.rounds.count_trial.Statement.{statement}
 use Rattle.trial.proofs.rounds.count_trial.Tie as tie
 
 -- the setup, which is not refused
-abbrev start_of : tie.After-hints2 → tie.Start
-start_of c = c.before.before.before.before.before.before.before.before.before
+abbrev start_of : tie.After-hints-2-1 → tie.Start
+start_of c = c.before
 
-abbrev words_of : tie.After-hints2 → List ℕ
-words_of c = (start_of c).args.setup.now
+abbrev words_of : tie.After-hints-2-1 → List ℕ
+words_of c = c.args.setup.now
 
-fine : (c : tie.After-hints2)
-    → Fair (words_of c) (length (start_of c).args.counts.now) × (rounds_in (words_of c) ≤ 1000)
-fine c = accepted _ _ (start_of c).requires
+fine : (c : tie.After-hints-2-1)
+    → Fair (words_of c) (length c.args.counts.now) × (rounds_in (words_of c) ≤ 1000)
+fine c = accepted _ _ c.requires
 
 -- nothing is sent yet
-begun : (c : tie.After-hints2)
-    → let x = c.before.before.not-begun.result in
-    Trying (words_of c) 0 (first_round (words_of c)) c.before.before.before.before.before.set-empty.new.0
-    c.before.before.before.know-empty.new.0 (x ∷ x ∷ x ∷ x ∷ [])
+begun : (c : tie.After-hints-2-1)
+    → let x = c.not_begun-panes.result in
+    Trying (words_of c) 0 (first_round (words_of c)) c.set_empty.new.space
+    c.know_empty.new.hints (x ∷ x ∷ x ∷ x ∷ [])
 begun c =
-    let e = c.before.before.not-begun.ensures in
+    let e = c.not_begun-panes.ensures in
     let few = (fine c).0.formed.few in
-    trying-none c.before.before.before.before.before.set-empty.ensures.0
-    c.before.before.before.know-empty.ensures (λ i h. four_by (λ _. fresh) [] e e e e i (omega (arith, h, few)))
+    trying-none c.set_empty.ensures.0
+    c.know_empty.ensures (λ i h. four_by (λ _. fresh) [] e e e e i (omega (arith, h, few)))
 
-write-starting-requires : tie.Need-write-starting-requires
+write-starting-requires : tie.Need-write_starting-begun-requires
 write-starting-requires c κs =
     let f = (fine c).0.formed in underway-first f (begun c) (omega (arith, f.starting))
 
-run-rounds-requires : tie.Need-run-rounds-requires
+run-rounds-requires : tie.Need-run_rounds-done-requires
 run-rounds-requires c κs =
-    let first = c.before.before.before in
-    let f = fine first in
-    let n = starting_count (words_of first) in
-    let more = 5 * rounds_in (words_of first) in
+    let first = c in
+    let f = fine first.before.before.before in
+    let n = starting_count (words_of first.before.before.before) in
+    let more = 5 * rounds_in (words_of first.before.before.before) in
     underway_on n more
-    (underway-first {n = n + more} f.0.formed (begun first) (omega (arith, f.0.formed.starting, f.1)))
-    c.before.before.write-starting.ensures (omega arith)
+    (underway-first {n = n + more} f.0.formed (begun first.before.before.before) (omega (arith, f.0.formed.starting, f.1)))
+    c.write_starting-begun.ensures (omega arith)
 
-pane-count-requires : tie.Need-pane-count-requires
+pane-count-requires : tie.Need-pane_count-requires
 pane-count-requires c κs = (fine c.before.before.before.before).0.long
 
-put-counts-requires : tie.Need-put-counts-requires
+put-counts-requires : tie.Need-put_counts-requires
 put-counts-requires c κs =
     let f = (fine c.before.before.before.before.before.before).0 in
-    let p = c.before.pane-count.ensures.0 in (omega (arith, p, f.formed.few), omega (arith, p, f.counts))
+    let p = c.pane_count.ensures.0 in (omega (arith, p, f.formed.few), omega (arith, p, f.counts-1))
 
 returns : tie.Need-returns
 unfolding trial
 returns c =
-    let panes = c.before.before.before.before in
-    let ran = panes.before.run-rounds in
-    let started = panes.before.before.before.before in
-    let first = started.before in
-    let ws = words_of first in
-    let old = (start_of first).args.counts.now in
-    let starting = started.write-starting.ensures 0 (first_round ws) (begun first) in
-    c.before.before.put-counts.ensures
-    ∙ ap (λ n. joined (up_to (λ i. counts_at (at ran.result i)) n) ++ drop (3 * n) old) panes.pane-count.ensures.0
+    let panes = c in
+    let ran = panes.run_rounds-done in
+    let started = panes in
+    let first = started in
+    let ws = words_of first.before.before.before.before.before.before.before.before.before in
+    let old = first.args.counts.now in
+    let starting = started.write_starting-begun.ensures 0 (first_round ws) (begun first.before.before.before.before.before.before.before.before.before) in
+    c.put_counts.ensures
+    ∙ ap (λ n. joined (up_to (λ i. counts_at (at ran.result i)) n) ++ drop (3 * n) old) panes.pane_count.ensures.0
     ∙ ap (λ l. l ++ drop (3 * pane_count ws) old) (counts_are (ran.ensures _ _ starting))
 
-pub count-trial-spec : {M : Type 1} → statement M
-count-trial-spec =
+pub count_trial_spec : {M : Type 1} → statement M
+count_trial_spec =
     tie.close
     (tie.spec
     (λ c κs. search rules) (λ c κs. search rules) (λ c κs. search rules) write-starting-requires run-rounds-requires

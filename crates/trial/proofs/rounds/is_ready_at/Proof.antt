@@ -6,13 +6,13 @@ use Rattle.trial.specs.Progress.{asked}
 use Rattle.trial.proofs.rounds.is_ready_at.Statement.{statement}
 use Rattle.trial.proofs.rounds.is_ready_at.Tie as tie
 
-returns : tie.Need-returns
+returns : tie.Need-returns-in-Sends
 returns c =
-    ap (λ n. is_some (asked n)) (sym c.enum_told.given.1) ∙ ap is_some c.before.before.next-at.ensures
+    ap (λ n. is_some (asked n)) (sym c.enum_told-1.given.1) ∙ ap is_some c.next_at-next.ensures
 
-returns-2 : tie.Need-returns-2
+returns-2 : tie.Need-returns-in-Rests
 returns-2 c =
-    ap (λ n. is_some (asked n)) (sym c.enum-told2.given.1) ∙ ap is_some c.before.before.next-at.ensures
+    ap (λ n. is_some (asked n)) (sym c.enum_told-in-Rests-1.given.1) ∙ ap is_some c.next_at-next.ensures
 
-pub is-ready-at-spec : {M : Type 1} → statement M
-is-ready-at-spec = tie.close (tie.spec (λ c κs. search rules) (λ c. search rules) (λ c. search rules) returns returns-2)
+pub is_ready_at_spec : {M : Type 1} → statement M
+is_ready_at_spec = tie.close (tie.spec (λ c κs. search rules) (λ c. search rules) (λ c. search rules) returns returns-2)

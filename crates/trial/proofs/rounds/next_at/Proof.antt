@@ -9,12 +9,12 @@ use Rattle.trial.proofs.rounds.next_at.Tie as tie
 
 returns : tie.Need-returns
 returns c =
-    let a = c.before.before.before.before.args in
+    let a = c.args in
     c.next_of.ensures
-    ∙ ap₂ (λ p k. sends p k (at a.t2 a.i).stage) c.before.pane-at.ensures (add-one a.i)
+    ∙ ap₂ (λ p k. sends p k (at a.t2 a.i).stage) c.pane_at.ensures (add-one a.i)
 
-pub next-at-spec : {M : Type 1} → statement M
-next-at-spec =
+pub next_at_spec : {M : Type 1} → statement M
+next_at_spec =
     tie.close
     (tie.spec
     (λ c. search rules) (λ c. search rules) (λ c κs. search rules) (λ c. search rules) (λ c. search rules)

@@ -6,25 +6,25 @@ use Rattle.trial.proofs.TryingLaws.{underway_on, goes_then, goes_none, goes-held
 use Rattle.trial.proofs.rounds.round.Statement.{statement}
 use Rattle.trial.proofs.rounds.round.Tie as tie
 
-take-turns-requires : tie.Need-take-turns-requires
-take-turns-requires c κs = underway_on 0 4 c.before.before.before.requires (goes_none 0) (omega arith)
+take-turns-requires : tie.Need-take_turns-after-requires
+take-turns-requires c κs = underway_on 0 4 c.requires (goes_none 0) (omega arith)
 
 send-requires : tie.Need-send-requires
 send-requires c κs =
-    let turned = c.before.before.before in
-    let u = turned.before.before.before.before.requires in
+    let turned = c in
+    let u = turned.requires in
     underway_on 4 1 u
-    (goes_then 4 0 4 turned.take-turns.ensures (goes-held u.setup.few c.hold-all.ensures) (omega arith))
+    (goes_then 4 0 4 turned.take_turns-after.ensures (goes-held u.setup.few c.hold_all.ensures) (omega arith))
     (omega arith)
 
 returns : tie.Need-returns
 unfolding round tick
 returns c =
-    let turned = c.before.before.before.before in
-    let few = turned.before.before.before.before.requires.setup.few in
+    let turned = c in
+    let few = turned.requires.setup.few in
     goes_then 4 1 5
-    (goes_then 4 0 4 turned.take-turns.ensures (goes-held few c.before.hold-all.ensures) (omega arith))
+    (goes_then 4 0 4 turned.take_turns-after.ensures (goes-held few c.hold_all.ensures) (omega arith))
     c.send.ensures (omega arith)
 
-pub round-spec : {M : Type 1} → statement M
-round-spec = tie.close (tie.spec take-turns-requires (λ c κs. search rules) send-requires returns)
+pub round_spec : {M : Type 1} → statement M
+round_spec = tie.close (tie.spec take-turns-requires (λ c κs. search rules) send-requires returns)

@@ -13,27 +13,27 @@ use Rattle.trial.proofs.rounds.send.Statement.{statement}
 use Rattle.trial.proofs.rounds.send.Tie as tie
 
 -- the frame stands in front of its 28 bytes
-put : (c : tie.After-put-frame)
-    → let n = c.put-frame.result in
-    let bytes = c.put-frame.new.0 in
-    (take n bytes ≡ frame_bytes (frame_of c.before.before.before.args.q)) × (n ≤ length bytes)
-put c = put_front (frame_of c.before.before.before.args.q) _ _ _ refl c.put-frame.ensures
+put : (c : tie.After-put_frame-size)
+    → let n = c.put_frame-size.result in
+    let bytes = c.put_frame-size.new.out in
+    (take n bytes ≡ frame_bytes (frame_of c.args.q)) × (n ≤ length bytes)
+put c = put_front (frame_of c.args.q) _ _ _ refl c.put_frame-size.ensures
 
-hear-all-requires : tie.Need-hear-all-requires
+hear-all-requires : tie.Need-hear_all-requires
 hear-all-requires c κs =
-    let framed = c.before.before.before.before.before.before.before.before in
-    let u = framed.before.before.before.requires in
-    let few = (answered-few u.trying.sound c.before.before.step-hinted.ensures.0).1 in
+    let framed = c in
+    let u = framed.requires in
+    let few = (answered-few u.trying.sound c.step_hinted-answer.ensures.0).1 in
     (u.setup, few, room_for u.trying (omega (arith, u.left)) few)
 
 returns : tie.Need-returns
 returns c = λ k r t.
-    let framed = c.before.before.before.before.before.before.before.before.before in
-    let stepped = c.before.before.before.step-hinted.ensures in
-    rw (put framed).0 at (trying-sent t refl stepped.0 stepped.1 c.hear-all.ensures)
+    let framed = c in
+    let stepped = c.step_hinted-answer.ensures in
+    rw (put framed.before.before.before.before.before.before.before.before.before).0 at (trying-sent t refl stepped.0 stepped.1 c.hear_all.ensures)
 
-pub send-spec : {M : Type 1} → statement M
-send-spec =
+pub send_spec : {M : Type 1} → statement M
+send_spec =
     tie.close
     (tie.spec
     (λ c. search rules) (λ c κs. search rules) (λ c. (put c.before.before.before).1)

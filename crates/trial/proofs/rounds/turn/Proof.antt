@@ -7,26 +7,26 @@ use Rattle.trial.proofs.TryingLaws.{trying_more}
 use Rattle.trial.proofs.rounds.turn.Statement.{statement}
 use Rattle.trial.proofs.rounds.turn.Tie as tie
 
-returns : tie.Need-returns
-returns c = λ k r t. rw (not-true c.before.before.args.ready c.if1.true) (trying_more t (omega arith))
+returns : tie.Need-returns-then-not-ready
+returns c = λ k r t. rw (not-true c.args.ready c.if-not-ready.true) (trying_more t (omega arith))
 
-returns-2 : tie.Need-returns-2
+returns-2 : tie.Need-returns-in-Sends
 returns-2 c = λ k r t.
-    let told = c.before.before.before.before in
-    let next = told.before.before in
-    let start = next.before.before.before in
+    let told = c in
+    let next = told in
+    let start = next in
     rw (
-      not-false start.args.ready next.before.if1.false,
-      turn_sends t start.args.i start.requires.1 next.next-at.ensures told.next.given.1,
+      not-false start.args.ready next.if-not-ready.false,
+      turn_sends t start.args.i start.requires.1 next.next_at-next.ensures told.next-1.given.1,
     ) (c.send.ensures k r t)
 
-returns-3 : tie.Need-returns-3
+returns-3 : tie.Need-returns-in-Rests
 returns-3 c = λ k r t.
-    let next = c.before.before in
-    let start = next.before.before.before in
+    let next = c in
+    let start = next in
     rw (
-      not-false start.args.ready next.before.if1.false,
-      turn_rests t start.args.i start.requires.1 next.next-at.ensures c.enum_told.given.1,
+      not-false start.args.ready next.if-not-ready.false,
+      turn_rests t start.args.i start.requires.1 next.next_at-next.ensures c.enum_told-1.given.1,
     ) (trying_more t (omega arith))
 
 pub turn_spec : {M : Type 1} → statement M

@@ -5,18 +5,18 @@ use Rattle.trial.specs.Setup.{bad_setup}
 use Rattle.trial.proofs.setup.is_bad_setup.Statement.{statement}
 use Rattle.trial.proofs.setup.is_bad_setup.Tie as tie
 
-returns : tie.Need-returns
+returns : tie.Need-returns-then-setup-lt-HEAD
 unfolding bad_setup
-returns c = simp (lt-ltb _ _ c.if1.true)
+returns c = simp (lt-ltb _ _ c.if-setup-lt-HEAD.true)
 
-returns-2 : tie.Need-returns-2
+returns-2 : tie.Need-returns
 unfolding bad_setup
 returns-2 c =
-    let panes = c.before in
-    rw (le-ltb _ _ panes.before.if1.false, panes.pane-count.ensures.0, c.starting-count.ensures.0)
+    let panes = c in
+    rw (le-ltb _ _ panes.if-setup-lt-HEAD.false, panes.pane_count-panes.ensures.0, c.starting_count-starting.ensures.0)
 
-pub is-bad-setup-spec : {M : Type 1} → statement M
-is-bad-setup-spec =
+pub is_bad_setup_spec : {M : Type 1} → statement M
+is_bad_setup_spec =
     tie.close
     (tie.spec
     returns (λ c κs. search rules) (λ c κs. search rules) (λ c. search rules) (λ c. search rules) (λ c. search rules)

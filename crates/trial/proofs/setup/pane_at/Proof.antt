@@ -9,8 +9,8 @@ returns : tie.Need-returns
 unfolding pane_at
 returns c = refl
 
-pub pane-at-spec : {M : Type 1} → statement M
-pane-at-spec =
+pub pane_at_spec : {M : Type 1} → statement M
+pane_at_spec =
     tie.close
     (tie.spec
     (λ c. search rules) (λ c. search rules) (λ c. search rules) (λ c. search rules) (λ c. search rules)

@@ -10,27 +10,27 @@ use Rattle.trial.proofs.SetupLaws.{fair}
 use Rattle.trial.proofs.setup.refusal.Statement.{statement}
 use Rattle.trial.proofs.setup.refusal.Tie as tie
 
-returns : tie.Need-returns
+returns : tie.Need-returns-then-is_bad_setup
 unfolding setup_refusal
-returns c = rw (sym c.before.is-bad-setup.ensures ∙ c.if1.true)
+returns c = rw (sym c.is_bad_setup.ensures ∙ c.if-is_bad_setup.true)
 
-rounds-in-requires : tie.Need-rounds-in-requires
-rounds-in-requires c κs = (fair _ _ (sym c.before.is-bad-setup.ensures ∙ c.if1.false)).long
+rounds-in-requires : tie.Need-rounds_in-requires
+rounds-in-requires c κs = (fair _ _ (sym c.is_bad_setup.ensures ∙ c.if-is_bad_setup.false)).long
 
 -- 23 does not apply: the rounds decide
-by_rounds : (c : tie.After-rounds-in)
-    → let a = c.before.before.before.before.args in
-    cond (ltb 1000 c.rounds-in.result) rounds_refused 0 ≡ setup_refusal a.setup.now a.room
+by_rounds : (c : tie.After-rounds_in)
+    → let a = c.args in
+    cond (ltb 1000 c.rounds_in.result) rounds_refused 0 ≡ setup_refusal a.setup.now a.room
 unfolding setup_refusal
 by_rounds c =
-    let test = c.before in
-    rw (sym test.before.is-bad-setup.ensures ∙ test.if1.false, c.rounds-in.ensures)
+    let test = c in
+    rw (sym test.is_bad_setup.ensures ∙ test.if-is_bad_setup.false, c.rounds_in.ensures)
 
-returns-2 : tie.Need-returns-2
-returns-2 c = rw (lt-ltb _ _ c.if2.true) at (by_rounds c.before)
+returns-2 : tie.Need-returns-then-rounds_in-gt-MAX_ROUNDS
+returns-2 c = rw (lt-ltb _ _ c.if-rounds_in-gt-MAX_ROUNDS.true) at (by_rounds c.before)
 
-returns-3 : tie.Need-returns-3
-returns-3 c = rw (le-ltb _ _ c.if2.false) at (by_rounds c.before)
+returns-3 : tie.Need-returns-else-rounds_in-gt-MAX_ROUNDS
+returns-3 c = rw (le-ltb _ _ c.if-rounds_in-gt-MAX_ROUNDS.false) at (by_rounds c.before)
 
-pub refusal-spec : {M : Type 1} → statement M
-refusal-spec = tie.close (tie.spec (λ c κs. search rules) returns rounds-in-requires returns-2 returns-3)
+pub refusal_spec : {M : Type 1} → statement M
+refusal_spec = tie.close (tie.spec (λ c κs. search rules) returns rounds-in-requires returns-2 returns-3)

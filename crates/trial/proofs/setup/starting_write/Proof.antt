@@ -6,10 +6,10 @@ use Rattle.trial.proofs.setup.starting_write.Tie as tie
 
 returns : tie.Need-returns
 unfolding starting_frame
-returns c = rw c.before.before.before.before.before.pane-count.ensures.0
+returns c = rw c.pane_count.ensures.0
 
-pub starting-write-spec : {M : Type 1} → statement M
-starting-write-spec =
+pub starting_write_spec : {M : Type 1} → statement M
+starting_write_spec =
     tie.close
     (tie.spec
     (λ c κs. search rules) (λ c. search rules) (λ c. search rules) (λ c. search rules) (λ c. search rules)

@@ -16,23 +16,23 @@ room s = omega (arith, length-entries s.args.space.now, s.requires.0)
 returns : tie.Need-returns
 unfolding view entries
 returns c =
-    let s = c.before.before.before.before.before.before in
-    let n = c.before.before.before.before.entry-count in
+    let s = c in
+    let n = c.entry_count-n in
     view-entries _ _
-    (appended entry_table s.args.space.now n.result (entry_words s.args.e) refl (omega (arith, room s))
+    (appended entry_table s.args.space.now n.result (entry_words s.args.e) refl (omega (arith, room s.before.before.before.before.before))
     (omega (arith, n.ensures.1))
     n.ensures.0
     (entry_back s.args.e
     (record {
-      readers-fit = omega (arith, s.well-formed);
-      blanks-fit = omega (arith, s.well-formed);
-      writer_fits = omega (arith, s.well-formed);
+      readers-fit = omega (arith, s.well_formed);
+      blanks-fit = omega (arith, s.well_formed);
+      writer_fits = omega (arith, s.well_formed);
       end_fits = s.requires.1;
     }))
-    c.before.before.put-entry.ensures c.set-entry-count.ensures)
+    c.put_entry.ensures c.set_entry_count.ensures)
 
-pub add-entry-spec : {M : Type 1} → statement M
-add-entry-spec =
+pub add_entry_spec : {M : Type 1} → statement M
+add_entry_spec =
     tie.close
-    (tie.spec (λ c κs. search rules) (λ c κs. omega (arith, room c.before.before.before))
-    (λ c. search rules) (λ c κs. omega (arith, room c.before.before.before.before.before)) returns)
+    (tie.spec (λ c κs. search rules) (λ c κs. omega (arith, room c.before.before))
+    (λ c. search rules) (λ c κs. omega (arith, room c.before.before.before.before)) returns)

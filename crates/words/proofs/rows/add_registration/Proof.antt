@@ -16,23 +16,23 @@ room s = omega (arith, length-registrations s.args.space.now, s.requires.0)
 returns : tie.Need-returns
 unfolding view registrations
 returns c =
-    let s = c.before.before.before.before.before.before in
-    let n = c.before.before.before.before.registration-count in
+    let s = c in
+    let n = c.registration_count-n in
     view-registrations _ _
     (appended registration_table s.args.space.now n.result (registration_words s.args.g) refl
-    (omega (arith, room s))
+    (omega (arith, room s.before.before.before.before.before))
     (omega (arith, n.ensures.1))
     n.ensures.0
     (registration_back s.args.g
     (record {
-      party-fits = omega (arith, s.well-formed);
-      mask_fits = omega (arith, s.well-formed);
+      party-fits = omega (arith, s.well_formed);
+      mask_fits = omega (arith, s.well_formed);
       end_fits = s.requires.1;
     }))
-    c.before.before.put-registration.ensures c.set-registration-count.ensures)
+    c.put_registration.ensures c.set_registration_count.ensures)
 
-pub add-registration-spec : {M : Type 1} → statement M
-add-registration-spec =
+pub add_registration_spec : {M : Type 1} → statement M
+add_registration_spec =
     tie.close
-    (tie.spec (λ c κs. search rules) (λ c κs. omega (arith, room c.before.before.before))
-    (λ c. search rules) (λ c κs. omega (arith, room c.before.before.before.before.before)) returns)
+    (tie.spec (λ c κs. search rules) (λ c κs. omega (arith, room c.before.before))
+    (λ c. search rules) (λ c κs. omega (arith, room c.before.before.before.before)) returns)

@@ -16,23 +16,23 @@ room s = omega (arith, length-txns s.args.space.now, s.requires.0)
 returns : tie.Need-returns
 unfolding view txns
 returns c =
-    let b = c.before.before.before.before.before.before.before in
-    let n = b.before.txn-count in
-    let s = b.before.before.before in
+    let b = c in
+    let n = b.txn_count-n in
+    let s = b in
     view-txns _ _
-    (appended txn_table s.args.space.now n.result (txn_words s.args.t) refl (omega (arith, room s))
+    (appended txn_table s.args.space.now n.result (txn_words s.args.t) refl (omega (arith, room s.before.before.before.before.before.before.before.before.before))
     (omega (arith, n.ensures.1))
     n.ensures.0 (txn_back s.args.t (record {
-      party-fits = omega (arith, s.well-formed);
+      party-fits = omega (arith, s.well_formed);
       slot-fits = s.requires.1;
       end_fits = s.requires.2;
     }))
-    (c.before.before.put-words.ensures ∙ rw b.until-word.ensures) c.set-txn-count.ensures)
+    (c.put_words.ensures ∙ rw b.until_word-end.ensures) c.set_txn_count.ensures)
 
-pub add-txn-spec : {M : Type 1} → statement M
-add-txn-spec =
+pub add_txn_spec : {M : Type 1} → statement M
+add_txn_spec =
     tie.close
     (tie.spec (λ c κs. search rules) (λ c κs. search rules) (λ c. search rules) (λ c. search rules)
     (λ c. search rules) (λ c. search rules) (λ c. search rules) (λ c κs. search rules) (λ c. search rules)
-    (λ c κs. omega (arith, room c.before.before.before.before.before.before.before.before.before))
+    (λ c κs. omega (arith, room c.before.before.before.before.before.before.before.before))
     returns)

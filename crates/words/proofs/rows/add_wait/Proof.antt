@@ -14,24 +14,24 @@ use Rattle.words.proofs.rows.add_wait.Tie as tie
 returns : tie.Need-returns
 unfolding view waits
 returns c free =
-    let b = c.before.before.before.before.before.before.before in
-    let n = b.before.before.wait-count in
-    let s = b.before.before.before.before in
+    let b = c in
+    let n = b.wait_count-row in
+    let s = b in
     let ws = s.args.space.now in
     let row : n.result % max_waits ≡ n.result = mod-eq_of_lt (omega (arith, n.ensures.0, length-waits ws)) in
     view-waits _ _
     (appended wait_table ws n.result (wait_words s.args.w) refl (omega (arith, n.ensures.0, length-waits ws))
     (omega (arith, n.ensures.1))
     n.ensures.0 (wait_back s.args.w (record {
-      party-fits = omega (arith, s.well-formed);
-      mask_fits = omega (arith, s.well-formed);
+      party-fits = omega (arith, s.well_formed);
+      mask_fits = omega (arith, s.well_formed);
       deadline_fits = s.requires;
     }))
-    (c.before.before.put-words.ensures ∙ rw (b.before.op-word.ensures, b.until-word.ensures, row))
-    (c.set-wait-count.ensures ∙ rw row))
+    (c.put_words.ensures ∙ rw (b.op_word-op.ensures, b.until_word-end.ensures, row))
+    (c.set_wait_count.ensures ∙ rw row))
 
-pub add-wait-spec : {M : Type 1} → statement M
-add-wait-spec =
+pub add_wait_spec : {M : Type 1} → statement M
+add_wait_spec =
     tie.close
     (tie.spec (λ c κs. search rules) (λ c κs. search rules) (λ c κs. search rules) (λ c. search rules)
     (λ c. search rules) (λ c. search rules) (λ c. search rules) (λ c. search rules)

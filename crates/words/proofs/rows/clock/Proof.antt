@@ -9,5 +9,5 @@ returns : tie.Need-returns
 unfolding view
 returns c = refl
 
-pub clock-spec : {M : Type 1} → statement M
-clock-spec = tie.close (tie.spec (λ c. search rules) returns)
+pub clock_spec : {M : Type 1} → statement M
+clock_spec = tie.close (tie.spec (λ c. search rules) returns)

@@ -9,11 +9,11 @@ use Rattle.words.proofs.rows.entry_at.Tie as tie
 returns : tie.Need-returns
 unfolding entry_of
 returns c =
-    rw c.before.before.before.before.before.before.before.before.before.before.until-of.ensures
+    rw c.until_of-end.ensures
     (ap entry_of (lent_row entries_at entry_width _ _))
 
-pub entry-at-spec : {M : Type 1} → statement M
-entry-at-spec =
+pub entry_at_spec : {M : Type 1} → statement M
+entry_at_spec =
     tie.close
     (tie.spec (λ c. search rules) (λ c. search rules) (λ c. search rules) (λ c. search rules) (λ c. search rules)
     (λ c. search rules) (λ c. search rules) (λ c. search rules) (λ c κs. search rules) (λ c. search rules)

@@ -12,8 +12,8 @@ returns : tie.Need-returns
 unfolding entry_of
 returns c = sym (row_word entries_at entry_width _ 5 _ (lit< tt)) ∙ sym (until_back _)
 
-pub entry-end-spec : {M : Type 1} → statement M
-entry-end-spec =
+pub entry_end_spec : {M : Type 1} → statement M
+entry_end_spec =
     tie.close
     (tie.spec
     (λ c. search rules) (λ c. search rules) (λ c. search rules) (λ c. search rules) (λ c. search rules) returns)

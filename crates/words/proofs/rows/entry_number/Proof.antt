@@ -12,10 +12,10 @@ use Rattle.words.proofs.rows.entry_number.Tie as tie
 returns : tie.Need-returns
 unfolding entry_of
 returns c =
-    let first = row_word entries_at entry_width c.before.args.i 0 c.before.args.space.now (lit< tt) in
-    sym (first ∙ ap (λ k. get_or c.before.args.space.now k 0) (omega arith))
+    let first = row_word entries_at entry_width c.args.i 0 c.args.space.now (lit< tt) in
+    sym (first ∙ ap (λ k. get_or c.args.space.now k 0) (omega arith))
 
-pub entry-number-spec : {M : Type 1} → statement M
-entry-number-spec =
+pub entry_number_spec : {M : Type 1} → statement M
+entry_number_spec =
     tie.close
     (tie.spec (λ c. search rules) (λ c. search rules) (λ c. search rules) (λ c. search rules) returns)

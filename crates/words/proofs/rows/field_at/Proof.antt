@@ -6,10 +6,10 @@ use Rattle.words.proofs.rows.field_at.Statement.{statement}
 use Rattle.words.proofs.rows.field_at.Tie as tie
 
 returns : tie.Need-returns
-returns c = sym (field_word _ _ _ c.before.requires.1)
+returns c = sym (field_word _ _ _ c.requires.1)
 
-pub field-at-spec : {M : Type 1} → statement M
-field-at-spec =
+pub field_at_spec : {M : Type 1} → statement M
+field_at_spec =
     tie.close
     (tie.spec
     (λ c. search rules) (λ c. search rules) (λ c. search rules) (λ c. search rules) (λ c. search rules) returns)

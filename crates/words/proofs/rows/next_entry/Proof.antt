@@ -9,5 +9,5 @@ returns : tie.Need-returns
 unfolding view
 returns c = refl
 
-pub next-entry-spec : {M : Type 1} → statement M
-next-entry-spec = tie.close (tie.spec (λ c. search rules) returns)
+pub next_entry_spec : {M : Type 1} → statement M
+next_entry_spec = tie.close (tie.spec (λ c. search rules) returns)

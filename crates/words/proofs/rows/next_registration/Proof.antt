@@ -9,5 +9,5 @@ returns : tie.Need-returns
 unfolding view
 returns c = refl
 
-pub next-registration-spec : {M : Type 1} → statement M
-next-registration-spec = tie.close (tie.spec (λ c. search rules) returns)
+pub next_registration_spec : {M : Type 1} → statement M
+next_registration_spec = tie.close (tie.spec (λ c. search rules) returns)

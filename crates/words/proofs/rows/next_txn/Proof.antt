@@ -9,5 +9,5 @@ returns : tie.Need-returns
 unfolding view
 returns c = refl
 
-pub next-txn-spec : {M : Type 1} → statement M
-next-txn-spec = tie.close (tie.spec (λ c. search rules) returns)
+pub next_txn_spec : {M : Type 1} → statement M
+next_txn_spec = tie.close (tie.spec (λ c. search rules) returns)

@@ -5,10 +5,10 @@ use Rattle.words.proofs.rows.put_entry.Statement.{statement}
 use Rattle.words.proofs.rows.put_entry.Tie as tie
 
 returns : tie.Need-returns
-returns c = c.put-words.ensures ∙ rw c.before.before.before.before.before.before.until-word.ensures
+returns c = c.put_words.ensures ∙ rw c.until_word-end.ensures
 
-pub put-entry-spec : {M : Type 1} → statement M
-put-entry-spec =
+pub put_entry_spec : {M : Type 1} → statement M
+put_entry_spec =
     tie.close
     (tie.spec (λ c κs. search rules) (λ c. search rules) (λ c. search rules) (λ c. search rules) (λ c. search rules)
     (λ c. search rules) (λ c. search rules) (λ c. search rules) (λ c. search rules) (λ c. search rules)

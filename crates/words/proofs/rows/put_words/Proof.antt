@@ -9,22 +9,22 @@ use Rattle.words.proofs.RowLaws.{put_more}
 use Rattle.words.proofs.rows.put_words.Statement.{statement}
 use Rattle.words.proofs.rows.put_words.Tie as tie
 
-abbrev invariant-loop : tie.invariant-loop
+abbrev invariant-loop : tie.invariant-loop-k
 invariant-loop space₀ o r n k₀ space k = (k ≤ n) × (space ≡ sets space₀ o (take k r))
 
-abbrev decreases-loop : tie.decreases-loop
+abbrev decreases-loop : tie.decreases-loop-k
 decreases-loop space₀ o r n k₀ space k = n - k
 
-loop-again : tie.Need-loop-preserved invariant-loop decreases-loop
+loop-again : tie.Need-loop-k-preserved invariant-loop decreases-loop
 loop-again c =
-    let l = c.before.before.loop in
+    let l = c.loop-k in
     (omega arith, rw (l.invariant.1, add-one l.k) (put_more _ _ _ l.k (omega arith)))
 
 returns : tie.Need-returns invariant-loop decreases-loop
-returns c = let l = c.before.loop in l.invariant.1 ∙ ap (sets _ _) (take_all l.k _ (omega arith))
+returns c = let l = c.loop-k in l.invariant.1 ∙ ap (sets _ _) (take_all l.k _ (omega arith))
 
-pub put-words-spec : {M : Type 1} → statement M
-put-words-spec =
+pub put_words_spec : {M : Type 1} → statement M
+put_words_spec =
     tie.close
     (tie.spec invariant-loop decreases-loop (λ c. (omega arith, refl)) (λ c. omega arith) (λ c. omega arith)
     (λ c. omega arith) (λ c. omega arith) (λ c. omega arith) (λ c. omega arith) (λ c. omega arith) loop-again

@@ -8,11 +8,11 @@ use Rattle.words.proofs.rows.registration_at.Statement.{statement}
 
 returns : tie.Need-returns
 unfolding registration_of
-returns c = rw c.before.before.before.before.before.before.before.before.until-of.ensures
+returns c = rw c.until_of-end.ensures
     (ap registration_of (lent_row registrations_at registration_width _ _))
 
-pub registration-at-spec : {M : Type 1} → statement M
-registration-at-spec =
+pub registration_at_spec : {M : Type 1} → statement M
+registration_at_spec =
     tie.close
     (tie.spec (λ c. search rules) (λ c. search rules) (λ c. search rules) (λ c. search rules) (λ c. search rules)
     (λ c. search rules) (λ c. search rules) (λ c. search rules) (λ c κs. search rules) (λ c. search rules)

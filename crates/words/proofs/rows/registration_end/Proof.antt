@@ -12,8 +12,8 @@ returns : tie.Need-returns
 unfolding registration_of
 returns c = sym (row_word registrations_at registration_width _ 7 _ (lit< tt)) ∙ sym (until_back _)
 
-pub registration-end-spec : {M : Type 1} → statement M
-registration-end-spec =
+pub registration_end_spec : {M : Type 1} → statement M
+registration_end_spec =
     tie.close
     (tie.spec
     (λ c. search rules) (λ c. search rules) (λ c. search rules) (λ c. search rules) (λ c. search rules) returns)

@@ -13,23 +13,23 @@ use Rattle.words.proofs.rows.remove_entry.Tie as tie
 returns : tie.Need-returns
 unfolding view entries
 returns c =
-    let n = c.before.before.before.before in
-    let s = n.before.before in
+    let n = c in
+    let s = n in
     let ws = s.args.space.now in
     let i = s.args.i in
-    let count = n.entry-count.result in
-    let ends = n.entry-count.ensures in
+    let count = n.entry_count-count.result in
+    let ends = n.entry_count-count.ensures in
     let row : entries_at + entry_width * i + entry_width ≡ entries_at + entry_width * suc i = omega arith in
     let rest : entry_width * (count - i - 1) ≡ entry_width * (count - suc i) = omega arith in
     let move =
-    c.before.before.move-words.ensures ∙ ap₂ (λ f k. move_words ws f (entries_at + entry_width * i) k) row rest in
+    c.move_words.ensures ∙ ap₂ (λ f k. move_words ws f (entries_at + entry_width * i) k) row rest in
     let turned =
     removed entry_table ws i count ends.0 (omega (arith, ends.0, s.requires)) (omega (arith, ends.1)) move
-    c.set-entry-count.ensures in
+    c.set_entry_count.ensures in
     (view-entries _ ws turned, turned.but.long ∙ ends.1)
 
-pub remove-entry-spec : {M : Type 1} → statement M
-remove-entry-spec =
+pub remove_entry_spec : {M : Type 1} → statement M
+remove_entry_spec =
     tie.close
     (tie.spec
     (λ c κs. search rules)

@@ -7,5 +7,5 @@ use Rattle.words.proofs.rows.set_clock.Tie as tie
 returns : tie.Need-returns
 returns c = view-clock _ _ c.whole.ensures
 
-pub set-clock-spec : {M : Type 1} → statement M
-set-clock-spec = tie.close (tie.spec (λ c κs. search rules) (λ c. search rules) returns)
+pub set_clock_spec : {M : Type 1} → statement M
+set_clock_spec = tie.close (tie.spec (λ c κs. search rules) (λ c. search rules) returns)

@@ -10,5 +10,5 @@ returns : tie.Need-returns
 unfolding view entries txns waits registrations empty_words
 returns c = (refl, refl)
 
-pub set-empty-spec : {M : Type 1} → statement M
-set-empty-spec = tie.close (tie.spec (λ c. search rules) (λ c. search rules) (λ c. search rules) returns)
+pub set_empty_spec : {M : Type 1} → statement M
+set_empty_spec = tie.close (tie.spec (λ c. search rules) (λ c. search rules) (λ c. search rules) returns)

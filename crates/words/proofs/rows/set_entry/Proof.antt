@@ -13,24 +13,24 @@ use Rattle.words.proofs.rows.set_entry.Tie as tie
 returns : tie.Need-returns
 unfolding view entries
 returns c =
-    let s = c.before.before.before.before in
+    let s = c in
     let ws = s.args.space.now in
     let e = s.args.e in
-    let long = c.before.before.whole.ensures in
+    let long = c.whole.ensures in
     let back =
     entry_back e
     (record {
-      readers-fit = omega (arith, s.well-formed);
-      blanks-fit = omega (arith, s.well-formed);
-      writer_fits = omega (arith, s.well-formed);
+      readers-fit = omega (arith, s.well_formed);
+      blanks-fit = omega (arith, s.well_formed);
+      writer_fits = omega (arith, s.well_formed);
       end_fits = s.requires.1;
     }) in
     let turned = put entry_table ws s.args.i (entry_words e) refl (omega (arith, s.requires)) (omega (arith, long)) in (
-      ap view c.put-entry.ensures
+      ap view c.put_entry.ensures
           ∙ view-entries _ ws turned
           ∙ ap (λ x. with_entries (set (view ws).entries s.args.i x) (view ws)) back,
-      ap length c.put-entry.ensures ∙ turned.but.long ∙ long,
+      ap length c.put_entry.ensures ∙ turned.but.long ∙ long,
     )
 
-pub set-entry-spec : {M : Type 1} → statement M
-set-entry-spec = tie.close (tie.spec (λ c κs. search rules) (λ c κs. search rules) returns)
+pub set_entry_spec : {M : Type 1} → statement M
+set_entry_spec = tie.close (tie.spec (λ c κs. search rules) (λ c κs. search rules) returns)

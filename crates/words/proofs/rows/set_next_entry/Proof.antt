@@ -7,5 +7,5 @@ use Rattle.words.proofs.rows.set_next_entry.Tie as tie
 returns : tie.Need-returns
 returns c = view-next-entry _ _ c.whole.ensures
 
-pub set-next-entry-spec : {M : Type 1} → statement M
-set-next-entry-spec = tie.close (tie.spec (λ c κs. search rules) (λ c. search rules) returns)
+pub set_next_entry_spec : {M : Type 1} → statement M
+set_next_entry_spec = tie.close (tie.spec (λ c κs. search rules) (λ c. search rules) returns)

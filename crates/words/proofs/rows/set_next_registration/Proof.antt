@@ -7,5 +7,5 @@ use Rattle.words.proofs.rows.set_next_registration.Statement.{statement}
 returns : tie.Need-returns
 returns c = view-next_registration _ _ c.whole.ensures
 
-pub set-next-registration-spec : {M : Type 1} → statement M
-set-next-registration-spec = tie.close (tie.spec (λ c κs. search rules) (λ c. search rules) returns)
+pub set_next_registration_spec : {M : Type 1} → statement M
+set_next_registration_spec = tie.close (tie.spec (λ c κs. search rules) (λ c. search rules) returns)

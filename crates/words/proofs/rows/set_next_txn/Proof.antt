@@ -7,5 +7,5 @@ use Rattle.words.proofs.rows.set_next_txn.Tie as tie
 returns : tie.Need-returns
 returns c = view-next-txn _ _ c.whole.ensures
 
-pub set-next-txn-spec : {M : Type 1} → statement M
-set-next-txn-spec = tie.close (tie.spec (λ c κs. search rules) (λ c. search rules) returns)
+pub set_next_txn_spec : {M : Type 1} → statement M
+set_next_txn_spec = tie.close (tie.spec (λ c κs. search rules) (λ c. search rules) returns)

@@ -13,24 +13,24 @@ use Rattle.words.proofs.rows.set_registration.Statement.{statement}
 returns : tie.Need-returns
 unfolding view registrations
 returns c =
-    let s = c.before.before.before.before in
+    let s = c in
     let ws = s.args.space.now in
     let e = s.args.g in
-    let long = c.before.before.whole.ensures in
+    let long = c.whole.ensures in
     let back =
     registration_back e
     (record {
-      party-fits = omega (arith, s.well-formed);
-      mask_fits = omega (arith, s.well-formed);
+      party-fits = omega (arith, s.well_formed);
+      mask_fits = omega (arith, s.well_formed);
       end_fits = s.requires.1;
     }) in
     let turned = put registration_table ws s.args.i (registration_words e) refl (omega (arith, s.requires))
     (omega (arith, long)) in (
-      ap view c.put-registration.ensures
+      ap view c.put_registration.ensures
           ∙ view-registrations _ ws turned
           ∙ ap (λ x. with_registrations (set (view ws).registrations s.args.i x) (view ws)) back,
-      ap length c.put-registration.ensures ∙ turned.but.long ∙ long,
+      ap length c.put_registration.ensures ∙ turned.but.long ∙ long,
     )
 
-pub set-registration-spec : {M : Type 1} → statement M
-set-registration-spec = tie.close (tie.spec (λ c κs. search rules) (λ c κs. search rules) returns)
+pub set_registration_spec : {M : Type 1} → statement M
+set_registration_spec = tie.close (tie.spec (λ c κs. search rules) (λ c κs. search rules) returns)

@@ -8,10 +8,10 @@ use Rattle.words.proofs.rows.txn_at.Tie as tie
 
 returns : tie.Need-returns
 unfolding txn_of
-returns c = rw c.before.before.before.until-of.ensures (ap txn_of (lent_row txns_at txn_width _ _))
+returns c = rw c.until_of-end.ensures (ap txn_of (lent_row txns_at txn_width _ _))
 
-pub txn-at-spec : {M : Type 1} → statement M
-txn-at-spec =
+pub txn_at_spec : {M : Type 1} → statement M
+txn_at_spec =
     tie.close
     (tie.spec (λ c. search rules) (λ c. search rules) (λ c. search rules) (λ c. search rules)
     (λ c. search rules) (λ c. search rules) (λ c. search rules) (λ c. search rules) (λ c κs. search rules)

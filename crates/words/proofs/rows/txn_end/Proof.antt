@@ -12,8 +12,8 @@ returns : tie.Need-returns
 unfolding txn_of
 returns c = sym (row_word txns_at txn_width _ 2 _ (lit< tt)) ∙ sym (until_back _)
 
-pub txn-end-spec : {M : Type 1} → statement M
-txn-end-spec =
+pub txn_end_spec : {M : Type 1} → statement M
+txn_end_spec =
     tie.close
     (tie.spec
     (λ c. search rules) (λ c. search rules) (λ c. search rules) (λ c. search rules) (λ c. search rules) returns)

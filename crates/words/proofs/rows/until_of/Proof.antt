@@ -4,13 +4,13 @@ use Rattle.rules.specs.Words.{until_of}
 use Rattle.words.proofs.rows.until_of.Statement.{statement}
 use Rattle.words.proofs.rows.until_of.Tie as tie
 
-returns : tie.Need-returns
+returns : tie.Need-returns-then-n-eq-FOREVER
 unfolding until_of
-returns c = simp (eq-eqb _ _ c.if1.true)
+returns c = simp (eq-eqb _ _ c.if-n-eq-FOREVER.true)
 
-returns-2 : tie.Need-returns-2
+returns-2 : tie.Need-returns-else-n-eq-FOREVER
 unfolding until_of
-returns-2 c = simp (ne_eqb _ _ c.if1.false)
+returns-2 c = simp (ne_eqb _ _ c.if-n-eq-FOREVER.false)
 
-pub until-of-spec : {M : Type 1} → statement M
-until-of-spec = tie.close (tie.spec returns returns-2)
+pub until_of_spec : {M : Type 1} → statement M
+until_of_spec = tie.close (tie.spec returns returns-2)

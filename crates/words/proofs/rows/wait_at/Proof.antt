@@ -9,13 +9,13 @@ use Rattle.words.proofs.rows.wait_at.Tie as tie
 returns : tie.Need-returns
 unfolding wait_of
 returns c =
-    let b = c.before.before.before.before.before.before.before in
-    let takes = b.before.before.before.is-take.ensures in
-    rw (takes, b.before.before.is-if-exists.ensures, b.until-of.ensures)
+    let b = c in
+    let takes = b.is_take-takes.ensures in
+    rw (takes, b.is_if_exists-if_exists.ensures, b.until_of-deadline.ensures)
     (ap wait_of (lent_row waits_at wait_width _ _))
 
-pub wait-at-spec : {M : Type 1} → statement M
-wait-at-spec =
+pub wait_at_spec : {M : Type 1} → statement M
+wait_at_spec =
     tie.close
     (tie.spec (λ c. search rules) (λ c. search rules) (λ c. search rules) (λ c. search rules)
     (λ c. search rules) (λ c. search rules) (λ c. search rules) (λ c. search rules) (λ c κs. search rules)

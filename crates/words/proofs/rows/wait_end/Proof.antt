@@ -12,8 +12,8 @@ returns : tie.Need-returns
 unfolding wait_of
 returns c = sym (row_word waits_at wait_width _ 8 _ (lit< tt)) ∙ sym (until_back _)
 
-pub wait-end-spec : {M : Type 1} → statement M
-wait-end-spec =
+pub wait_end_spec : {M : Type 1} → statement M
+wait_end_spec =
     tie.close
     (tie.spec
     (λ c. search rules) (λ c. search rules) (λ c. search rules) (λ c. search rules) (λ c. search rules) returns)

@@ -10,8 +10,8 @@ returns : tie.Need-returns
 unfolding wait_of
 returns c = ap (λ r. (wait_of r).fields) (lent_row waits_at wait_width _ _)
 
-pub wait-fields-spec : {M : Type 1} → statement M
-wait-fields-spec =
+pub wait_fields_spec : {M : Type 1} → statement M
+wait_fields_spec =
     tie.close
     (tie.spec
     (λ c. search rules)

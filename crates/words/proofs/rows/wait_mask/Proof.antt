@@ -13,8 +13,8 @@ returns : tie.Need-returns
 unfolding wait_of
 returns c = ap (λ n. n % byte_values) (sym (row_word waits_at wait_width _ 2 _ (lit< tt)))
 
-pub wait-mask-spec : {M : Type 1} → statement M
-wait-mask-spec =
+pub wait_mask_spec : {M : Type 1} → statement M
+wait_mask_spec =
     tie.close
     (tie.spec
     (λ c. search rules)

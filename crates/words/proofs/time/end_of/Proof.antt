@@ -9,21 +9,21 @@ use Rattle.rules.specs.Words.{until_of}
 use Rattle.words.proofs.time.end_of.Statement.{statement}
 use Rattle.words.proofs.time.end_of.Tie as tie
 
-add_t5 : tie.Need-overflow-add-t5
-add_t5 c = record { fits = omega (arith, c.before.requires c.if1.false) }
+add_t5 : tie.Need-overflow_add-result
+add_t5 c = record { fits = omega (arith, c.requires c.if-lease-eq-FOREVER.false) }
 
-returns : tie.Need-returns
+returns : tie.Need-returns-then-lease-eq-FOREVER
 unfolding until until_of
-returns c = (rw (eq-eqb _ _ c.if1.true), refl)
+returns c = (rw (eq-eqb _ _ c.if-lease-eq-FOREVER.true), refl)
 
-returns-2 : tie.Need-returns-2
+returns-2 : tie.Need-returns-else-lease-eq-FOREVER
 unfolding until until_of
 returns-2 c =
-    let low = c.before.requires c.if1.false in (
-      rw (ne_eqb _ _ c.if1.false),
-      rw (ne_eqb (c.before.args.clock + c.before.args.lease) forever
+    let low = c.requires c.if-lease-eq-FOREVER.false in (
+      rw (ne_eqb _ _ c.if-lease-eq-FOREVER.false),
+      rw (ne_eqb (c.args.clock + c.args.lease) forever
           (λ e. omega arith)),
     )
 
-pub end-of-spec : {M : Type 1} → statement M
-end-of-spec = tie.close (tie.spec add_t5 returns returns-2)
+pub end_of_spec : {M : Type 1} → statement M
+end_of_spec = tie.close (tie.spec add_t5 returns returns-2)
