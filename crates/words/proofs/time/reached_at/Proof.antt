@@ -6,11 +6,11 @@ use Rattle.words.proofs.time.reached_at.Tie as tie
 
 returns : tie.Need-returns-in-Tick
 unfolding reached
-returns c = rw c.end-1.given.1
+returns c = rw c.in-Tick.is
 
 returns-2 : tie.Need-returns-in-Forever
 unfolding reached
-returns-2 c = rw c.enum_told-1.given.1
+returns-2 c = rw c.in-Forever.is
 
 pub reached_at_spec : {M : Type 1} → statement M
 reached_at_spec = tie.close (tie.spec (λ c. search rules) (λ c. search rules) returns returns-2)
