@@ -16,7 +16,7 @@ returns c = rw (ne_eqb _ _ c.if-e-party.true)
 returns-2 : tie.Need-returns-then-not-is_free
 unfolding entry_refusal
 returns-2 c =
-    rw (eq-eqb _ _ c.if-e-party.false, sym c.is_free.ensures ∙ not-true _ c.if-not-is_free.true)
+    rw (eq-eqb _ _ c.if-e-party.false, sym c.is_free.ensures ∙ c.if-not-is_free.true)
 
 -- the entry is the party's own, and free
 own : (c : tie.After-too_late)
@@ -27,7 +27,7 @@ own c =
     let free = c in
     rw (
       eq-eqb _ _ free.if-e-party.false,
-      sym free.is_free.ensures ∙ not-false _ c.if-not-is_free.false,
+      sym free.is_free.ensures ∙ c.if-not-is_free.false,
       sym c.too_late.ensures,
     )
 

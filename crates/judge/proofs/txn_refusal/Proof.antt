@@ -35,16 +35,16 @@ found c e =
 returns-3 : tie.Need-returns-in_default
 returns-3 c =
     let find = c in
-    found find.before.before (λ z. live-none _ _ _ z (sym find.find_txn.ensures.live ∙ ap live_of c.enum_told-1.given.1))
+    found find.before.before (λ z. live-none _ _ _ z (sym find.find_txn.ensures.live ∙ ap live_of c.in_default.is))
 
 -- 8, by the live transaction's party
 owned : (c : tie.In-At-2)
     → let a = c.args in
-    cond (not (eqb c.t-1.given.0.0.party a.party)) not_own_refused 0
+    cond (not (eqb c.in-At.t.party a.party)) not_own_refused 0
     ≡ txn_refusal a.inside a.party a.id.0 (view a.space.now).txns
 owned c =
     let find = c in
-    found find.before.before (λ z. live_some _ _ _ z _ (sym find.find_txn.ensures.live ∙ ap live_of c.t-1.given.1))
+    found find.before.before (λ z. live_some _ _ _ z _ (sym find.find_txn.ensures.live ∙ ap live_of c.in-At.is))
 
 returns-4 : tie.Need-returns-then-t-party
 returns-4 c = rw (eq-eqb _ _ c.if-t-party.true) at (owned c.before.before.before)

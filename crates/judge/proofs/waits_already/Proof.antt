@@ -22,7 +22,7 @@ returns : tie.Need-returns-then-not-may_wait invariant-loop decreases-loop
 returns c =
     let start = c in
     sym (unflagged_waits start.args.party start.args.leaving.0 start.requires
-    (c.may_wait.ensures (not-true _ c.if-not-may_wait.true)))
+    (c.may_wait.ensures (c.if-not-may_wait.true)))
 
 loop-holds : tie.Need-loop-i-init invariant-loop decreases-loop
 loop-holds c = (omega arith, search_start)

@@ -13,7 +13,7 @@ take-up-requires c κs =
     let asked = c in
     let decoded = asked in
     let start = decoded in
-    (rw asked.asked-1.given.1 at decoded.decode-asked.ensures, decoded.if-answers-lt-STEP_AREA.false, start.requires)
+    (rw asked.in-Asks.is at decoded.decode-asked.ensures, decoded.if-answers-lt-STEP_AREA.false, start.requires)
 
 returns-3 : tie.Need-returns-in-Refused
 returns-3 c =
@@ -21,7 +21,7 @@ returns-3 c =
     let decoded = asked in
     let start = decoded in
     let long = decoded.if-answers-lt-STEP_AREA.false in
-    let d = form_refused _ _ _ long (rw asked.asked-in-Refused-1.given.1 at decoded.decode-asked.ensures) in
+    let d = form_refused _ _ _ long (rw asked.in-Refused.is at decoded.decode-asked.ensures) in
     (stepped-refused long d.0 d.1 refl c.refuse.ensures, λ _. start.requires)
 
 pub step_hinted_spec : {M : Type 1} → statement M

@@ -11,7 +11,7 @@ returns : tie.Need-returns-then-takes-readers
 returns c =
     let slot = c.slot_of-p.ensures in
     let a = c.args in
-    rw (c.free_but_lem.ensures, and_left a.takes _ c.if-takes-readers.true) (sym (left_over_lem _ _ _ slot.0 _))
+    rw (c.free_but.ensures, and_left a.takes _ c.if-takes-readers.true) (sym (left_over_lem _ _ _ slot.0 _))
 
 returns-2 : tie.Need-returns
 returns-2 c =

@@ -6,13 +6,13 @@ use Rattle.available.proofs.holds.is_placed.Statement.{statement}
 use Rattle.available.proofs.holds.is_placed.Tie as tie
 
 returns : tie.Need-returns-then-not-asks_arc
-returns c = rw (sym c.asks_arc.ensures ∙ not-true _ c.if-not-asks_arc.true)
+returns c = rw (sym c.asks_arc.ensures ∙ c.if-not-asks_arc.true)
 
 returns-2 : tie.Need-returns-then-has_bit
 returns-2 c =
     let asked = c in
     rw (
-      sym asked.asks_arc.ensures ∙ not-false _ asked.if-not-asks_arc.false,
+      sym asked.asks_arc.ensures ∙ asked.if-not-asks_arc.false,
       sym c.has_bit.ensures ∙ c.if-has_bit.true,
     )
 
@@ -20,7 +20,7 @@ returns-3 : tie.Need-returns
 returns-3 c =
     let asked = c in
     rw (
-      sym asked.asks_arc.ensures ∙ not-false _ asked.if-not-asks_arc.false,
+      sym asked.asks_arc.ensures ∙ asked.if-not-asks_arc.false,
       sym c.has_bit.ensures ∙ c.if-has_bit.false,
       c.in_arc.ensures,
     )

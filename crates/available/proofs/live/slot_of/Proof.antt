@@ -10,14 +10,14 @@ use Rattle.available.proofs.live.slot_of.Tie as tie
 returns : tie.Need-returns-in-At
 returns c =
     let f = c.find_txn-live.ensures in
-    let e = c.live-1.given.1 in
-    (ap slot_of (ap live_of (sym e) ∙ f.live-1), subst (λ r. slot_of (live_of r) ≤ no_slot) e f.low)
+    let e = c.in-At.is in
+    (ap slot_of (ap live_of (sym e) ∙ f.live), subst (λ r. slot_of (live_of r) ≤ no_slot) e f.low)
 
 returns-2 : tie.Need-returns-in-None
 returns-2 c =
     let f = c.find_txn-live.ensures in
-    let e = c.enum_told-1.given.1 in
-    (ap slot_of (ap live_of (sym e) ∙ f.live-1), lit< tt)
+    let e = c.in-None.is in
+    (ap slot_of (ap live_of (sym e) ∙ f.live), lit< tt)
 
 pub slot_of_spec : {M : Type 1} → statement M
 slot_of_spec =

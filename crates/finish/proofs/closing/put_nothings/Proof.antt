@@ -25,7 +25,7 @@ loop-again : tie.Need-loop-i-preserved-then-not-over invariant-loop decreases-lo
 loop-again c =
     let l = c.loop-i in (
       omega arith,
-      answered_passed l.invariant.1 refl (sym c.is_over-over.ensures ∙ not-true _ c.if-not-over.true),
+      answered_passed l.invariant.1 refl (sym c.is_over-over.ensures ∙ c.if-not-over.true),
     )
 
 add-record-requires : tie.Need-add_record-done-requires invariant-loop decreases-loop
@@ -40,7 +40,7 @@ loop-again-2 c =
     let read = made in
     let l = read in
     let m = view l.args.space.now in
-    let test = sym read.is_over-over.ensures ∙ not-false _ made.if-not-over.false in
+    let test = sym read.is_over-over.ensures ∙ made.if-not-over.false in
     let over = ap (is_over m) read.wait_at-w.ensures ∙ test in (
       omega arith,
       answered_more l.loop-i.invariant.1 read.wait_at-w.ensures over made.plain_record-r.ensures (omega arith)

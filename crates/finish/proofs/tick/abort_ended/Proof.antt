@@ -22,7 +22,7 @@ returns : tie.Need-returns-in_default invariant-loop decreases-loop
 returns c =
     let first = c in
     aborting_done first.loop-t.invariant
-    (sym first.first_ended.ensures ∙ ap live_of c.enum_told-1.given.1)
+    (sym first.first_ended.ensures ∙ ap live_of c.in_default.is)
 
 -- one is aborted: fewer live, and the rest is still to be done
 turn : (c : tie.After-abort_txn invariant-loop decreases-loop)
@@ -32,7 +32,7 @@ turn : (c : tie.After-abort_txn invariant-loop decreases-loop)
 turn c =
     let t = c in
     let first = t in
-    aborting_more first.loop-t.invariant (sym first.first_ended.ensures ∙ ap live_of t.t-1.given.1)
+    aborting_more first.loop-t.invariant (sym first.first_ended.ensures ∙ ap live_of t.in-At.is)
     c.abort_txn.ensures.0
 
 pub abort_ended_spec : {M : Type 1} → statement M

@@ -35,7 +35,7 @@ loop-again c =
     let l = c.loop-i in (
       omega arith,
       answered_passed l.invariant.1 c.txn_at-t.ensures
-          (sym c.reached_at.ensures ∙ not-true _ c.if-not-reached_at.true),
+          (sym c.reached_at.ensures ∙ c.if-not-reached_at.true),
       l.invariant.2,
     )
 
@@ -48,7 +48,7 @@ loop-again-2 c =
     let made = c in
     let test = made in
     let l = test.loop-i in
-    let ends_now = sym test.reached_at.ensures ∙ not-false _ made.if-not-reached_at.false in (
+    let ends_now = sym test.reached_at.ensures ∙ made.if-not-reached_at.false in (
       omega arith,
       answered_more l.invariant.1 test.txn_at-t.ensures ends_now made.plain_record-r.ensures
           (omega arith) c.add_record-done.ensures,

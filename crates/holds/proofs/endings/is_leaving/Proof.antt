@@ -12,7 +12,7 @@ returns c =
     rw inside.1 (ap (λ (w : LookUp). eqb w.txn.0 inside.0.0.0) c.wait_at-w.ensures)
 
 returns-2 : tie.Need-returns-in-Over
-returns-2 c = rw (c.is_over.ensures, c.enum_told-1.given.1)
+returns-2 c = rw (c.is_over.ensures, c.in-Over.is)
 
 pub is_leaving_spec : {M : Type 1} → statement M
 is_leaving_spec =

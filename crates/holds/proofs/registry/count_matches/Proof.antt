@@ -7,15 +7,15 @@ use Rattle.holds.proofs.registry.count_matches.Statement.{statement}
 returns : tie.Need-returns-then-fields_match
 returns c =
     let told = c in
-    rw (told.p-1.given.1, sym c.fields_match.ensures ∙ c.if-fields_match.true)
+    rw (told.in-Written.is, sym c.fields_match.ensures ∙ c.if-fields_match.true)
 
 returns-2 : tie.Need-returns-else-fields_match
 returns-2 c =
     let told = c in
-    rw (told.p-1.given.1, sym c.fields_match.ensures ∙ c.if-fields_match.false)
+    rw (told.in-Written.is, sym c.fields_match.ensures ∙ c.if-fields_match.false)
 
 returns-3 : tie.Need-returns-in-Committed
-returns-3 c = rw (c.p-in-Committed-1.given.1, c.count_own.ensures)
+returns-3 c = rw (c.in-Committed.is, c.count_own.ensures)
 
 pub count_matches_spec : {M : Type 1} → statement M
 count_matches_spec =

@@ -8,16 +8,16 @@ use Rattle.holds.proofs.sweep.change_entry.Statement.{statement}
 use Rattle.holds.proofs.sweep.change_entry.Tie as tie
 
 release-requires : tie.Need-release-requires
-release-requires c κs = subst (λ s. slot_in s ≤ no_slot) c.s-1.given.1 c.requires
+release-requires c κs = subst (λ s. slot_in s ≤ no_slot) c.in-Commit.is c.requires
 
 release-requires-2 : tie.Need-release-requires-in-Abort
-release-requires-2 c κs = subst (λ s. slot_in s ≤ no_slot) c.s-in-Abort-1.given.1 c.requires
+release-requires-2 c κs = subst (λ s. slot_in s ≤ no_slot) c.in-Abort.is c.requires
 
 returns-2 : tie.Need-returns-in-Commit
-returns-2 c = rw c.s-1.given.1 c.release.ensures
+returns-2 c = rw c.in-Commit.is c.release.ensures
 
 returns-3 : tie.Need-returns-in-Abort
-returns-3 c = rw c.s-in-Abort-1.given.1 c.release-in-Abort.ensures
+returns-3 c = rw c.in-Abort.is c.release-in-Abort.ensures
 
 pub change_entry_spec : {M : Type 1} → statement M
 change_entry_spec =

@@ -32,7 +32,7 @@ loop-again c =
     let row = c.entry_at-e.ensures in (
       omega arith,
       one_more _ _ _ _ s.loop-i.invariant.1
-          (subst (FreeOf _ _) row (c.is_free_of.ensures (not-false _ c.if-not-is_free_of.false))),
+          (subst (FreeOf _ _) row (c.is_free_of.ensures (c.if-not-is_free_of.false))),
     )
 
 returns-2 : tie.Need-returns invariant-loop decreases-loop

@@ -34,12 +34,12 @@ returns-3 c =
 first-held-requires : tie.Need-first_held-requires
 first-held-requires c κs =
     let p = c.requires in
-    (subst (λ s. slot_in s ≤ no_slot) c.s-in-Commit-1.given.1 p.0, p.1)
+    (subst (λ s. slot_in s ≤ no_slot) c.in-Commit.is p.0, p.1)
 
 first-held-requires-2 : tie.Need-first_held-requires-in-Abort
 first-held-requires-2 c κs =
     let p = c.requires in
-    (subst (λ s. slot_in s ≤ no_slot) c.s-in-Abort-1.given.1 p.0, p.1)
+    (subst (λ s. slot_in s ≤ no_slot) c.in-Abort.is p.0, p.1)
 
 pub first_touched_spec : {M : Type 1} → statement M
 first_touched_spec =

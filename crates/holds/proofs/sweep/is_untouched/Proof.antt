@@ -8,19 +8,19 @@ use Rattle.holds.proofs.sweep.is_untouched.Statement.{statement}
 use Rattle.holds.proofs.sweep.is_untouched.Tie as tie
 
 is-free-of-requires : tie.Need-is_free_of-requires
-is-free-of-requires c κs = subst (λ s. slot_in s ≤ no_slot) c.s-1.given.1 c.requires
+is-free-of-requires c κs = subst (λ s. slot_in s ≤ no_slot) c.in-Commit.is c.requires
 
 is-free-of-requires-2 : tie.Need-is_free_of-requires-in-Abort
-is-free-of-requires-2 c κs = subst (λ s. slot_in s ≤ no_slot) c.s-in-Abort-1.given.1 c.requires
+is-free-of-requires-2 c κs = subst (λ s. slot_in s ≤ no_slot) c.in-Abort.is c.requires
 
 returns : tie.Need-returns-in-Expire
-returns c = λ q. rw c.enum_told-1.given.1
+returns c = λ q. rw c.in-Expire.is
 
 returns-2 : tie.Need-returns-in-Commit
-returns-2 c = rw c.s-1.given.1 (λ q. (c.is_free_of.ensures q).unheld)
+returns-2 c = rw c.in-Commit.is (λ q. (c.is_free_of.ensures q).unheld)
 
 returns-3 : tie.Need-returns-in-Abort
-returns-3 c = rw c.s-in-Abort-1.given.1 (λ q. (c.is_free_of-in-Abort.ensures q).unheld)
+returns-3 c = rw c.in-Abort.is (λ q. (c.is_free_of-in-Abort.ensures q).unheld)
 
 pub is_untouched_spec : {M : Type 1} → statement M
 is_untouched_spec =

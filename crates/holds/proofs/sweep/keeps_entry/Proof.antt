@@ -4,13 +4,13 @@ use Rattle.holds.proofs.sweep.keeps_entry.Statement.{statement}
 use Rattle.holds.proofs.sweep.keeps_entry.Tie as tie
 
 returns : tie.Need-returns-in-Expire
-returns c = rw (c.reached_at.ensures, c.s-1.given.1)
+returns c = rw (c.reached_at.ensures, c.in-Expire.is)
 
 returns-2 : tie.Need-returns-in-Commit
-returns-2 c = rw c.s-in-Commit-1.given.1
+returns-2 c = rw c.in-Commit.is
 
 returns-3 : tie.Need-returns-in-Abort
-returns-3 c = rw c.s-in-Abort-1.given.1
+returns-3 c = rw c.in-Abort.is
 
 pub keeps_entry_spec : {M : Type 1} → statement M
 keeps_entry_spec =

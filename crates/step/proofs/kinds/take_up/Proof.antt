@@ -5,42 +5,42 @@ use Rattle.step.proofs.kinds.take_up.Statement.{statement}
 
 write-frame-requires : tie.Need-write_frame-requires
 write-frame-requires c κs =
-    let told = c in rw told.q-1.given.1 at
+    let told = c in rw told.in-Write.is at
     told.requires
 
 find-frame-requires : tie.Need-find_frame-requires
 find-frame-requires c κs =
-    let told = c in rw told.q-in-Find-1.given.1 at
+    let told = c in rw told.in-Find.is at
     told.requires
 
 create-frame-requires : tie.Need-create_frame-requires
 create-frame-requires c κs =
-    let told = c in rw told.q-in-Create-1.given.1 at
+    let told = c in rw told.in-Create.is at
     told.requires
 
 commit-frame-requires : tie.Need-commit_frame-requires
 commit-frame-requires c κs =
-    let told = c in rw told.q-in-Commit-1.given.1 at
+    let told = c in rw told.in-Commit.is at
     told.requires
 
 abort-frame-requires : tie.Need-abort_frame-requires
 abort-frame-requires c κs =
-    let told = c in rw told.q-in-Abort-1.given.1 at
+    let told = c in rw told.in-Abort.is at
     told.requires
 
 renew-frame-requires : tie.Need-renew_frame-requires
 renew-frame-requires c κs =
-    let told = c in rw told.q-in-Renew-1.given.1 at
+    let told = c in rw told.in-Renew.is at
     told.requires
 
 notify-frame-requires : tie.Need-notify_frame-requires
 notify-frame-requires c κs =
-    let told = c in rw told.q-in-Notify-1.given.1 at
+    let told = c in rw told.in-Notify.is at
     told.requires
 
 tick-frame-requires : tie.Need-tick_frame-requires
 tick-frame-requires c κs =
-    let told = c in rw told.enum_told-1.given.1 at
+    let told = c in rw told.in-Tick.is at
     told.requires
 
 pub take_up_spec : {M : Type 1} → statement M

@@ -26,7 +26,7 @@ returns c ready =
     let search = c in
     let asked = search in
     let l = asked.args.l in
-    let n = sym search.find_available.ensures.0 ∙ ap match_of c.enum_told-1.given.1 in
+    let n = sym search.find_available.ensures.0 ∙ ap match_of c.in_default.is in
     none_found _ _ (frame_of (Find l)) _ asked.look_up_of-w.ensures.0 n (c.wait_or_nothing.ensures ready.room)
 
 -- the entry that is found stands in its row
@@ -36,7 +36,7 @@ in_row : (c : tie.In-At)
     (g.1.0 < entry_count a.space.now) × (g.0 ≡ entry_row a.space.now g.1.0)
 in_row c =
     let a = c.args in
-    subst (InRow a.space.now) c.e-1.given.1 c.find_available.ensures.1
+    subst (InRow a.space.now) c.in-At.is c.find_available.ensures.1
 
 returns-2 : tie.Need-returns
 unfolding answer_found handed_at
@@ -47,7 +47,7 @@ returns-2 c ready =
     let asked = search in
     let a = asked.args in
     let ws = a.space.now in
-    let n = sym search.find_available.ensures.0 ∙ ap match_of found.e-1.given.1 in
+    let n = sym search.find_available.ensures.0 ∙ ap match_of found.in-At.is in
     let r = in_row told.before.before.before in
     let by = by_row (view ws).txns _ _ (view ws).entries _ (omega (arith, r.0, length-entries ws))
     (entry_in ws _ _ r.0 ∙ sym r.1) ready.numbered in

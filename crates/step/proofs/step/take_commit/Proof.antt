@@ -88,8 +88,8 @@ returns-3 c =
     (omega (
       arith,
       start.requires.1,
-      own.add_record-count.ensures.counts-1,
-      adds-length own.add_record-count.ensures (omega (arith, start.requires.1, own.add_record-count.ensures.counts-1)),
+      own.add_record-count.ensures.counts,
+      adds-length own.add_record-count.ensures (omega (arith, start.requires.1, own.add_record-count.ensures.counts)),
     ))
     closed.serve_and_close-closed.ensures c.put_bells.ensures
 

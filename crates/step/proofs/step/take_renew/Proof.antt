@@ -35,7 +35,7 @@ returns-2 c =
     let search = told in
     let test = search in
     let start = test in
-    let none_there = sym search.find_entry.ensures.0 ∙ ap match_of told.enum_told-1.given.1 in
+    let none_there = sym search.find_entry.ensures.0 ∙ ap match_of told.in_default.is in
     stepped-judged start.requires.1 start.requires.0
     (renew-none _ _ _ _ (sym test.waits_already.ensures ∙ test.if-waits_already.false) none_there) (λ z. omega arith)
     refl
@@ -44,9 +44,9 @@ returns-2 c =
 -- the entry that is found, and its row
 found : (c : tie.In-At)
     → let e = c in let a = e.args in
-    stored_entry a.id.0 (view a.space.now).entries ≡ some e.e-1.given.0.0
+    stored_entry a.id.0 (view a.space.now).entries ≡ some e.in-At.e
 found c =
-    sym c.find_entry.ensures.0 ∙ ap match_of c.e-1.given.1
+    sym c.find_entry.ensures.0 ∙ ap match_of c.in-At.is
 
 in_row : (c : tie.In-At)
     → let e = c in let a = e.args in
@@ -55,7 +55,7 @@ in_row : (c : tie.In-At)
 in_row c =
     let e = c in
     let a = e.args in
-    subst (InRow a.space.now) e.e-1.given.1 e.find_entry.ensures.1
+    subst (InRow a.space.now) e.in-At.is e.find_entry.ensures.1
 
 -- the number of the table is that of the entry
 judged : (c : tie.After-entry_refusal-n)

@@ -6,10 +6,10 @@ use Rattle.trial.proofs.machine.next_of.Statement.{statement}
 use Rattle.trial.proofs.machine.next_of.Tie as tie
 
 takes : tie.Need-returns-in-Takes
-takes c = rw c.stage-1.given.1 c.take_in.ensures
+takes c = rw c.in-Takes.is c.take_in.ensures
 
 writes : tie.Need-returns-then-ticks-eq0
-writes c = rw (c.stage-in-Holds-1.given.1, c.if-ticks-eq0.true) c.write_in.ensures
+writes c = rw (c.in-Holds.is, c.if-ticks-eq0.true) c.write_in.ensures
 
 pub next_of_spec : {M : Type 1} → statement M
 unfolding sends
@@ -17,7 +17,7 @@ next_of_spec =
     tie.close
     (tie.spec
     (λ c. search rules) (λ c. search rules) (λ c κs. search rules) (λ c. search rules) (λ c. search rules)
-    (λ c κs. search rules) (λ c. search rules) (λ c. search rules) (λ c. rw c.enum_told-1.given.1) takes
-    (λ c. rw c.enum_told-in-Waits-1.given.1) writes
-    (λ c. rw (c.stage-in-Holds-1.given.1, ne_eqb _ _ c.if-ticks-eq0.false))
-    (λ c. rw c.stage-in-Commits-1.given.1) (λ c. rw c.stage-in-Aborts-1.given.1))
+    (λ c κs. search rules) (λ c. search rules) (λ c. search rules) (λ c. rw c.in-Creates.is) takes
+    (λ c. rw c.in-Waits.is) writes
+    (λ c. rw (c.in-Holds.is, ne_eqb _ _ c.if-ticks-eq0.false))
+    (λ c. rw c.in-Commits.is) (λ c. rw c.in-Aborts.is))

@@ -10,7 +10,7 @@ ticked_spec =
     tie.close
     (tie.spec
     (λ c. search rules) (λ c. search rules) (λ c. search rules) (λ c. search rules) (λ c. search rules)
-    (λ c. search rules) (λ c. search rules) (λ c. rw c.enum_told-1.given.1)
-    (λ c. rw c.stage-1.given.1) (λ c. rw c.stage-in-Waits-1.given.1)
-    (λ c. rw (c.stage-in-Holds-1.given.1, c.if-ticks-eq0.true)) (λ c. rw c.stage-in-Holds-1.given.1)
-    (λ c. rw c.stage-in-Commits-1.given.1) (λ c. rw c.stage-in-Aborts-1.given.1))
+    (λ c. search rules) (λ c. search rules) (λ c. rw c.in-Creates.is)
+    (λ c. rw c.in-Takes.is) (λ c. rw c.in-Waits.is)
+    (λ c. rw (c.in-Holds.is, c.if-ticks-eq0.true)) (λ c. rw c.in-Holds.is)
+    (λ c. rw c.in-Commits.is) (λ c. rw c.in-Aborts.is))

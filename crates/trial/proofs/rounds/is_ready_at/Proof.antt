@@ -8,11 +8,11 @@ use Rattle.trial.proofs.rounds.is_ready_at.Tie as tie
 
 returns : tie.Need-returns-in-Sends
 returns c =
-    ap (λ n. is_some (asked n)) (sym c.enum_told-1.given.1) ∙ ap is_some c.next_at-next.ensures
+    ap (λ n. is_some (asked n)) (sym c.in-Sends.is) ∙ ap is_some c.next_at-next.ensures
 
 returns-2 : tie.Need-returns-in-Rests
 returns-2 c =
-    ap (λ n. is_some (asked n)) (sym c.enum_told-in-Rests-1.given.1) ∙ ap is_some c.next_at-next.ensures
+    ap (λ n. is_some (asked n)) (sym c.in-Rests.is) ∙ ap is_some c.next_at-next.ensures
 
 pub is_ready_at_spec : {M : Type 1} → statement M
 is_ready_at_spec = tie.close (tie.spec (λ c κs. search rules) (λ c. search rules) (λ c. search rules) returns returns-2)

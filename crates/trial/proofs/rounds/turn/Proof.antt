@@ -17,7 +17,7 @@ returns-2 c = λ k r t.
     let start = next in
     rw (
       not-false start.args.ready next.if-not-ready.false,
-      turn_sends t start.args.i start.requires.1 next.next_at-next.ensures told.next-1.given.1,
+      turn_sends t start.args.i start.requires.1 next.next_at-next.ensures told.in-Sends.is,
     ) (c.send.ensures k r t)
 
 returns-3 : tie.Need-returns-in-Rests
@@ -26,7 +26,7 @@ returns-3 c = λ k r t.
     let start = next in
     rw (
       not-false start.args.ready next.if-not-ready.false,
-      turn_rests t start.args.i start.requires.1 next.next_at-next.ensures c.enum_told-1.given.1,
+      turn_rests t start.args.i start.requires.1 next.next_at-next.ensures c.in-Rests.is,
     ) (trying_more t (omega arith))
 
 pub turn_spec : {M : Type 1} → statement M
