@@ -19,7 +19,7 @@ serve-ended-requires c κs =
       start.requires,
       lapsed.lapse-ended.ensures.adds.counts,
       few-ended start.args.space.now Tick,
-      lapsed.lapse-ended.auto.1.0,
+      lapsed.lapse-ended.auto.answers,
     )
 
 close-waits-requires : tie.Need-close_waits-requires

@@ -19,7 +19,7 @@ loop-holds : tie.Need-loop-i-init invariant-loop decreases-loop
 loop-holds c = let p = c.requires in (omega arith, lining_none _ _ _ p.0 (omega (arith, p.1)))
 
 -- room for a number and what stands behind it
-room : (c : tie.In-loop-i invariant-loop decreases-loop) → c.loop-i.next + 11 ≤ length c.loop-i.out-1
+room : (c : tie.In-loop-i invariant-loop decreases-loop) → c.loop-i.next + 11 ≤ length c.loop-i.out
 room c =
     let s = c in
     lining_room _ _ _ _ _ _ c.loop-i.invariant.1 c.loop-i-test.true s.requires.1
@@ -37,7 +37,7 @@ put-decimal-requires c κs =
 
 -- the digits end within the buffer
 within : (c : tie.After-put_decimal-next invariant-loop decreases-loop)
-    → c.put_decimal-next.result < length c.loop-i.out-1
+    → c.put_decimal-next.result < length c.loop-i.out
 within c =
     let l = c in
     let s = l in
@@ -45,7 +45,7 @@ within c =
     omega (arith, room c.before.before.before, c.put_decimal-next.ensures.end)
 
 slice_write_out : tie.Need-bounds-out-next invariant-loop decreases-loop
-slice_write_out c = let d = c in omega (arith, within d.before.before.before, d.put_decimal-next.auto.0)
+slice_write_out c = let d = c in omega (arith, within d.before.before.before, d.put_decimal-next.auto.out)
 
 add-next : tie.Need-overflow_add-next invariant-loop decreases-loop
 add-next c =

@@ -9,7 +9,7 @@ use Rattle.viewer_lib.proofs.show.Statement.{statement}
 use Rattle.viewer_lib.proofs.show.Tie as tie
 
 within : (c : tie.After-show_tray-end) → c.show_tray-end.result ≤ length c.show_tray-end.new.out
-within c = prints-within _ _ _ _ c.show_tray-end.ensures c.show_tray-end.auto.1.1.0
+within c = prints-within _ _ _ _ c.show_tray-end.ensures c.show_tray-end.auto.out
 
 pub show_spec : {M : Type 1} → statement M
 show_spec =

@@ -27,9 +27,9 @@ put-bells-requires c κs =
       omega (
         arith,
         start.requires,
-        d.adds.counts-1,
+        d.adds.counts,
         few,
-        adds-length d.adds (omega (arith, start.requires, d.adds.counts-1, few)),
+        adds-length d.adds (omega (arith, start.requires, d.adds.counts, few)),
       ),
       counted.count_public.ensures.1,
     )

@@ -43,7 +43,7 @@ outer c = c.before
 -- in the search: the turns so far, that this is one, and that there is room for its record
 turns : (c : tie.At-loop-j invariant-loop decreases-loop invariant-waiting decreases-waiting)
     → let a = c.args in
-    Turns a.from a.space.now c.loop-j.space a.answers.now c.loop-j.answers-1 a.count c.loop-j.done
+    Turns a.from a.space.now c.loop-j.space a.answers.now c.loop-j.answers a.count c.loop-j.done
     c.loop-j.i c.waiting.n
 turns c = turns-still c.loop-j.invariant c.waiting.invariant.1
 
@@ -60,7 +60,7 @@ this_turn : (c : tie.At-loop-j invariant-loop decreases-loop invariant-waiting d
 this_turn c = omega (arith, in_turn c, c.wait_count-waits.ensures.0)
 
 room : (c : tie.At-loop-j invariant-loop decreases-loop invariant-waiting decreases-waiting)
-    → record_size * (c.loop-j.done + 1) ≤ length c.loop-j.answers-1
+    → record_size * (c.loop-j.done + 1) ≤ length c.loop-j.answers
 room c = turn_room (turns c) c.requires.0 (omega (arith, this_turn c))
 
 hand-out-requires : tie.Need-hand_out-requires invariant-loop decreases-loop invariant-waiting decreases-waiting

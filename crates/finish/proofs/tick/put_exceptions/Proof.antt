@@ -22,7 +22,7 @@ ends now t = reached now t.end
 
 abbrev invariant-loop : tie.invariant-loop-i
 invariant-loop space answers₀ count now txns done₀ i₀ answers done i =
-    (i ≤ txns) × Answered (ends now) exception (txn_row space) answers₀ answers count done i × (now ≡ (view space).clock-now)
+    (i ≤ txns) × Answered (ends now) exception (txn_row space) answers₀ answers count done i × (now ≡ (view space).clock)
 
 abbrev decreases-loop : tie.decreases-loop-i
 decreases-loop space answers₀ count now txns done₀ i₀ answers done i = txns - i

@@ -8,8 +8,7 @@ use Rattle.holds.proofs.endings.is_leaving.Tie as tie
 
 returns : tie.Need-returns-in-Inside
 returns c =
-    let inside = c.l-1.given in
-    rw inside.1 (ap (λ (w : LookUp). eqb w.txn.0 inside.0.0.0) c.wait_at-w.ensures)
+    rw c.in-Inside.is (ap (λ (w : LookUp). eqb w.txn.0 c.in-Inside.t.0) c.wait_at-w.ensures)
 
 returns-2 : tie.Need-returns-in-Over
 returns-2 c = rw (c.is_over.ensures, c.in-Over.is)

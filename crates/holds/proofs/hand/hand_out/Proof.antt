@@ -69,7 +69,7 @@ set-entry-requires c κs =
     let a = s.args in (
       s.requires.0,
       rw (c.mark-x.ensures, s.requires.1)
-          (marked-fits a.w.takes a.w.txn-1 _ (row entries_at entry_width a.space.now a.row)),
+          (marked-fits a.w.takes a.w.txn _ (row entries_at entry_width a.space.now a.row)),
     )
 
 pub hand_out_spec : {M : Type 1} → statement M

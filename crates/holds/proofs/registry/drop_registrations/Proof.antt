@@ -18,7 +18,7 @@ lasts clock g = not (reached clock g.end)
 
 abbrev invariant-loop : tie.invariant-loop-i
 invariant-loop space₀ now count i₀ n₀ space i n =
-    (i ≤ count) × Leaving registration_table (lasts (view space₀).clock-now) space₀ space i n
+    (i ≤ count) × Leaving registration_table (lasts (view space₀).clock) space₀ space i n
 
 abbrev decreases-loop : tie.decreases-loop-i
 decreases-loop space₀ now count i₀ n₀ space i n = count - i

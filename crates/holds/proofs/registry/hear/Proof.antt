@@ -16,7 +16,7 @@ use Rattle.holds.proofs.registry.hear.Statement.{statement}
 abbrev invariant-loop : tie.invariant-loop-i
 invariant-loop space₀ counts limit n i₀ space i =
     (i ≤ n)
-    × (view space ≡ with_registrations (heard_by (view space₀).next_entry-limit (take i counts) (view space₀).registrations)
+    × (view space ≡ with_registrations (heard_by (view space₀).next_entry (take i counts) (view space₀).registrations)
     (view space₀))
 
 abbrev decreases-loop : tie.decreases-loop-i
@@ -70,7 +70,7 @@ returns c =
     ) in
     loop.loop-i.invariant.1
     ∙ ap (λ gs. with_registrations gs (view ws))
-    (ap (λ k. heard_by (view ws).next_entry-limit (take k cs) (view ws).registrations) all
+    (ap (λ k. heard_by (view ws).next_entry (take k cs) (view ws).registrations) all
     ∙ heard_all _ cs (view ws).registrations)
 
 pub hear_spec : {M : Type 1} → statement M

@@ -15,7 +15,7 @@ returns : tie.Need-returns
 unfolding notify new_registration
 returns c =
     let b = c in
-    let end = b.end_of_lem.ensures.0 in
+    let end = b.end_of-end.ensures.0 in
     let n = b.next_registration-n.ensures in
     let now = b.clock-now.ensures in
     (rw (c.set_next_registration.ensures, c.add_registration.ensures, end, n, now), n)

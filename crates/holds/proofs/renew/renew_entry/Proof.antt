@@ -21,7 +21,7 @@ end-of-requires c κs = rw c.clock.ensures c.requires.2
 set-entry-requires : tie.Need-set_entry-requires
 set-entry-requires c κs =
     let ended = c in
-    (ended.requires.0, rw c.ending_at-x.ensures ended.end_of_lem.ensures.1)
+    (ended.requires.0, rw c.ending_at-x.ensures ended.end_of.ensures.1)
 
 returns-2 : tie.Need-returns
 unfolding renewed_at
@@ -31,7 +31,7 @@ returns-2 c =
     let start = timed in
     let m = view start.args.space.now in
     let end =
-    ending.end_of_lem.ensures.0 ∙ ap (λ k. until k start.args.lease) timed.clock.ensures in
+    ending.end_of.ensures.0 ∙ ap (λ k. until k start.args.lease) timed.clock.ensures in
     rw (ne_eqb _ _ timed.if-lease-eq0.false)
     (c.set_entry.ensures.0 ∙ ap (λ x. with_entries (set m.entries start.args.row x) m)
     (ending.ending_at-x.ensures ∙ ap (λ u. ending_at u start.args.e) end))

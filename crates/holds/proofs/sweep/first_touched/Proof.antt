@@ -11,25 +11,22 @@ use Rattle.holds.proofs.sweep.first_touched.Statement.{statement}
 returns : tie.Need-returns-in-Expire
 returns c =
     let a = c.args in
-    let s = c.s-1.given in
     let r = c.first_over.result in
-    (c.first_over.ensures.0, subst (λ v. Still v a.space.now r) (sym s.1) c.first_over.ensures.1)
+    (c.first_over.ensures.0, subst (λ v. Still v a.space.now r) (sym c.in-Expire.is) c.first_over.ensures.1)
 
 returns-2 : tie.Need-returns-in-Commit
 returns-2 c =
     let a = c.args in
-    let s = c.s-in-Commit-1.given in
     let r = c.first_held.result in
-    let still = still-commit s.0.0 _ a.space.now r c.first_held.ensures.1 in
-    (c.first_held.ensures.0, subst (λ v. Still v a.space.now r) (sym s.1) still)
+    let still = still-commit c.in-Commit.t _ a.space.now r c.first_held.ensures.1 in
+    (c.first_held.ensures.0, subst (λ v. Still v a.space.now r) (sym c.in-Commit.is) still)
 
 returns-3 : tie.Need-returns-in-Abort
 returns-3 c =
     let a = c.args in
-    let s = c.s-in-Abort-1.given in
     let r = c.first_held-in-Abort.result in
-    let still = still-abort s.0.0 _ a.space.now r c.first_held-in-Abort.ensures.1 in
-    (c.first_held-in-Abort.ensures.0, subst (λ v. Still v a.space.now r) (sym s.1) still)
+    let still = still-abort c.in-Abort.t _ a.space.now r c.first_held-in-Abort.ensures.1 in
+    (c.first_held-in-Abort.ensures.0, subst (λ v. Still v a.space.now r) (sym c.in-Abort.is) still)
 
 first-held-requires : tie.Need-first_held-requires
 first-held-requires c κs =

@@ -18,7 +18,7 @@ returns-2 : tie.Need-returns
 returns-2 c =
     let a = c.args in
     let x = c.change_entry-x.ensures in
-    let fits = subst (λ (y : Entry). y.readers < byte_values) x (omega (arith, c.change_entry-x.type-inv)) in
+    let fits = subst (λ (y : Entry). y.readers < byte_values) x (omega (arith, c.change_entry-x.type_inv)) in
     inr (fits, c.put_entry.ensures ∙ ap (put_entry a.space.now a.n) x)
 
 pub keep_entry_spec : {M : Type 1} → statement M

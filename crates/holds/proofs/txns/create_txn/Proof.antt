@@ -15,7 +15,7 @@ end-of-requires c κs =
 add-txn-requires : tie.Need-add_txn-requires
 add-txn-requires c κs =
     let s = c in
-    (s.requires.room, c.free_slot-slot.ensures.1, c.end_of_lem.ensures.1)
+    (s.requires.room, c.free_slot-slot.ensures.1, c.end_of-end.ensures.1)
 
 add-set-next-txn : tie.Need-overflow_add-n
 add-set-next-txn c =
@@ -27,7 +27,7 @@ unfolding create
 returns c =
     let b = c in
     let slot = b.free_slot-slot.ensures.0 in
-    let end = b.end_of_lem.ensures.0 in
+    let end = b.end_of-end.ensures.0 in
     let n = b.next_txn-n.ensures in
     let now = b.clock-now.ensures in
     (rw (c.set_next_txn.ensures, c.add_txn.ensures, slot, end, n, now), n)

@@ -34,14 +34,14 @@ unfolding free_slot
 returns c =
     let l = c.loop-p in
     let used = c.used_slots-used.ensures in
-    let test = ap not (sym (used _) ∙ sym c.has_bit.ensures) ∙ c.if-not-has_bit.true in
+    let test = ap not (sym (used _) ∙ sym c.has_bit.ensures ∙ c.if-not-has_bit.true) in
     (sym (ap or_zero (search_found slots l.invariant.1 (omega arith) refl test)), omega arith)
 
 loop-again : tie.Need-loop-p-preserved invariant-loop decreases-loop
 loop-again c =
     let l = c.loop-p in
     let used = c.used_slots-used.ensures in
-    let test = ap not (sym (used _) ∙ sym c.has_bit.ensures) ∙ c.if-not-has_bit.false in
+    let test = ap not (sym (used _) ∙ sym c.has_bit.ensures ∙ c.if-not-has_bit.false) in
     (omega arith, search_more l.invariant.1 refl test)
 
 returns-2 : tie.Need-returns invariant-loop decreases-loop

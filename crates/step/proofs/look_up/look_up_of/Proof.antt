@@ -14,7 +14,7 @@ returns c =
     let ended = c in
     let l = ended.args.l in
     let k = kind_back l.takes l.if_exists in
-    (rw (k.0, k.1, ended.end_of_lem.ensures.0, ended.clock.ensures), ended.end_of_lem.ensures.1)
+    (rw (k.0, k.1, ended.end_of-deadline.ensures.0, ended.clock.ensures), ended.end_of-deadline.ensures.1)
 
 pub look_up_of_spec : {M : Type 1} → statement M
 look_up_of_spec = tie.close (tie.spec (λ c κs. search rules) end-of-requires returns)

@@ -32,7 +32,7 @@ close-in-vain-requires c κs =
       start.requires.1,
       own.add_record-count.ensures.counts,
       (view-bounded carried.find-answer.new.space).waits-fit,
-      own.add_record-count.auto.0,
+      own.add_record-count.auto.answers,
     )
 
 returns-2 : tie.Need-returns-then-l

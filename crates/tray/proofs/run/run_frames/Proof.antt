@@ -79,8 +79,8 @@ loop-again c =
     let at = record_size * l.records in
     let more =
     running_more l.invariant.0 (omega arith) (omega arith) (part_is_frame a.tray.now pair.pair_at-pair.ensures)
-    (part_from l.answers-1 at) step.ensures.0 step.ensures.1
-    (part_put l.answers-1 step.new.1.1.1.0 at) in
+    (part_from l.answers at) step.ensures.0 step.ensures.1
+    (part_put l.answers step.new.1.1.1.0 at) in
     (more, l.invariant.1, l.invariant.2, omega arith, running_length more)
 
 packed-requires-2 : tie.Need-packed-requires-2 invariant-loop decreases-loop

@@ -59,7 +59,7 @@ pane-count-requires c κs = (fine c.before.before.before.before).0.long
 put-counts-requires : tie.Need-put_counts-requires
 put-counts-requires c κs =
     let f = (fine c.before.before.before.before.before.before).0 in
-    let p = c.pane_count.ensures.0 in (omega (arith, p, f.formed.few), omega (arith, p, f.counts-1))
+    let p = c.pane_count.ensures.0 in (omega (arith, p, f.formed.few), omega (arith, p, f.counts))
 
 returns : tie.Need-returns
 unfolding trial

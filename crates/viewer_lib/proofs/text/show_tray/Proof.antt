@@ -21,7 +21,7 @@ fit c = records-fit _ _ _ _ c.run_tray-told.ensures (bytes c)
 put-records-requires : tie.Need-put_records-at-requires
 put-records-requires c κs =
     let t = c in
-    (omega (arith, fit t.before.before.before, t.run_tray-told.auto.1.0), omega (arith, fit t.before.before.before))
+    (omega (arith, fit t.before.before.before, t.run_tray-told.auto.answers), omega (arith, fit t.before.before.before))
 
 -- there is room for the last line behind the records' lines
 room : (c : tie.After-put_records-at) → c.put_records-at.result + line_size ≤ length c.put_records-at.new.out
