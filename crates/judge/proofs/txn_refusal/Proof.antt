@@ -15,13 +15,13 @@ use Rattle.judge.proofs.txn_refusal.Tie as tie
 
 returns : tie.Need-returns-then-not-inside
 unfolding txn_refusal
-returns c = rw (not-true c.args.inside c.if-not-inside.true)
+returns c = rw c.if-not-inside.true
 
 returns-2 : tie.Need-returns-then-id-eq0
 unfolding txn_refusal
 returns-2 c =
     let test = c in
-    rw (not-false test.args.inside test.if-not-inside.false, eq-eqb _ _ c.if-id-eq0.true)
+    rw (test.if-not-inside.false, eq-eqb _ _ c.if-id-eq0.true)
 
 -- what is found decides, where the frame is in a transaction that it names
 found : (c : tie.After-find_txn) {n : ℕ}
@@ -30,27 +30,27 @@ found : (c : tie.After-find_txn) {n : ℕ}
     → n ≡ txn_refusal a.inside a.party a.id.0 (view a.space.now).txns
 found c e =
     let test = c in
-    rw (not-false test.args.inside test.if-not-inside.false) (e (ne_eqb _ _ c.if-id-eq0.false))
+    rw test.if-not-inside.false (e (ne_eqb _ _ c.if-id-eq0.false))
 
 returns-3 : tie.Need-returns-in_default
 returns-3 c =
     let find = c in
-    found find.before.before (λ z. live-none _ _ _ z (sym find.find_txn.ensures.live ∙ ap live_of c.in_default.is))
+    found find.before (λ z. live-none _ _ _ z (sym find.find_txn.ensures.live ∙ ap live_of c.in_default.is))
 
 -- 8, by the live transaction's party
-owned : (c : tie.In-At-2)
+owned : (c : tie.In-At)
     → let a = c.args in
     cond (not (eqb c.in-At.t.party a.party)) not_own_refused 0
     ≡ txn_refusal a.inside a.party a.id.0 (view a.space.now).txns
 owned c =
     let find = c in
-    found find.before.before (λ z. live_some _ _ _ z _ (sym find.find_txn.ensures.live ∙ ap live_of c.in-At.is))
+    found find.before (λ z. live_some _ _ _ z _ (sym find.find_txn.ensures.live ∙ ap live_of c.in-At.is))
 
 returns-4 : tie.Need-returns-then-t-party
-returns-4 c = rw (eq-eqb _ _ c.if-t-party.true) at (owned c.before.before.before)
+returns-4 c = rw (eq-eqb _ _ c.if-t-party.true) at (owned c.before.before)
 
 returns-5 : tie.Need-returns-else-t-party
-returns-5 c = rw (ne_eqb _ _ c.if-t-party.false) at (owned c.before.before.before)
+returns-5 c = rw (ne_eqb _ _ c.if-t-party.false) at (owned c.before.before)
 
 pub txn_refusal_spec : {M : Type 1} → statement M
 txn_refusal_spec =

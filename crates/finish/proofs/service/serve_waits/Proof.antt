@@ -38,7 +38,7 @@ loop-holds c =
 
 -- the outer loop around the search for an entry
 abbrev outer : tie.At-loop-j invariant-loop decreases-loop invariant-waiting decreases-waiting → tie.At-waiting invariant-loop decreases-loop invariant-waiting decreases-waiting
-outer c = c.before
+outer c = c.before.before.before.before.before
 
 -- in the search: the turns so far, that this is one, and that there is room for its record
 turns : (c : tie.At-loop-j invariant-loop decreases-loop invariant-waiting decreases-waiting)
@@ -115,7 +115,7 @@ returns c = turns-done c.waiting.invariant.1 (omega arith) c.set_wait_count.ensu
 abbrev search : tie.After-slice_known-then-is_available-1 invariant-loop decreases-loop invariant-waiting decreases-waiting
     → tie.At-loop-j invariant-loop decreases-loop invariant-waiting decreases-waiting
 search c =
-    c.before
+    c.before.before.before.before.before.before.before.before.before.before.before.before
 
 add_i : tie.Need-overflow_add-i invariant-loop decreases-loop invariant-waiting decreases-waiting
 add_i c = omega (arith, this_turn c.before.before.before.before.before.before.before.before.before.before.before.before)

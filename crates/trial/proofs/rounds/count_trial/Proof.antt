@@ -19,7 +19,7 @@ use Rattle.trial.proofs.rounds.count_trial.Tie as tie
 
 -- the setup, which is not refused
 abbrev start_of : tie.After-hints-2-1 → tie.Start
-start_of c = c.before
+start_of c = c.before.before.before.before.before.before.before.before.before
 
 abbrev words_of : tie.After-hints-2-1 → List ℕ
 words_of c = c.args.setup.now
