@@ -32,8 +32,7 @@ returns c ready =
 -- the entry that is found stands in its row
 in_row : (c : tie.In-At)
     → let a = c.args in
-    let g = c.e-1.given.0 in
-    (g.1.0 < entry_count a.space.now) × (g.0 ≡ entry_row a.space.now g.1.0)
+    (c.in-At.row < entry_count a.space.now) × (c.in-At.e ≡ entry_row a.space.now c.in-At.row)
 in_row c =
     let a = c.args in
     subst (InRow a.space.now) c.in-At.is c.find_available.ensures.1

@@ -12,7 +12,7 @@ returns c =
     let made = c in
     let area = made.args.answers.now in (
       refl,
-      subst (λ r. Adds (r ∷ []) area added.new.0 0 1) made.refused_record-r.ensures
+      subst (λ r. Adds (r ∷ []) area added.new.answers 0 1) made.refused_record-r.ensures
           (record { counts = refl; bytes = added.ensures.bytes }),
     )
 

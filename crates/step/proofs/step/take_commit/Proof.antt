@@ -36,7 +36,7 @@ serve-and-close-requires c κs =
     let own = c in
     let start = own in
     let a = own.add_record-count.ensures in
-    omega (arith, start.pre.1, a.counts, adds-length a (omega (arith, start.pre.1, a.counts)))
+    omega (arith, start.requires.1, a.counts, adds-length a (omega (arith, start.requires.1, a.counts)))
 
 put-bells-requires : tie.Need-put_bells-requires
 put-bells-requires c κs =
@@ -49,10 +49,10 @@ put-bells-requires c κs =
     let a = own.add_record-count.ensures in
     let few = both-few heard.commit-own.result.from (view ws) in
     let d = closed.serve_and_close-closed.ensures in
-    let long = adds-length a (omega (arith, start.pre.1, a.counts)) in (
+    let long = adds-length a (omega (arith, start.requires.1, a.counts)) in (
       omega (
         arith,
-        start.pre.1,
+        start.requires.1,
         a.counts,
         long,
         d.adds.counts,
@@ -60,7 +60,7 @@ put-bells-requires c κs =
         (view-bounded ws).waits-fit,
         adds-length d.adds (omega (
           arith,
-          start.pre.1,
+          start.requires.1,
           a.counts,
           long,
           d.adds.counts,

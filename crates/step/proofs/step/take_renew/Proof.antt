@@ -50,8 +50,7 @@ found c =
 
 in_row : (c : tie.In-At)
     → let e = c in let a = e.args in
-    let g = e.e-1.given.0 in
-    (g.1.0 < entry_count a.space.now) × (g.0 ≡ entry_row a.space.now g.1.0)
+    (e.in-At.row < entry_count a.space.now) × (e.in-At.e ≡ entry_row a.space.now e.in-At.row)
 in_row c =
     let e = c in
     let a = e.args in
@@ -71,7 +70,7 @@ returns-3 : tie.Need-returns-then-n-ne0
 returns-3 c =
     let test = c in
     let start = test in
-    stepped-judged start.pre.1 start.pre.0 (judged test.before.before.before.before.before) test.if-n-ne0.true refl
+    stepped-judged start.requires.1 start.requires.0 (judged test.before.before.before.before.before) test.if-n-ne0.true refl
     c.refuse-then-n-ne0.ensures
 
 renew-entry-requires : tie.Need-renew_entry-requires
