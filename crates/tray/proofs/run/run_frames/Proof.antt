@@ -54,11 +54,11 @@ pair-at-requires c κs =
     let start = loop in
     pair_there _ _ (passes start.args.tray.now start.requires).0 (omega (arith, loop.loop-frames.invariant.1))
 
-part_step_hinted_end : tie.Need-slice-bounds-step-hinted-end invariant-loop decreases-loop
+part_step_hinted_end : tie.Need-slice_bounds-step_hinted-end invariant-loop decreases-loop
 part_step_hinted_end c =
-    let pair = c.before.before.pair_at-pair.ensures in
-    let loop = c.before.before.before.before.before in
-    let start = loop.before.before.before.before.before.before.before.before in
+    let pair = c.pair_at-pair.ensures in
+    let loop = c in
+    let start = c in
     omega (
       arith,
       frame_in start.args.tray.now start.requires loop.loop-frames.frames (omega arith),
@@ -80,7 +80,7 @@ loop-again c =
     let more =
     running_more l.invariant.0 (omega arith) (omega arith) (part_is_frame a.tray.now pair.pair_at-pair.ensures)
     (part_from l.answers at) step.ensures.0 step.ensures.1
-    (part_put l.answers step.new.1.1.1.0 at) in
+    (part_put l.answers step.new.answers at) in
     (more, l.invariant.1, l.invariant.2, omega arith, running_length more)
 
 packed-requires-2 : tie.Need-packed-requires-2 invariant-loop decreases-loop

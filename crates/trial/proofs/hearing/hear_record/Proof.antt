@@ -33,7 +33,7 @@ returns-3 c =
     each_set _ (a.a.party - 1)
     (omega (arith, four, c.if-pane_count-party.false, panes.pane_count.ensures.0, start.requires.0.few))
     (omega (arith, panes.if-party-eq0.false))
-    (c.hear.ensures ∙ ap (λ p. heard_by p a.a (at a.t2 (a.a.party - 1))) c.pane_at.ensures)
+    (c.hear.ensures ∙ ap (λ p. heard_by p a.a (at a.panes (a.a.party - 1))) c.pane_at.ensures)
 
 pub hear_record_spec : {M : Type 1} → statement M
 hear_record_spec =

@@ -11,7 +11,7 @@ returns : tie.Need-returns
 returns c =
     let a = c.args in
     c.next_of.ensures
-    ∙ ap₂ (λ p k. sends p k (at a.t2 a.i).stage) c.pane_at.ensures (add-one a.i)
+    ∙ ap₂ (λ p k. sends p k (at a.panes a.i).stage) c.pane_at.ensures (add-one a.i)
 
 pub next_at_spec : {M : Type 1} → statement M
 next_at_spec =

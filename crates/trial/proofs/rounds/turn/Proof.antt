@@ -8,7 +8,7 @@ use Rattle.trial.proofs.rounds.turn.Statement.{statement}
 use Rattle.trial.proofs.rounds.turn.Tie as tie
 
 returns : tie.Need-returns-then-not-ready
-returns c = λ k r t. rw (not-true c.args.ready c.if-not-ready.true) (trying_more t (omega arith))
+returns c = λ k r t. rw c.if-not-ready.true (trying_more t (omega arith))
 
 returns-2 : tie.Need-returns-in-Sends
 returns-2 c = λ k r t.
@@ -16,7 +16,7 @@ returns-2 c = λ k r t.
     let next = told in
     let start = next in
     rw (
-      not-false start.args.ready next.if-not-ready.false,
+      next.if-not-ready.false,
       turn_sends t start.args.i start.requires.1 next.next_at-next.ensures told.in-Sends.is,
     ) (c.send.ensures k r t)
 
@@ -25,7 +25,7 @@ returns-3 c = λ k r t.
     let next = c in
     let start = next in
     rw (
-      not-false start.args.ready next.if-not-ready.false,
+      next.if-not-ready.false,
       turn_rests t start.args.i start.requires.1 next.next_at-next.ensures c.in-Rests.is,
     ) (trying_more t (omega arith))
 
