@@ -52,6 +52,7 @@ log_is m (f ∷ fs) =
     let o = step m f step_area in ap (λ ls. logged f o.records ∷ ls) (log_is o.model fs)
 
 are_bytes : (l : List ℕ) → ((i : ℕ) → get_or l i 0 < 256) → AreBytes l
+are_bytes [] h b i = elim i [ ]
 are_bytes (x ∷ l) h b (Memᴰ.head e) = subst⁻¹ (λ n. n < 256) e (h 0)
 are_bytes (x ∷ l) h b (Memᴰ.tail j) = are_bytes l (λ i. h (suc i)) b j
 

@@ -39,11 +39,9 @@ pair-at-requires c κs =
     let start = loop in
     pair_there _ _ (passes start.args.tray.now start.requires).0 (omega (arith, loop.loop-i.invariant.1))
 
-part_step_hinted_end : tie.Need-slice-bounds-step-hinted-end invariant-loop decreases-loop
+part_step_hinted_end : tie.Need-slice_bounds-step_hinted-end invariant-loop decreases-loop
 part_step_hinted_end c =
-    let pair = c.before.before in
-    let start = pair.before.before.before.before.before.before.before.before.before in
-    ends_in start.args.tray.now start.requires pair.pair_at-pair.ensures (omega arith)
+    ends_in c.args.tray.now c.requires c.pair_at-pair.ensures (omega arith)
 
 slice_aggregate_step_hinted : tie.Need-slice_bounds-step_hinted-end-in-loop-i invariant-loop decreases-loop
 slice_aggregate_step_hinted c = sym c.loop-i.invariant.4
@@ -51,11 +49,9 @@ slice_aggregate_step_hinted c = sym c.loop-i.invariant.4
 step-hinted-requires : tie.Need-step_hinted-answer-requires invariant-loop decreases-loop
 step-hinted-requires c κs = c.loop-i.invariant.0.reliable
 
-part_note_frame-end : tie.Need-slice-bounds-note-frame-end invariant-loop decreases-loop
+part_note_frame-end : tie.Need-slice_bounds-note_frame-end invariant-loop decreases-loop
 part_note_frame-end c =
-    let pair = c.before.before.before.before.before.before.before.before in
-    let start = pair.before.before.before.before.before.before.before.before.before in
-    ends_in start.args.tray.now start.requires pair.pair_at-pair.ensures (omega arith)
+    ends_in c.args.tray.now c.requires c.pair_at-pair.ensures (omega arith)
 
 slice_aggregate_note_frame : tie.Need-slice_bounds-note_frame-end-in-loop-i invariant-loop decreases-loop
 slice_aggregate_note_frame c =
