@@ -1,28 +1,27 @@
-// Standard input, read whole.
-ghost use Rattle.io.specs.Counts.{IsPrefixLen};
+// A reader's bytes, read whole.
+#![tactic(auto)]
+ghost use Rattle.input.specs.Counts.{IsPrefixLen};
 
-// Whether it could be read to its end, or to the buffer's, and how many bytes stand at the buffer's start.
+use std::io::Read;
+
+// Whether they could be read to their end, or to the buffer's, and how many bytes stand at the buffer's start.
 #[derive(Clone, Copy)]
 pub struct Input {
     pub ok: bool,
     pub len: usize,
 }
 
-// Unlike `io::read_full`, which takes a read that fails for the end.
-pub fn read_input(buf: &mut [u8]) -> Input
+// Unlike `read_to_end`, it needs no memory, and a read that a signal interrupts fails too.
+pub fn read_input<R: Read>(reader: &mut R, buf: &mut [u8]) -> Input
     ensures { IsPrefixLen result.len buf.new }
 {
     let mut len: usize = 0;
     while len < buf.len() {
-        let got = libc::read(libc::STDIN_FILENO, &mut buf[len..]);
-        if got < 0 {
-            return Input { ok: false, len: 0 };
+        match reader.read(&mut buf[len..]) {
+            Ok(0) => return Input { ok: true, len },
+            Ok(more) => len += more,
+            Err(_) => return Input { ok: false, len: 0 },
         }
-        let more = io::count(got, &buf[len..]);
-        if more == 0 {
-            return Input { ok: true, len };
-        }
-        len += more;
     }
     Input { ok: true, len }
 }

@@ -1,4 +1,6 @@
 // An order of transactions that accounts for what they did (document 02, T-12).
+#![tactic(auto)]
+
 ghost use Rattle.order.specs.Found.{OrderFound};
 
 mod plan;
@@ -6,7 +8,6 @@ mod read;
 mod run;
 mod search;
 
-use bytes::copy;
 use plan::plan_of;
 use read::{MAX_TXNS, SLOTS};
 use rules::numbers::ORDER_REFUSED;
@@ -33,6 +34,6 @@ pub fn find_order(actions: &[u32], order: &mut [u8]) -> u64
         return 0;
     }
     let positions = found.order;
-    copy(&positions[..n], order);
+    order[..n].copy_from_slice(&positions[..n]);
     1
 }

@@ -4,7 +4,6 @@ ghost use Rattle.codec.specs.Area.{InFront};
 ghost use Rattle.order_lib.specs.Shows.{line_of, Shows};
 
 use crate::words::read_words;
-use bytes::copy;
 use order::find_order;
 
 const MAX_TXNS: usize = 6;
@@ -54,22 +53,32 @@ fn put_line(positions: &[u8], n: usize, out: &mut [u8]) -> usize
     end
 }
 
+// A text, in front. Returns its length.
+fn put_text(text: &[u8], out: &mut [u8]) -> usize
+    requires { length text.now ≤ length out.old }
+    ensures { InFront true text.now out.old out.new result }
+{
+    let end = text.len();
+    out[..end].copy_from_slice(text);
+    end
+}
+
 // Finds the order of an export, and prints it in front of `out`. Returns the length of the text.
 pub(crate) fn show_order(bytes: &[u8], words: &mut [u32], out: &mut [u8]) -> usize
     requires { (length bytes.now ≤ 4 * length words.old) × (12 ≤ length out.old) }
     ensures { Shows bytes.now out.old out.new result }
 {
     if bytes.len() % 4 != 0 {
-        return copy(b"refused 22\n", out);
+        return put_text(b"refused 22\n", out);
     }
     let count = read_words(bytes, words);
     let mut order = [0u8; MAX_TXNS];
     let told = find_order(&words[..count], &mut order);
     if told == 0 {
-        return copy(b"none\n", out);
+        return put_text(b"none\n", out);
     }
     if told != 1 {
-        return copy(b"refused 22\n", out);
+        return put_text(b"refused 22\n", out);
     }
     put_line(&order, size(words[0]), out)
 }

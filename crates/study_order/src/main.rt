@@ -1,5 +1,7 @@
 // Reads a study export from standard input, and prints an order that accounts for it. `stdin` has five transactions:
 // take 7 and write 9; read 9; write 7; read 7; write 11.
-fn main() {
-    order_lib::show();
+#![tactic(auto)]
+
+fn main(rt: HostRuntime) {
+    order_lib::show(&rt);
 }

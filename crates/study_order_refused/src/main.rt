@@ -1,4 +1,6 @@
 // The program, run on an export of two transactions that write one number: 22.
-fn main() {
-    order_lib::show();
+#![tactic(auto)]
+
+fn main(rt: HostRuntime) {
+    order_lib::show(&rt);
 }
