@@ -22,9 +22,8 @@ extern "C" {
  * 8: a registration tells its party of new entries: operation 10, kinds 10 and 11, refusal 17, more words.
  * 9: a template may ask for an arc of the clock face, and three functions convert and mirror its places: mask bit 4,
  * refusal 21. 10: a function tells how big an area a tray wants. 11: a function finds an order that accounts for
- * transactions: refusal 22. 12: a function tries leases with trial panes: refusals 23 and 24. 13: two functions report
- * waiting times over many trays: refusal 25. */
-#define SPACE_VERSION 13
+ * transactions: refusal 22. 12: a function tries leases with trial panes: refusals 23 and 24. */
+#define SPACE_VERSION 12
 
 #define SPACE_MAX_ENTRIES 64         /* entries stored at most */
 #define SPACE_MAX_TRANSACTIONS 8     /* transactions live at most */

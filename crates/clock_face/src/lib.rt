@@ -1,5 +1,7 @@
 // Positions on the clock face: a place as hour and minute, and back, and its mirror. What is out of range gives 65,536
 // times the refusal's number.
+#![tactic(auto)]
+
 ghost use Rattle.std.specs.Prelude.{◌≡◌};
 ghost use Rattle.rules.specs.Places.{is_time, place_of_time, time_of_place, mirrored_place};
 

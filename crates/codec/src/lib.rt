@@ -1,4 +1,6 @@
 // Frames and answer records, read from bytes and written as bytes.
+#![tactic(auto)]
+
 mod bytes;
 mod encode;
 mod frames;

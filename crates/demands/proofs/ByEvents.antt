@@ -1,6 +1,5 @@
 -- What each event keeps, of a consistent space and of what a reader of frames and records makes of them, holds of every
 -- space that frames make of the empty one; and each such space is sound.
-use Prim.Native.Nat.{◌+◌}
 use mathlib.Core.Bool.{Bool, true, false, cond, not, ◌&&◌}
 use mathlib.Core.Path.{◌≡◌, refl, sym, ap, ◌∙◌, subst⁻¹}
 use mathlib.Core.List.{List, [], ◌∷◌, ◌++◌, map}

@@ -5,7 +5,6 @@ use mathlib.Core.List.{List, ◌∷◌, map}
 use lib.ListN.{length}
 use Rattle.rules.specs.declared.Record.{Record}
 use Rattle.rules.specs.State.{Model, empty}
-use Rattle.rules.specs.Words.{view}
 use Rattle.rules.specs.Records.{area_after}
 use Rattle.rules.specs.Step.{step}
 use Rattle.rules.specs.Sound.{Sound}

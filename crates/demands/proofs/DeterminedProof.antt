@@ -19,7 +19,7 @@ use Rattle.rules.specs.State.{Model, empty}
 use Rattle.rules.specs.Holds.{live_txn}
 use Rattle.rules.specs.Numbers.{max_txns}
 use Rattle.rules.specs.Frame.{entry_named, decode, is_create}
-use Rattle.rules.specs.Records.{waiting, refused, answer_bytes, area_after}
+use Rattle.rules.specs.Records.{refused, answer_bytes, area_after}
 use Rattle.rules.specs.Transactions.{is_private_to}
 use Rattle.rules.specs.Renew.{has_number, stored_entry}
 use Rattle.rules.specs.Refusals.{is_missing, no_entry, is_by, not_writer, is_free, not_free, party_waits, not_live, is_of}

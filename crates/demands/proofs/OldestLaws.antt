@@ -14,7 +14,6 @@ use Rattle.rules.specs.State.{Model}
 use Rattle.rules.specs.Holds.{available, oldest}
 use Rattle.rules.specs.Frame.{Frame, decode, is_look_up}
 use Rattle.rules.specs.Done.{Carried}
-use Rattle.rules.specs.Write.{stored}
 use Rattle.rules.specs.LookUp.{look_up_of, gives_nothing, answer_found, answer_nothing, answer_waiting, answer, look_up}
 use Rattle.rules.specs.Closing.{is_over, close_waits}
 use Rattle.rules.specs.Refusals.{refusal}

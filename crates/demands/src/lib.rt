@@ -1,1 +1,3 @@
+#![tactic(auto)]
+
 // The demands have statements (specs/) and theorems (proofs/), and no code.

@@ -1,4 +1,6 @@
 // What the program prints, written as text into a lent buffer.
+#![tactic(auto)]
+
 ghost use Rattle.std.specs.Prelude.{◌≡◌, cond, ◌&&◌, [], ◌∷◌, ◌+◌, ◌*◌, ◌≤◌, ◌<◌, ltb, length};
 ghost use Rattle.rules.specs.Print.{decimal, line, done_line};
 ghost use Rattle.codec.specs.Area.{over};

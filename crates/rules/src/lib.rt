@@ -1,4 +1,6 @@
 // The types that the space's code and rules share, and the numbers of document 01.
+#![tactic(auto)]
+
 pub mod numbers;
 
 // The number of an entry. Counted from 1.

@@ -1,1 +1,3 @@
+#![tactic(auto)]
+
 // That every space is sound which frames make has proofs, and no code.

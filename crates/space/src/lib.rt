@@ -20,7 +20,7 @@ use tray::run_tray;
 use words::rows::{Words, set_empty};
 
 // SPACE_VERSION of host/space.h. It goes up by one with each change that a host can see.
-pub const VERSION: u32 = 13;
+pub const VERSION: u32 = 12;
 
 #[unsafe(no_mangle)]
 pub extern "C" fn space_version() -> u32

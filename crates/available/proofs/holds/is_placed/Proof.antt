@@ -1,6 +1,5 @@
 -- `available::holds::is_placed` meets its contract. Assumes nothing.
 use borrow.Author.Rules.{rules}
-use borrow.Author.Tests.{not-true, not-false}
 use mathlib.Core.Path.{sym, ◌∙◌}
 use Rattle.available.proofs.holds.is_placed.Statement.{statement}
 use Rattle.available.proofs.holds.is_placed.Tie as tie
