@@ -1,4 +1,6 @@
 // What a frame ends with: service, the look-ups that get nothing, and in a tick what ends now.
+#![tactic(auto)]
+
 pub mod answers;
 pub mod bells;
 pub mod closing;

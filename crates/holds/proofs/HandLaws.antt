@@ -1,5 +1,5 @@
 -- What the code does by the slot of a live transaction is what the rules do by its number.
-use Prim.Native.Nat.{ℕ, zero, suc, ◌-◌, ◌<◌}
+use Prim.Native.Nat.{ℕ, zero, suc, ◌<◌}
 use mathlib.Core.Bool.{Bool, true, false, cond, not}
 use mathlib.Core.Path.{◌≡◌, refl, sym, ap, ap₂, ◌∙◌, subst}
 use mathlib.Core.List.Memᴰ
@@ -19,7 +19,7 @@ use Rattle.rules.specs.LookUp.{hand_out, removes, held_by, with_hold, marked, is
 use Rattle.rules.specs.Transactions.{released_by, released, commit, abort, without_txn, is_taken_by, is_private_to}
 use Rattle.rules.specs.Tick.{drop_ended}
 use Rattle.rules.specs.Sound.{Ascending}
-use Rattle.rules.specs.Words.{entry_of, txns, view}
+use Rattle.rules.specs.Words.{entry_of, view}
 use Rattle.rules.proofs.ListLaws.{filter_pass, map_same}
 use Rattle.rules.proofs.BoolLaws.{cond_cases}
 use Rattle.words.specs.Rows.{without, FitsWord}

@@ -1,5 +1,7 @@
 // Why a request is refused: the refusals 6 to 13, of a renewal 18 to 20 and of a notify 17, in the order in which they
 // are judged.
+#![tactic(auto)]
+
 ghost use Rattle.std.specs.Prelude.{◌≡◌};
 ghost use Rattle.rules.specs.declared.Request.TheVariants.{Write, Find, Create, Commit, Abort, Notify, Tick};
 ghost use Rattle.rules.specs.Requests.{frame_of, space_refusal};

@@ -1,4 +1,6 @@
 // Frames in, records out: what each frame does to one lent array of words.
+#![tactic(auto)]
+
 mod kinds;
 mod look_up;
 mod own;

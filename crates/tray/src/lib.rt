@@ -1,4 +1,6 @@
 // The tray runner, and the pairs of a tray.
+#![tactic(auto)]
+
 pub mod pairs;
 mod run;
 

@@ -3,7 +3,6 @@
 use Prim.Native.Nat.{◌≤◌, ◌-◌}
 use mathlib.Core.Path.{sym, ◌∙◌}
 use native.Mathlib.Omega.{arith}
-use borrow.Author.Tests.{not-true}
 use Rattle.words.specs.Rows.{wait_row}
 use Rattle.words.proofs.SearchLaws.{Searching, search_start, search_more, search_any, search_no}
 use Rattle.words.proofs.Tables.{waits-read}

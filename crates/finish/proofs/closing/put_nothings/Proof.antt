@@ -3,7 +3,6 @@
 use Prim.Native.Nat.{◌≤◌, ◌-◌}
 use mathlib.Core.Path.{refl, sym, ap, ◌∙◌}
 use native.Mathlib.Omega.{arith}
-use borrow.Author.Tests.{not-true, not-false}
 use Rattle.rules.specs.Closing.{is_over, close_waits}
 use Rattle.rules.specs.Records.{nothing}
 use Rattle.rules.specs.Words.{view}

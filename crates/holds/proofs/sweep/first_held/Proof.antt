@@ -6,7 +6,6 @@ use mathlib.Core.List.{List}
 use native.Mathlib.Omega.{arith}
 use native.Mathlib.Decide.{dec_lt}
 use borrow.Author.Rules.{rules}
-use borrow.Author.Tests.{not-false}
 use Rattle.words.specs.Rows.{entry_row}
 use Rattle.holds.specs.Sweep.{FreeOf, FreeBefore}
 use Rattle.holds.proofs.sweep.first_held.Statement.{statement}

@@ -23,10 +23,10 @@ loop-i-preserved c =
     let k = c.keeps_entry.ensures in (
       omega arith,
       elim c.if-keeps_entry.branch [
-        then-keeps_entry w ↦
+        | then-keeps_entry w ↦
             subst₂ (λ x m. Sweeping a.s a.space.now x (l.i + 1) m) (sym w.space-is) (sym w.n-is)
             (sweep_kept a.s l.invariant.1 long (omega arith) r (sym k ∙ w.if-keeps_entry.true) w.keep_entry.ensures)
-      | else-keeps_entry w ↦
+        | else-keeps_entry w ↦
             subst₂ (λ x m. Sweeping a.s a.space.now x (l.i + 1) m) (sym w.space-is) (sym w.n-is)
             (compact_passed l.invariant.1 r (sym k ∙ w.if-keeps_entry.false))
       ],
