@@ -1,4 +1,6 @@
 // How big an area a tray wants: two bounds, from the tray alone, in one pass over its pairs.
+#![tactic(auto)]
+
 ghost use Rattle.std.specs.Prelude.{false, cond, ◌≡◌, ◌+◌, ◌≤◌, ◌*◌, length};
 ghost use Rattle.rules.specs.Numbers.{max_entries, max_registrations};
 ghost use Rattle.rules.specs.Tray.{bad_tray};

@@ -1,5 +1,6 @@
 // A reader's bytes, read whole.
 #![tactic(auto)]
+
 ghost use Rattle.input.specs.Counts.{IsPrefixLen};
 
 use std::io::Read;

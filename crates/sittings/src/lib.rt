@@ -1,4 +1,6 @@
 // Waiting times over many sittings.
+#![tactic(auto)]
+
 mod figures;
 mod records;
 mod sitting;

@@ -1,4 +1,6 @@
 // Every function that a host may call: `rt staticlib space` gives libspace.a, and host/space.h declares them.
+#![tactic(auto)]
+
 ghost use Rattle.std.specs.Prelude.{[], ◌≡◌};
 ghost use Rattle.order.specs.Found.{OrderFound};
 ghost use Rattle.rules.specs.Allowed.{Stepped, TrayRan};

@@ -1,4 +1,6 @@
 // Trial panes: what designers try leases with.
+#![tactic(auto)]
+
 mod hearing;
 mod machine;
 mod rounds;

@@ -1,5 +1,4 @@
 -- Each kind by its number; any other kind is none of them.
-use Rattle.std.proofs.Common.{refl}
 use borrow.Author.Tests.{ne_eqb}
 use Rattle.trial.specs.Panes.{hears}
 use Rattle.trial.proofs.machine.hears.Goals as goal

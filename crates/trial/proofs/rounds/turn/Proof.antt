@@ -1,7 +1,6 @@
 -- `trial::rounds::turn` meets its contract. Assumes nothing.
 use native.Mathlib.Omega.{arith}
 use borrow.Author.Rules.{rules}
-use borrow.Author.Tests.{not-true, not-false}
 use Rattle.trial.proofs.TurnLaws.{turn_sends, turn_rests}
 use Rattle.trial.proofs.TryingLaws.{trying_more}
 use Rattle.trial.proofs.rounds.turn.Statement.{statement}
