@@ -1,8 +1,8 @@
 # shellcheck shell=bash
 # Sourced by the scripts beside it, at the repository's root: finds or builds what they use.
-#   archive  the proved library: SPACE_ARCHIVE, or what `rt staticlib space` writes
-#   program  the proved program: SPACE_PROGRAM, or what `rt check viewer` writes
-#   order_program  the one for exports: SPACE_ORDER_PROGRAM, or what `rt check study_order` writes
+#   archive  the proved library: SPACE_ARCHIVE, or what `rt lib` writes in crates/space
+#   program  the proved program: SPACE_PROGRAM, or what `rt run` writes in crates/viewer
+#   order_program  the one for exports: SPACE_ORDER_PROGRAM, or what `rt run` writes in crates/study_order
 #   out      where everything of the host is built
 #   built    where the Rust programs are then
 out=$PWD/target/host
@@ -11,29 +11,32 @@ export CARGO_TARGET_DIR=$out/cargo
 # shellcheck disable=SC2034
 built=$CARGO_TARGET_DIR/release
 
-missing_or_old() { # FILE: it is not there, or older than something in crates/
-    [ ! -f "$1" ] || [ -n "$(find crates crates.txt -newer "$1" -print -quit)" ]
+missing_or_old() { # FILE: it is not there, or older than crates.txt or something in a crate that is not in its out/
+    [ ! -f "$1" ] || [ crates.txt -nt "$1" ] ||
+        [ -n "$(find crates -mindepth 2 -name out -prune -o -newer "$1" -print -quit)" ]
 }
 
-rt_makes() { # FILE WORDS: has `rt WORDS` make the file, if need be
-    local file=$1
-    shift
+rt_makes() { # FILE COMMAND: has `rt COMMAND` make the file in its crate, if need be. A program is run there, on its stdin
+    local file=$1 command=$2 crate=${1%/out/*} input=/dev/null log
     missing_or_old "$file" || return 0
-    echo "rt $*"
-    rt "$@" > "$out/rt-$1.log" || { tail -n 20 "$out/rt-$1.log"; return 1; }
+    log=$out/rt-$command-${crate##*/}.log
+    [ ! -f "$crate/stdin" ] || input=$crate/stdin
+    echo "rt $command in $crate"
+    (cd "$crate" && rt "$command") < "$input" > "$log" 2>&1 || { tail -n 20 "$log"; return 1; }
+    touch "$file" # `rt` leaves it as it is where nothing that it is made of has changed
 }
 
 find_archive() {
-    archive=${SPACE_ARCHIVE:-target/staticlib/libspace.a}
-    [ -n "${SPACE_ARCHIVE:-}" ] || rt_makes "$archive" staticlib space || return 1
+    archive=${SPACE_ARCHIVE:-crates/space/out/libspace.a}
+    [ -n "${SPACE_ARCHIVE:-}" ] || rt_makes "$archive" lib || return 1
     [ -f "$archive" ] || { echo "there is no $archive"; return 1; }
     archive=$(realpath "$archive")
     export SPACE_ARCHIVE=$archive
 }
 
 made_program() { # NAME GIVEN: says which file the program is, the one given or what rt writes
-    local file=${2:-target/bin/$1}
-    [ -n "$2" ] || rt_makes "$file" check "$1" >&2 || return 1
+    local file=${2:-crates/$1/out/$1}
+    [ -n "$2" ] || rt_makes "$file" run >&2 || return 1
     [ -x "$file" ] || { echo "there is no $file" >&2; return 1; }
     echo "$file"
 }

@@ -148,8 +148,8 @@ says() { # WHAT: on standard error, in one line
     [ "$(cat "$out/program.error")" = "viewer: $1" ] || fail "the program does not say: $1"
 }
 
-# The program's output is a pipe: full and not blocking, or closed by its reader while the caller ignores SIGPIPE.
-into_pipe() { # full|closed TRAY
+# The program's output is a pipe: full and not blocking, or closed by its reader, also while the caller ignores SIGPIPE.
+into_pipe() { # full|closed|ignored TRAY
     python3 - "$program" "$@" 2> "$out/program.error" <<'END'
 import os, subprocess, sys
 program, pipe, tray = sys.argv[1:]
@@ -164,11 +164,12 @@ if pipe == "full":
 else:
     os.close(reader)
 with open(tray, "rb") as frames:
-    subprocess.run([os.path.abspath(program)], stdin=frames, stdout=writer, restore_signals=False, check=True)
+    restored = pipe != "ignored"
+    subprocess.run([os.path.abspath(program)], stdin=frames, stdout=writer, restore_signals=restored, check=True)
 END
 }
 
-# The program has no exit status: it says on standard error what it could not read or write.
+# The program's exit status is 0 all the same: it says on standard error what it could not read or write.
 check_program() {
     local pipe tray=crates/viewer/stdin
     "$program" < "$tray" > "$out/program.out" 2> "$out/program.error"
@@ -183,7 +184,7 @@ check_program() {
     says "cannot write all of standard output"
     "$program" < "$tray" > /dev/full 2> "$out/program.error"
     says "cannot write all of standard output"
-    for pipe in full closed; do
+    for pipe in full closed ignored; do
         into_pipe $pipe "$tray" || fail "the program into a $pipe pipe: $(cat "$out/program.error")"
         says "cannot write all of standard output"
     done

@@ -1,5 +1,5 @@
 /* A small host: it builds a tray, runs it in an area that is as big as the tray wants, and prints the records in words.
- *     cc -I host -o example host/example.c target/staticlib/libspace.a */
+ *     cc -I host -o example host/example.c crates/space/out/libspace.a */
 #include <stdlib.h>
 #include "print_record.h"
 

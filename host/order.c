@@ -1,6 +1,6 @@
 /* A host that asks for the order of a study export, in which transactions stand without it: it puts the words together,
  * asks, and carries the transactions out on a plain set of its own.
- *     cc -I host -o order host/order.c target/staticlib/libspace.a */
+ *     cc -I host -o order host/order.c crates/space/out/libspace.a */
 #include <inttypes.h>
 #include <stdio.h>
 #include "space_frames.h"

@@ -1,6 +1,6 @@
 /* A host that keeps a space of its own and lives on space_step: panes send frames one at a time, and each record goes
  * to the pane that it is for.
- *     cc -I host -o panes host/panes.c target/staticlib/libspace.a */
+ *     cc -I host -o panes host/panes.c crates/space/out/libspace.a */
 #include "print_record.h"
 
 enum { MARK = 1, FINDING = 2, ROUNDS = 8 };

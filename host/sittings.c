@@ -1,6 +1,6 @@
 /* A host that compares how long panes wait: it puts the trays of a few days together, hands them in, and prints the
  * table by party with the mean waits.
- *     cc -I host -o sittings host/sittings.c target/staticlib/libspace.a */
+ *     cc -I host -o sittings host/sittings.c crates/space/out/libspace.a */
 #include <inttypes.h>
 #include <stdio.h>
 #include "space_frames.h"

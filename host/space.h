@@ -1,5 +1,5 @@
-/* The shared space, for hosts in C (x86-64). Link with libspace.a, which `rt staticlib space` writes to
- * target/staticlib. space_frames.h, beside this file, builds frames, reads records and has names for people.
+/* The shared space, for hosts in C (x86-64). Link with libspace.a, which `rt lib`, in crates/space, writes to
+ * its out/. space_frames.h, beside this file, builds frames, reads records and has names for people.
  *
  * All numbers in frames, records and trays are little-endian and unsigned. No function keeps a pointer, allocates,
  * or uses memory besides its buffers and the stack. The buffers of a call must not overlap. A pointer may be null

@@ -1,6 +1,6 @@
 /* A host that tries leases before it fixes them: two panes hand marks to each other, and the first may hold a mark for
  * longer and longer. Each line is a trial of 100 rounds.
- *     cc -I host -o trial host/trial.c target/staticlib/libspace.a */
+ *     cc -I host -o trial host/trial.c crates/space/out/libspace.a */
 #include <inttypes.h>
 #include <stdio.h>
 #include "space_frames.h"

@@ -1,9 +1,10 @@
-//! Links the proved archive: SPACE_ARCHIVE, or what `rt staticlib` writes. The one place that knows its name and path.
+//! Links the proved archive: SPACE_ARCHIVE, or what `rt lib` writes in crates/space. The one place that knows its name and
+//! path.
 
 use std::env;
 use std::path::{Path, PathBuf};
 
-const BUILT: &str = "../../target/staticlib/libspace.a";
+const BUILT: &str = "../../crates/space/out/libspace.a";
 
 fn main() {
     let archive = match env::var("SPACE_ARCHIVE") {
@@ -13,7 +14,7 @@ fn main() {
     println!("cargo:rerun-if-env-changed=SPACE_ARCHIVE");
     // What calls the space cannot be linked then; other programs beside it can.
     if !archive.is_file() {
-        println!("cargo:warning=there is no {}: run `rt staticlib space`", archive.display());
+        println!("cargo:warning=there is no {}: run `rt lib` in crates/space", archive.display());
         return;
     }
     let folder = archive.parent().unwrap_or(Path::new("."));

@@ -2,8 +2,8 @@
 //! not refused = found + nothing + look-ups closed by an exception or abort + still waiting, the last counted in the
 //! space and the others from frames and answers alone".
 //!
-//! These are the definitions of crates/demands/specs/WaitingList.antt, in which the equation is proved: `isAsked`,
-//! `closes`, `closedAs`, `fates`, `tallyOf`, `Balances`. Nothing here sees tables; who waits is counted elsewhere.
+//! These are the definitions of crates/demands/specs/WaitingList.antt, in which the equation is proved: `is_asked`,
+//! `closes`, `closed_as`, `fates`, `tally_of`, `Balances`. Nothing here sees tables; who waits is counted elsewhere.
 
 use crate::frame::{operation_of, Class};
 use crate::record::{Record, ABORTED, EXCEPTION, FOUND, NOTHING, REFUSED};
