@@ -13,16 +13,10 @@ use Rattle.rules.specs.Numbers.{record_size}
 use Rattle.rules.proofs.PartLaws.{part_from}
 use Rattle.viewer_lib.specs.Shows.{record_texts}
 
--- the lengths of a buffer and of a text printed into it
+-- a text printed into a buffer ends within it
 pub prints-within : (text old new : List ℕ) (n : ℕ) → Prints true text old new n → length new ≡ length old
     → n ≤ length new
 prints-within text old new n p h =
-    let l = length-append text (drop (length text) old) in
-    omega (arith, p.count, ap length p.bytes, l, length-drop (length text) old)
-
-pub prints-length : (text old new : List ℕ) (n : ℕ) → Prints true text old new n → n ≤ length old
-    → length new ≡ length old
-prints-length text old new n p h =
     let l = length-append text (drop (length text) old) in
     omega (arith, p.count, ap length p.bytes, l, length-drop (length text) old)
 
