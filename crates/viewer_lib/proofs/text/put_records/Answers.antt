@@ -1,9 +1,9 @@
 use Rattle.std.proofs.Common.{arith}
-use Rattle.viewer_lib.proofs.PrintedLaws.{none-printed, record_short, record_printed}
+use Rattle.viewer_lib.proofs.PrintedLaws.{none_printed, record_short, record_printed}
 use Rattle.viewer_lib.proofs.text.put_records.Goals as goal
 
 pub loop-i-init : goal.loop-i-init
-loop-i-init c = (none-printed _ _, omega arith, omega arith)
+loop-i-init c = (none_printed _ _, omega arith, omega arith)
 
 pub loop-i-preserved : goal.loop-i-preserved
 loop-i-preserved c =

@@ -3,7 +3,7 @@ use Rattle.demands.specs.Bounds.{AreBytes}
 use Rattle.printer.specs.Text.{line_size}
 use Rattle.rules.specs.Allowed.{TrayRan}
 use Rattle.rules.specs.Numbers.{record_size}
-use Rattle.viewer_lib.proofs.ShownLaws.{are_bytes, records-fit, shown}
+use Rattle.viewer_lib.proofs.ShownLaws.{are_bytes, records_fit, shown}
 use Rattle.viewer_lib.proofs.text.show_tray.Goals as goal
 
 bytes : (bs : List ℕ) → ((i : ℕ) → Fits w8 (get_or bs i 0)) → AreBytes bs
@@ -12,7 +12,7 @@ bytes bs h = are_bytes bs (λ i. let b = h i in omega arith)
 -- the records fit the area
 fit : {tray area area' : List ℕ} {told : ℕ} → TrayRan tray area told area' → ((i : ℕ) → Fits w8 (get_or tray i 0))
     → record_size * (told / 65536 % 65536) ≤ length area
-fit {tray} r h = records-fit _ _ _ _ r (bytes tray h)
+fit {tray} r h = records_fit _ _ _ _ r (bytes tray h)
 
 pub put_records-at-requires : goal.put_records-at-requires
 put_records-at-requires c =
