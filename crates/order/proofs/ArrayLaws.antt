@@ -16,9 +16,9 @@ joined-append (x ∷ xs) ys = ap (λ l. x ++ l) (joined-append xs ys) ∙ sym (a
 pub joined_more : {A : Type 0} (xs : List (List A)) (x : List A) → joined (xs ++ (x ∷ [])) ≡ joined xs ++ x
 joined_more xs x = joined-append xs (x ∷ []) ∙ ap (λ l. joined xs ++ l) (append-nil x)
 
-pub joined-map_more : {A B : Type 0} (f : A → List B) (xs : List A) (x : A)
+pub joined_map_more : {A B : Type 0} (f : A → List B) (xs : List A) (x : A)
     → joined (map f (xs ++ (x ∷ []))) ≡ joined (map f xs) ++ f x
-joined-map_more f xs x = ap joined (map-append f xs (x ∷ [])) ∙ joined_more (map f xs) (f x)
+joined_map_more f xs x = ap joined (map-append f xs (x ∷ [])) ∙ joined_more (map f xs) (f x)
 
 -- what holds at every index of a list, holds there after a store
 pub at_set : {A : Type 0} (Q : A → Type 0) (l : List A) (i : ℕ) (v d : A) → ((j : ℕ) → Q (get_or l j d)) → Q v

@@ -62,10 +62,10 @@ plan_within (planned ts e a p) t = (a.transactions, p.within)
 plan_within (unplanned h) t = absurd (true≢false (sym t))
 
 module _ (words order : List ℕ) where
-  pub not-planned : {codes starts : List ℕ} {ok : Bool} {n : ℕ} → Planned words ok n codes starts → ok ≡ false
+  pub not_planned : {codes starts : List ℕ} {ok : Bool} {n : ℕ} → Planned words ok n codes starts → ok ≡ false
       → OrderFound words order (65536 * order_refused) order
-  not-planned (planned ts e a p) f = absurd (true≢false f)
-  not-planned (unplanned h) f = refused (λ ts i. h ts i.stand_for i.accepted)
+  not_planned (planned ts e a p) f = absurd (true≢false f)
+  not_planned (unplanned h) f = refused (λ ts i. h ts i.stand_for i.accepted)
 
   pub no_room : {codes starts : List ℕ} {ok : Bool} {n : ℕ} → Planned words ok n codes starts → ok ≡ true
       → length order < n

@@ -37,8 +37,8 @@ compared (p ∷ ps) (q ∷ qs) e = go (ℕ_discrete p q) (dec_lt p q) (compared 
     go (no s) (yes l) t = inr (inl (ap (λ b. b || eqb p q && comes_before ps qs) (lt-ltb p q l)))
     go (no s) (no l) t = inr (inr (ap (λ b. b || eqb q p && comes_before qs ps) (lt-ltb q p (omega arith))))
 
-one-first : (ts : List (List Action)) (ps qs : List ℕ) → First ts ps → First ts qs → ps ≡ qs
-one-first ts ps qs f g =
+one_first : (ts : List (List Action)) (ps qs : List ℕ) → First ts ps → First ts qs → ps ≡ qs
+one_first ts ps qs f g =
     ⊎_elim (λ s. s)
     (⊎_elim (λ b. absurd (true≢false (sym f.good ∙ g.first ps f.order b)))
     (λ b. absurd (true≢false (sym g.good ∙ f.first qs g.order b))))
@@ -56,7 +56,7 @@ only_one words order r r' o o' a b = go a b
         let s = same k h in (
           refl,
           ap₂ (λ (l : List ℕ) (us : List (List Action)). l ++ drop (length us) order)
-              (one-first ts ps qs f (subst (λ vs. First vs qs) s g)) (sym s),
+              (one_first ts ps qs f (subst (λ vs. First vs qs) s g)) (sym s),
         )
     go (found ts h ps f) (none_found us k z) =
         absurd (true≢false (sym f.good ∙ subst NoneSucceeds (same k h) z ps f.order))

@@ -11,25 +11,25 @@ use native.Mathlib.Omega.{arith}
 use borrow.Author.Tests.{eq-eqb, ne_eqb, eqb-true, eqb-false}
 use lib.Dec.{eqb}
 use lib.ListN.{length, get_or, take, drop, set, replicate, length-set}
-use lib.Seq.{take_all, take-suc, split_at, get_or-take, get_or-set_same, get_or-set_other}
+use lib.Seq.{take-suc, split_at, get_or-take, get_or-set_same, get_or-set_other}
 use Rattle.rules.specs.Lists.{anyb, distinct, joined}
 use Rattle.rules.proofs.BoolLaws.{and_left, and_right, or_left, or_right, or_cases}
 use Rattle.rules.proofs.ListLaws.{any_append, mem_any}
 use Rattle.order.specs.Export.{Action, writes, reads, takes, written_by}
 use Rattle.order.specs.Reading.{kind_of, number_of, Arrays, slots}
-use Rattle.order.specs.Plan.{slot_in, code_in, Begin, Resolved, Codes, max_code}
-use Rattle.order.proofs.ArrayLaws.{joined-append, joined-map_more, at_set, filled_more, get_d_map, all_same}
+use Rattle.order.specs.Plan.{slot_in, code_in, Begin, Codes, max_code}
+use Rattle.order.proofs.ArrayLaws.{joined-append, joined_map_more, at_set, filled_more, get_d_map, all_same}
 
 -- where a number stands first is its slot
-pub slot-first : (ms : List ℕ) (n r : ℕ) → r < length ms → get_or ms r 0 ≡ n
+pub slot_first : (ms : List ℕ) (n r : ℕ) → r < length ms → get_or ms r 0 ≡ n
     → ((m : ℕ) → m < r → get_or ms m 0 ≡ n → ⊥)
     → r ≡ slot_in ms n
 unfolding slot_in
-slot-first [] n r h e before = absurd (omega arith)
-slot-first (m ∷ ms) n zero h e before = rw (eq-eqb m n e)
-slot-first (m ∷ ms) n (suc r) h e before =
+slot_first [] n r h e before = absurd (omega arith)
+slot_first (m ∷ ms) n zero h e before = rw (eq-eqb m n e)
+slot_first (m ∷ ms) n (suc r) h e before =
     rw (ne_eqb m n (before 0 (omega arith)))
-    (ap suc (slot-first ms n r (omega arith) e (λ k l. before (suc k) (suc-le-suc l))))
+    (ap suc (slot_first ms n r (omega arith) e (λ k l. before (suc k) (suc-le-suc l))))
 
 -- a slot tells its number
 pub slot_at : (ms : List ℕ) (n : ℕ) → slot_in ms n < length ms → get_or ms (slot_in ms n) 0 ≡ n
@@ -43,10 +43,10 @@ slot_at (m ∷ ms) n h = go (eqb m n) refl (slot_at ms n) h
     go false e below l = below (omega arith)
 
 -- and a number that is there has a slot
-pub slot-known : (n : ℕ) {ms : List ℕ} → Memᴰ n ms → slot_in ms n < length ms
+pub slot_known : (n : ℕ) {ms : List ℕ} → Memᴰ n ms → slot_in ms n < length ms
 unfolding slot_in
-slot-known n (Memᴰ.head {x = m} {xs = ms} e) = rw (eq-eqb m n (sym e)) (omega arith)
-slot-known n (Memᴰ.tail {x = m} {xs = ms} i) = go (eqb m n) (slot-known n i)
+slot_known n (Memᴰ.head {x = m} {xs = ms} e) = rw (eq-eqb m n (sym e)) (omega arith)
+slot_known n (Memᴰ.tail {x = m} {xs = ms} i) = go (eqb m n) (slot_known n i)
   where
     go : (b : Bool) → slot_in ms n < length ms → cond b 0 (suc (slot_in ms n)) < suc (length ms)
     go true l = omega arith
@@ -114,10 +114,10 @@ abbrev pub written_in : List Action → List ℕ
 written_in acts = joined (map written_by acts)
 
 -- whether an action writes a number
-writes-own : (a : Action) → eqb (kind_of a) 1 ≡ anyb (eqb (number_of a)) (written_by a)
-writes-own (writes n) = sym (or-false (eqb n n) ∙ eq-eqb n n refl)
-writes-own (reads n) = refl
-writes-own (takes n) = refl
+writes_own : (a : Action) → eqb (kind_of a) 1 ≡ anyb (eqb (number_of a)) (written_by a)
+writes_own (writes n) = sym (or-false (eqb n n) ∙ eq-eqb n n refl)
+writes_own (reads n) = refl
+writes_own (takes n) = refl
 
 writes_no_other : (a : Action) (n : ℕ) → (n ≡ number_of a → ⊥) → anyb (eqb n) (written_by a) ≡ false
 writes_no_other (writes m) n h = or-false (eqb n m) ∙ ne_eqb n m h
@@ -131,10 +131,10 @@ pub record Resolving (numbers : List ℕ) (acts : List Action) (j : ℕ) (codes 
     pub once : distinct (written_in (take j acts)) ≡ true
     pub agrees : Agrees numbers written (λ n. anyb (eqb n) (written_in (take j acts)))
 
-pub none-resolved : (numbers codes : List ℕ) (acts : List Action) → length numbers ≡ slots
+pub none_resolved : (numbers codes : List ℕ) (acts : List Action) → length numbers ≡ slots
     → Resolving numbers acts 0 codes (replicate slots false)
 unfolding distinct
-none-resolved numbers codes acts l =
+none_resolved numbers codes acts l =
     record {
       are_codes = refl;
       once = refl;
@@ -172,7 +172,7 @@ module _ (kinds numbers codes : List ℕ) (written : List Bool) (len j slot : �
   flag_is : get_or written slot false ≡ anyb (eqb (number_of a)) before
   unfolding before
   flag_is = ap (λ s. get_or written s false) slot_is
-      ∙ r.agrees.flag_is (number_of a) (omega (arith, slot_is, arrays.as_many-numbers))
+      ∙ r.agrees.flag_is (number_of a) (omega (arith, slot_is, arrays.as_many_numbers))
 
   -- its number is written twice
   pub written_twice : (eqb (get_or kinds j 0) 1 && get_or written slot false) ≡ true → distinct (written_in acts) ≡ false
@@ -209,7 +209,7 @@ module _ (kinds numbers codes : List ℕ) (written : List Bool) (len j slot : �
       one_more = ap (λ k. take k acts) (add-one j) ∙ take-suc acts j (reads 0) within
 
       written_by_lem : written_in (take (j + 1) acts) ≡ before ++ written_by a
-      written_by_lem = ap written_in one_more ∙ joined-map_more written_by (take j acts) a
+      written_by_lem = ap written_in one_more ∙ joined_map_more written_by (take j acts) a
 
       code_is : 4 * slot + get_or kinds j 0 ≡ code_in numbers a
       code_is = ap₂ (λ s k. 4 * s + k) slot_is kind_is
@@ -226,8 +226,8 @@ module _ (kinds numbers codes : List ℕ) (written : List Bool) (len j slot : �
       put : Agrees numbers (set written (slot_in numbers (number_of a)) up) (λ n. anyb (eqb n) (before ++ written_by a))
       put =
           agrees_put r.agrees (λ n. anyb (eqb n) (before ++ written_by a)) (number_of a)
-          (omega (arith, slot_is, arrays.as_many-numbers)) up
-          (ap₂ (λ x y. x || y) (ap (λ k. eqb k 1) kind_is ∙ writes-own a) flag_is
+          (omega (arith, slot_is, arrays.as_many_numbers)) up
+          (ap₂ (λ x y. x || y) (ap (λ k. eqb k 1) kind_is ∙ writes_own a) flag_is
           ∙ or_comm (anyb (eqb (number_of a)) (written_by a)) (anyb (eqb (number_of a)) before)
           ∙ sym (any_append (eqb (number_of a)) before (written_by a)))
           (λ n q. sym (any_append (eqb n) before (written_by a)
@@ -240,13 +240,4 @@ code_put codes j slot kind c l k =
     record {
       as_many = length-set codes j (4 * slot + kind) ∙ c.as_many;
       below = at_set (λ n. n < max_code) codes j (4 * slot + kind) 0 c.below (omega arith);
-    }
-
-pub all-resolved : (numbers codes : List ℕ) (written : List Bool) (len j : ℕ) (acts : List Action) → length acts ≡ len
-    → j ≡ len → Resolving numbers acts j codes written → Resolved numbers acts true codes
-all-resolved numbers codes written len j acts n all r =
-    let whole = take_all j acts (omega arith) in
-    record {
-      once = sym r.once ∙ ap (λ l. distinct (written_in l)) whole;
-      are_codes = λ t. ap (λ m. take m codes) (n ∙ sym all) ∙ r.are_codes ∙ ap (map (code_in numbers)) whole;
     }

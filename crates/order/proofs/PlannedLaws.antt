@@ -12,24 +12,24 @@ use Rattle.order.specs.Export.{Action, words_of, written}
 use Rattle.order.specs.Reading.{number_of, Arrays, Holds, Few, ExportRead, read, broken, slots, max_txns}
 use Rattle.order.specs.Plan.{slot_in, Begin, Resolved, Codes, max_code, Planned, planned, unplanned}
 use Rattle.order.proofs.ArrayLaws.{all_same}
-use Rattle.order.proofs.PlanLaws.{slot-known}
+use Rattle.order.proofs.PlanLaws.{slot_known}
 use Rattle.order.proofs.TxnLaws.{same_words}
 
 pub no_codes : Codes (replicate slots 0)
 no_codes =
     record { as_many = refl; below = λ j. subst⁻¹ (λ n. n < max_code) (all_same slots 0 j) (omega arith) }
 
-pub read-within : {words kinds numbers starts : List ℕ} {ok : Bool} {n : ℕ}
+pub read_within : {words kinds numbers starts : List ℕ} {ok : Bool} {n : ℕ}
     → ExportRead words ok n kinds numbers starts
     → ok ≡ true → (n ≤ max_txns) × (get_or starts n 0 ≤ slots) × Arrays kinds numbers
-read-within (read ts e few h) t = (few.transactions, h.starts_within (length ts), h.arrays)
-read-within (broken h) t = absurd (true≢false (sym t))
+read_within (read ts e few h) t = (few.transactions, h.starts_within (length ts), h.arrays)
+read_within (broken h) t = absurd (true≢false (sym t))
 
-pub not-read : {words kinds numbers starts codes : List ℕ} {ok : Bool} {n : ℕ}
+pub not_read : {words kinds numbers starts codes : List ℕ} {ok : Bool} {n : ℕ}
     → ExportRead words ok n kinds numbers starts
     → ok ≡ false → Planned words false n codes starts
-not-read (read ts e few h) f = absurd (true≢false f)
-not-read (broken h) f =
+not_read (read ts e few h) f = absurd (true≢false f)
+not_read (broken h) f =
     unplanned (λ ts e a. h ts e (record { transactions = a.transactions; actions = a.actions }))
 
 module _ (codes : List ℕ) (ok : Bool) (c : Codes codes) where
@@ -41,7 +41,7 @@ module _ (codes : List ℕ) (ok : Bool) (c : Codes codes) where
     where
       mentioned : (a : Action) → Memᴰ a (joined ts) → slot_in numbers (number_of a) < length numbers
       mentioned a i =
-          slot-known (number_of a)
+          slot_known (number_of a)
           (subst (Memᴰ (number_of a)) (take-append-drop (length (joined ts)) numbers)
           (Memᴰ.append_left (drop (length (joined ts)) numbers)
           (subst⁻¹ (Memᴰ (number_of a)) h.are_numbers (Memᴰ.map number_of i))))
@@ -52,8 +52,8 @@ module _ (codes : List ℕ) (ok : Bool) (c : Codes codes) where
           (record { transactions = few.transactions; actions = few.actions; written_once = sym r.once ∙ t })
           (record {
             numbers = numbers;
-            within = record { codes-within = c; starts_within = h.starts_within };
-            as_many = h.arrays.as_many-numbers;
+            within = record { codes_within = c; starts_within = h.starts_within };
+            as_many = h.arrays.as_many_numbers;
             known = mentioned;
             are_codes = r.are_codes t;
             begins = h.begins;

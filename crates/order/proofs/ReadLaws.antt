@@ -2,14 +2,14 @@
 use Prim.Native.Nat.{ℕ, zero, suc, ◌+◌, ◌*◌, ◌≤◌, ◌<◌}
 use mathlib.Core.Bool.{true, false}
 use mathlib.Core.Path.{◌≡◌, refl, sym, ap, ap₂, ◌∙◌, subst}
-use mathlib.Core.List.{List, [], ◌∷◌, ◌++◌, map, append_assoc, append-nil}
+use mathlib.Core.List.{List, [], ◌∷◌, ◌++◌, map, append_assoc}
 use native.Mathlib.Omega.{arith}
 use lib.ListN.{length, get_or, take, drop, set, length-append, length-set}
 use lib.Seq.{drop-cons, get_or-drop, drop-drop}
 use Rattle.rules.specs.Lists.{joined}
 use Rattle.order.specs.Export.{Action, writes, reads, takes, action_words}
 use Rattle.order.specs.Reading.{kind_of, number_of, Arrays, ActionsRead, read, broken, slots}
-use Rattle.order.proofs.ArrayLaws.{joined-map_more, at_set, filled_more}
+use Rattle.order.proofs.ArrayLaws.{joined_map_more, at_set, filled_more}
 
 -- the action of a kind and a number
 abbrev action_of : ℕ → ℕ → Action
@@ -93,20 +93,6 @@ pub record Reading (words : List ℕ) (at len : ℕ) (kinds₀ numbers₀ kinds 
   pub are_numbers : take (len + i) numbers ≡ take len numbers₀ ++ map number_of acts
   pub arrays : Arrays kinds numbers
 
-pub none_read : (words : List ℕ) (at len : ℕ) (kinds numbers : List ℕ) → Arrays kinds numbers
-    → Reading words at len kinds numbers kinds numbers 0
-none_read words at len kinds numbers a =
-    let same : len ≡ len + 0 = omega arith in
-    let here : at ≡ at + 2 * 0 = omega arith in
-    record {
-      acts = [];
-      as_many = refl;
-      stand_for = ap (λ k. drop k words) here;
-      are_kinds = ap (λ k. take k kinds) (sym same) ∙ sym (append-nil _);
-      are_numbers = ap (λ k. take k numbers) (sym same) ∙ sym (append-nil _);
-      arrays = a;
-    }
-
 -- one more is read
 pub one_more : (words : List ℕ) (at len : ℕ) (kinds₀ numbers₀ kinds numbers : List ℕ) (i : ℕ)
     → Reading words at len kinds₀ numbers₀ kinds numbers i
@@ -120,16 +106,16 @@ one_more words at len kinds₀ numbers₀ kinds numbers i r fits room low high =
       as_many = length-append r.acts (a ∷ []) ∙ omega (arith, r.as_many);
       stand_for = r.stand_for ∙ ap (λ l. joined (map action_words r.acts) ++ l) split
           ∙ sym (append_assoc (joined (map action_words r.acts)) (action_words a) (drop (at + 2 * (i + 1)) words))
-          ∙ ap (λ l. l ++ drop (at + 2 * (i + 1)) words) (sym (joined-map_more action_words r.acts a));
+          ∙ ap (λ l. l ++ drop (at + 2 * (i + 1)) words) (sym (joined_map_more action_words r.acts a));
       are_kinds = ap₂ (λ m v. take m (set kinds (len + i) v)) (then len i) (sym is.0)
           ∙ filled_more kind_of (take len kinds₀) kinds (len + i) r.acts a r.are_kinds
           (omega (arith, r.arrays.as_many_kinds));
       are_numbers = ap₂ (λ m v. take m (set numbers (len + i) v)) (then len i) (sym is.1)
           ∙ filled_more number_of (take len numbers₀) numbers (len + i) r.acts a r.are_numbers
-          (omega (arith, r.arrays.as_many-numbers));
+          (omega (arith, r.arrays.as_many_numbers));
       arrays = record {
         as_many_kinds = length-set kinds (len + i) kind ∙ r.arrays.as_many_kinds;
-        as_many-numbers = length-set numbers (len + i) number ∙ r.arrays.as_many-numbers;
+        as_many_numbers = length-set numbers (len + i) number ∙ r.arrays.as_many_numbers;
         kinds_below = at_set (λ k. k < 4) kinds (len + i) kind 0 r.arrays.kinds_below (omega arith);
       };
     }

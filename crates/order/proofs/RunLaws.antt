@@ -69,9 +69,9 @@ kept_other n m h k t =
     (ne_eqb k.number n (λ e. h (sym (eqb-true k.number m (and_left _ (same_fields no_mark k.fields) t)) ∙ e)))
 
 -- the set after a write, and after a take
-written-set : (n m : ℕ) (r : Run) → in_set (carry_out (operation_of (writes n)) r) m ≡ (in_set r m || eqb n m)
+written_set : (n m : ℕ) (r : Run) → in_set (carry_out (operation_of (writes n)) r) m ≡ (in_set r m || eqb n m)
 unfolding carry_out is_kept same_fields
-written-set n m r =
+written_set n m r =
     any_append (is_kept m no_mark) r.kept _ ∙ ap (λ b. in_set r m || b)
     (or-false (eqb n m && true) ∙ and-true (eqb n m))
 
@@ -107,14 +107,14 @@ module _ (ms : List ℕ) where
     Follows a q =
         (q.succeeds ≡ r.succeeds) × Agrees ms (set flags (slot_in ms (number_of a)) (not (eqb (kind_of a) 3))) (in_set q)
 
-    pub step-none : (a : Action) → Known a → misses (code_in ms a) flags ≡ true → (carry_out (operation_of a) r).succeeds ≡
+    pub step_none : (a : Action) → Known a → misses (code_in ms a) flags ≡ true → (carry_out (operation_of a) r).succeeds ≡
         false
     unfolding failed
-    step-none (writes n) k m = absurd (true≢false (sym m ∙ misses_is (writes n) flags))
-    step-none (reads n) k m =
+    step_none (writes n) k m = absurd (true≢false (sym m ∙ misses_is (writes n) flags))
+    step_none (reads n) k m =
         ap (λ (q : Run). q.succeeds) (missing_is false n r
         (sym (agrees.flag_is n k) ∙ not-true _ (sym (misses_is (reads n) flags) ∙ m)))
-    step-none (takes n) k m =
+    step_none (takes n) k m =
         ap (λ (q : Run). q.succeeds) (missing_is true n r
         (sym (agrees.flag_is n k) ∙ not-true _ (sym (misses_is (takes n) flags) ∙ m)))
 
@@ -136,8 +136,8 @@ module _ (ms : List ℕ) where
         go (writes n) k e = (
           refl,
           agrees_put agrees (in_set (carry_out (operation_of (writes n)) r)) n k true
-              (sym (written-set n n r ∙ ap (λ b. in_set r n || b) (eq-eqb n n refl) ∙ or-true (in_set r n)))
-              (λ m q. sym (written-set n m r ∙ ap (λ b. in_set r m || b) (ne_eqb n m (λ p. q (sym p))) ∙ or-false
+              (sym (written_set n n r ∙ ap (λ b. in_set r n || b) (eq-eqb n n refl) ∙ or-true (in_set r n)))
+              (λ m q. sym (written_set n m r ∙ ap (λ b. in_set r m || b) (ne_eqb n m (λ p. q (sym p))) ∙ or-false
               (in_set r m))),
         )
         go (reads n) k e =
@@ -153,17 +153,17 @@ module _ (ms : List ℕ) where
             )
 
 -- a run that has failed stays so
-failed-one : (o : Operation) (r : Run) → r.succeeds ≡ false → (carry_out o r).succeeds ≡ false
+failed_one : (o : Operation) (r : Run) → r.succeeds ≡ false → (carry_out o r).succeeds ≡ false
 unfolding carry_out taking failed
-failed-one (adds k) r f = f
-failed-one (finds take n x) r f =
+failed_one (adds k) r f = f
+failed_one (finds take n x) r f =
     let Fails : Run → Type 0 = λ q. q.succeeds ≡ false in
     cond_cases Fails (anyb (is_kept n x) r.kept) (λ _. cond_cases Fails take (λ _. f) (λ _. f)) (λ _. refl)
 
-stays-failed : (os : List Operation) (r : Run) → r.succeeds ≡ false → (carry_out_all os r).succeeds ≡ false
+stays_failed : (os : List Operation) (r : Run) → r.succeeds ≡ false → (carry_out_all os r).succeeds ≡ false
 unfolding carry_out_all
-stays-failed [] r f = f
-stays-failed (o ∷ os) r f = stays-failed os (carry_out o r) (failed-one o r f)
+stays_failed [] r f = f
+stays_failed (o ∷ os) r f = stays_failed os (carry_out o r) (failed_one o r f)
 
 carry_append : (os ps : List Operation) (r : Run) → carry_out_all (os ++ ps) r ≡ carry_out_all ps (carry_out_all os r)
 unfolding carry_out_all
@@ -195,7 +195,7 @@ codes_agree ms (a ∷ acts) k flags r g s =
         → Agree ms (cond b none (rest (after_code (code_in ms a) flags)))
         (carry_out_all (map operation_of acts) (carry_out (operation_of a) r))
     go true m below =
-        stays-failed (map operation_of acts) (carry_out (operation_of a) r) (step-none ms flags r g a known m)
+        stays_failed (map operation_of acts) (carry_out (operation_of a) r) (step_none ms flags r g a known m)
     go false m below =
         let one = step_some ms flags r g a known m in
         below (after_code (code_in ms a) flags) (carry_out (operation_of a) r) one.1 (one.0 ∙ s)
@@ -205,10 +205,10 @@ module _ (ts : List (List Action)) (codes starts : List ℕ) (plan : Plan ts cod
   ms : List ℕ
   ms = plan.numbers
 
-  txn-codes : (p : ℕ) → p < length ts
+  txn_codes : (p : ℕ) → p < length ts
       → slice (get_or starts p 0) (get_or starts (suc p) 0) codes ≡ map (code_in ms) (get_or ts p [])
   unfolding ms
-  txn-codes p h =
+  txn_codes p h =
       ap₂ (λ f t. slice f t codes) (plan.begins p (omega arith)) (plan.begins (suc p) h)
       ∙ ap (drop (length (joined (take p ts)))) front
       ∙ drop_at (map c (joined (take p ts))) (map c (get_or ts p [])) (length (joined (take p ts)))
@@ -236,9 +236,9 @@ module _ (ts : List (List Action)) (codes starts : List ℕ) (plan : Plan ts cod
           ∙ take_at (map c up_to) (map c (joined (drop (suc p) ts))) (length up_to) (length-map up_to c)
           ∙ ap (map c) two ∙ map-append c (joined (take p ts)) (get_or ts p [])
 
-  txn-known : (p : ℕ) → p < length ts → All (Known ms) (get_or ts p [])
+  txn_known : (p : ℕ) → p < length ts → All (Known ms) (get_or ts p [])
   unfolding ms
-  txn-known p h a i =
+  txn_known p h a i =
       plan.known a (subst⁻¹ (Memᴰ a)
       (ap joined (split_at ts p [] h) ∙ joined-append (take p ts) (get_or ts p [] ∷ drop (suc p) ts))
       (Memᴰ.append_right (joined (take p ts)) (Memᴰ.append_left (joined (drop (suc p) ts)) i)))
@@ -252,9 +252,9 @@ module _ (ts : List (List Action)) (codes starts : List ℕ) (plan : Plan ts cod
   goes_is [] h flags r g s = sym s
   goes_is (p ∷ ps) h flags r g s =
       let here = h p (Memᴰ.head refl) in
-      ap (λ cs. then_goes (goes codes starts ps) (after_codes cs flags)) (txn-codes p here)
+      ap (λ cs. then_goes (goes codes starts ps) (after_codes cs flags)) (txn_codes p here)
       ∙ go (after_codes (map (code_in ms) (get_or ts p [])) flags)
-      (codes_agree ms (get_or ts p []) (txn-known p here) flags r g s)
+      (codes_agree ms (get_or ts p []) (txn_known p here) flags r g s)
       (goes_is ps (λ q i. h q (Memᴰ.tail i)))
       ∙ sym (ap (λ (q : Run). q.succeeds) (carry_append (map operation_of (get_or ts p [])) (operations_at ts ps) r))
     where
@@ -265,5 +265,5 @@ module _ (ts : List (List Action)) (codes starts : List ℕ) (plan : Plan ts cod
           → ((fs : List Bool) (q : Run) → Agrees ms fs (in_set q) → q.succeeds ≡ true
           → goes codes starts ps fs ≡ (carry_out_all (operations_at ts ps) q).succeeds)
           → then_goes (goes codes starts ps) o ≡ (carry_out_all (operations_at ts ps) after).succeeds
-      go none f below = sym (stays-failed (operations_at ts ps) after f)
+      go none f below = sym (stays_failed (operations_at ts ps) after f)
       go (some fs) y below = below fs after y.1 y.0

@@ -97,9 +97,6 @@ module _ (codes starts : List ℕ) (n d : ℕ) (left present : List Bool) where
   pub record Tried (p : ℕ) : Type 0 where
     pub fails : (q : ℕ) (qs : List ℕ) → q < p → OrderOf n d left (q ∷ qs) → goes codes starts (q ∷ qs) present ≡ false
 
-  pub none_tried : Tried 0
-  none_tried = record { fails = λ q qs h o. absurd (omega arith) }
-
   try_more : (p : ℕ) → Tried p → ((qs : List ℕ) → OrderOf n d left (p ∷ qs) → goes codes starts (p ∷ qs) present ≡
       false)
       → Tried (p + 1)
@@ -123,11 +120,11 @@ module _ (codes starts : List ℕ) (n d : ℕ) (left present : List Bool) where
   unfolding goes
   goes_on p after ok e t qs = rw (ran codes starts p present after ok e, t)
 
-  pub not-run : (p : ℕ) → Tried p → (after : List Bool) (ok : Bool)
+  pub not_run : (p : ℕ) → Tried p → (after : List Bool) (ok : Bool)
       → told ok after ≡ after_codes (slice (get_or starts p 0) (get_or starts (p + 1) 0) codes) present → ok ≡ false
       → Tried (p + 1)
   unfolding goes
-  not-run p t after ok e f = try_more p t (λ qs o. rw (ran codes starts p present after ok e, f))
+  not_run p t after ok e f = try_more p t (λ qs o. rw (ran codes starts p present after ok e, f))
 
   module _ (p : ℕ) (t : Tried p) (after : List Bool) (ok : Bool)
       (e : told ok after ≡ after_codes (slice (get_or starts p 0) (get_or starts (p + 1) 0) codes) present) (run : ok ≡ true)
@@ -191,9 +188,9 @@ module _ (codes starts : List ℕ) (n d : ℕ) (left present : List Bool) where
       none_before (q ∷ qs) o b = absurd (true≢false (sym b))
 
   -- all are tried
-  pub all-tried : (order : List ℕ) (p : ℕ) → Tried p → n ≤ p → d < n
+  pub all_tried : (order : List ℕ) (p : ℕ) → Tried p → n ≤ p → d < n
       → Searched codes starts n d left present false order
-  all-tried order p t all below = none_found go
+  all_tried order p t all below = none_found go
     where
       go : (qs : List ℕ) → OrderOf n d left qs → goes codes starts qs present ≡ false
       go [] o = absurd (omega (arith, o.as_many))

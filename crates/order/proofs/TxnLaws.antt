@@ -19,7 +19,7 @@ use Rattle.order.specs.Export.{Action, action_words, txn_words, words_of}
 use Rattle.order.specs.Reading.{has_txn}
 use Rattle.order.specs.Reading.{kind_of, number_of, Arrays, ActionsRead, Holds, Few, ExportRead, read, broken}
 use Rattle.order.specs.Reading.{slots, max_txns, max_actions}
-use Rattle.order.proofs.ArrayLaws.{joined_more, joined-map_more, at_set, all_same}
+use Rattle.order.proofs.ArrayLaws.{joined_more, joined_map_more, at_set, all_same}
 use Rattle.order.proofs.ReadLaws.{actions_in, read_back, words_length}
 
 -- a transaction's count and its pairs are there, or not
@@ -55,9 +55,9 @@ unfolding has_txn
 past_end words at h = sym (rw (le-ltb at (length words) h))
 
 -- the words of a transaction and what follows tell both
-pub same-txn : (a b : List Action) (x y : List ℕ) → txn_words a ++ x ≡ txn_words b ++ y → (a ≡ b) × (x ≡ y)
+pub same_txn : (a b : List Action) (x y : List ℕ) → txn_words a ++ x ≡ txn_words b ++ y → (a ≡ b) × (x ≡ y)
 unfolding txn_words
-same-txn a b x y e = (same, behind)
+same_txn a b x y e = (same, behind)
   where
     count : length a ≡ length b
     count = cc
@@ -85,7 +85,7 @@ pub behind : (done ts : List (List Action)) (words : List ℕ)
 behind [] ts words e h = record { rest = ts; are = refl; stand_for = e }
 behind (d ∷ done) [] words e h = absurd (omega arith)
 behind (d ∷ done) (t ∷ ts) words e h =
-    let both = same-txn d t (joined (map txn_words done) ++ words) (joined (map txn_words ts))
+    let both = same_txn d t (joined (map txn_words done) ++ words) (joined (map txn_words ts))
     (sym (append_assoc (txn_words d) (joined (map txn_words done)) words) ∙ e) in
     let b = behind done ts words both.1 (omega arith) in
     record {
@@ -103,9 +103,9 @@ pub record ReadingTxns (words kinds numbers starts : List ℕ) (at len t : ℕ) 
   pub count : length (joined done) ≡ len
   pub holds : Holds done kinds numbers starts
 
-pub no_txns-read : (words : List ℕ)
+pub no_txns_read : (words : List ℕ)
     → ReadingTxns words (replicate slots 0) (replicate slots 0) (replicate (max_txns + 1) 0) 1 0 0
-no_txns-read words =
+no_txns_read words =
     record {
       done = [];
       as_many = refl;
@@ -115,7 +115,7 @@ no_txns-read words =
       holds = record {
         arrays = record {
           as_many_kinds = refl;
-          as_many-numbers = refl;
+          as_many_numbers = refl;
           kinds_below = λ j. suc-le-suc
               (zero_at slots j 3);
         };
@@ -151,7 +151,7 @@ module _ (words kinds numbers starts kinds' numbers' : List ℕ) (at len t k : �
         as_many = length-append r.done (acts ∷ []) ∙ omega (arith, r.as_many);
         stand_for = r.stand_for ∙ ap (λ l. joined (map txn_words r.done) ++ l) split
             ∙ sym (append_assoc (joined (map txn_words r.done)) (txn_words acts) (drop (at + (1 + 2 * k)) words))
-            ∙ ap (λ l. l ++ drop (at + (1 + 2 * k)) words) (sym (joined-map_more txn_words r.done acts));
+            ∙ ap (λ l. l ++ drop (at + (1 + 2 * k)) words) (sym (joined_map_more txn_words r.done acts));
         short = λ x i. ⊎_elim (r.short x) (λ j. subst⁻¹ (λ y. length y ≤ max_actions) (Memᴰ.eq_of_singleton j)
             (omega arith)) (Memᴰ.append_cases r.done i);
         count = counted;
@@ -287,12 +287,12 @@ unfolding words_of
 too_many words n is h ts e few = omega (arith, few.transactions, ap (λ l. get_or l 0 0) e)
 
 -- all are read
-pub all-txns-read : (words kinds numbers starts : List ℕ) (at len t n : ℕ)
+pub all_txns_read : (words kinds numbers starts : List ℕ) (at len t n : ℕ)
     → ReadingTxns words kinds numbers starts at len t
     → n ≡ get_or words 0 0 → 0 < length words → n ≤ max_txns → t ≡ n → length words ≤ at
     → ExportRead words true n kinds numbers starts
 unfolding words_of
-all-txns-read words kinds numbers starts at len t n r is some few all end =
+all_txns_read words kinds numbers starts at len t n r is some few all end =
     subst (λ m. ExportRead words true m kinds numbers starts) count
     (read r.done stand (record { transactions = omega arith; actions = r.short }) r.holds)
   where

@@ -71,9 +71,9 @@ is_order ts ps n low d =
     }
 
 -- none
-none-found_there : (ts : List (List Action)) {words order o : List ℕ} {r : ℕ} → words ≡ words_of ts
+none_found_there : (ts : List (List Action)) {words order o : List ℕ} {r : ℕ} → words ≡ words_of ts
     → OrderFound words order r o → r ≡ 0 → NoneSucceeds ts × (o ≡ order)
-none-found_there ts e a t = go a e t
+none_found_there ts e a t = go a e t
   where
     go : {words order o : List ℕ} {r : ℕ} → OrderFound words order r o → words ≡ words_of ts → r ≡ 0
         → NoneSucceeds ts × (o ≡ order)
@@ -92,24 +92,24 @@ not-refused ts e acc fits a t = go a e fits t
     go (none_found us h z) e fits t = omega arith
     go (refused z) e fits t = z ts (record { stand_for = e; accepted = acc; fits = fits })
 
-take-and-write : List (List Action)
-take-and-write = (takes 5 ∷ []) ∷ (writes 5 ∷ []) ∷ []
+take_and_write : List (List Action)
+take_and_write = (takes 5 ∷ []) ∷ (writes 5 ∷ []) ∷ []
 
 pub each_wrong : WrongOrders
-unfolding words_of txn_words written distinct take-and-write succeeds operations_at carry_out_all carry_out is_kept same_fields
+unfolding words_of txn_words written distinct take_and_write succeeds operations_at carry_out_all carry_out is_kept same_fields
     failed taking comes_before
 each_wrong =
     record {
-      last-order = λ a.
+      last_order = λ a.
           let ts : List (List Action) = (writes 5 ∷ []) ∷ (writes 6 ∷ []) ∷ [] in
           let o = one ts refl a refl in
           let is = are ts refl o in
           true≢false ((subst (First ts) is o.first).first (0 ∷ 1 ∷ []) (is_order ts (0 ∷ 1 ∷ []) refl refl refl)
           refl);
-      take_before_write = λ a. fails take-and-write (0 ∷ 1 ∷ []) refl refl (one take-and-write refl a refl);
+      take_before_write = λ a. fails take_and_write (0 ∷ 1 ∷ []) refl refl (one take_and_write refl a refl);
       none_though_one = λ o a.
-          true≢false ((none-found_there take-and-write refl a refl).0 (1 ∷ 0 ∷ [])
-          (is_order take-and-write (1 ∷ 0 ∷ []) refl refl refl));
+          true≢false ((none_found_there take_and_write refl a refl).0 (1 ∷ 0 ∷ [])
+          (is_order take_and_write (1 ∷ 0 ∷ []) refl refl refl));
       read_behind_take = λ o a. alone_fails (writes 5 ∷ takes 5 ∷ reads 5 ∷ []) refl (one _ refl a refl);
       taken_twice_by_one = λ o a. alone_fails (writes 5 ∷ takes 5 ∷ takes 5 ∷ []) refl (one _ refl a refl);
       taken_twice_by_two = λ a.
@@ -124,8 +124,8 @@ each_wrong =
       byte_behind = λ a.
           let o = one [] refl a refl in
           nothing o.positions o.first.order.as_many o.bytes;
-      none-and_changed = λ a.
-          let same = (none-found_there ((reads 5 ∷ []) ∷ []) refl a refl).1 in
+      none_and_changed = λ a.
+          let same = (none_found_there ((reads 5 ∷ []) ∷ []) refl a refl).1 in
           let q : ◌≡◌ {A = ℕ} 0 9 = ap (λ l. get_or l 0 0) same in
           omega arith;
       refused_though_fit = λ o a.

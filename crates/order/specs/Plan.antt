@@ -35,7 +35,7 @@ pub record Codes (codes : List ℕ) : Type 0 where
 
 -- a plan that can be run: codes and starts are within their arrays
 pub record Within (codes starts : List ℕ) : Type 0 where
-  pub codes-within : Codes codes
+  pub codes_within : Codes codes
   pub starts_within : (p : ℕ) → get_or starts p 0 ≤ slots
 
 -- the plan of transactions: the codes of their actions, one after another, by the slots among some numbers; `starts` is

@@ -33,7 +33,7 @@ number_of (takes n) = n
 -- the arrays are as long as they are declared, and every kind is below 4
 pub record Arrays (kinds numbers : List ℕ) : Type 0 where
   pub as_many_kinds : length kinds ≡ slots
-  pub as_many-numbers : length numbers ≡ slots
+  pub as_many_numbers : length numbers ≡ slots
   pub kinds_below : (j : ℕ) → get_or kinds j 0 < 4
 
 -- k pairs are read from the front of some words into the arrays, from `len` on; or the first k pairs of the words are

@@ -5,7 +5,7 @@ use Rattle.order.specs.Found.{OrderFound}
 
 pub record WrongOrders : Type 0 where
   -- two writes: both orders succeed, and the last is given
-  pub last-order : OrderFound (2 ∷ 1 ∷ 1 ∷ 5 ∷ 1 ∷ 1 ∷ 6 ∷ []) (9 ∷ 9 ∷ []) 1 (1 ∷ 0 ∷ []) → ⊥
+  pub last_order : OrderFound (2 ∷ 1 ∷ 1 ∷ 5 ∷ 1 ∷ 1 ∷ 6 ∷ []) (9 ∷ 9 ∷ []) 1 (1 ∷ 0 ∷ []) → ⊥
   -- a take, and its write: the take comes first
   pub take_before_write : OrderFound (2 ∷ 1 ∷ 3 ∷ 5 ∷ 1 ∷ 1 ∷ 5 ∷ []) (9 ∷ 9 ∷ []) 1 (0 ∷ 1 ∷ []) → ⊥
   -- none is reported though the other order succeeds
@@ -22,6 +22,6 @@ pub record WrongOrders : Type 0 where
   pub seven : (o : List ℕ) → OrderFound (7 ∷ 0 ∷ 0 ∷ 0 ∷ 0 ∷ 0 ∷ 0 ∷ 0 ∷ []) (9 ∷ 9 ∷ 9 ∷ 9 ∷ 9 ∷ 9 ∷ 9 ∷ []) 1 o → ⊥
   -- a byte behind the positions is changed, or `order` where none is found
   pub byte_behind : OrderFound (0 ∷ []) (9 ∷ []) 1 (0 ∷ []) → ⊥
-  pub none-and_changed : OrderFound (1 ∷ 1 ∷ 2 ∷ 5 ∷ []) (9 ∷ []) 0 (0 ∷ []) → ⊥
+  pub none_and_changed : OrderFound (1 ∷ 1 ∷ 2 ∷ 5 ∷ []) (9 ∷ []) 0 (0 ∷ []) → ⊥
   -- what is accepted is refused
   pub refused_though_fit : (o : List ℕ) → OrderFound (0 ∷ []) [] (65536 * order_refused) o → ⊥

@@ -16,9 +16,9 @@ use Rattle.order.specs.Found.{OrderFound, found, none_found, refused}
 use Rattle.order.proofs.ArrayLaws.{all_same}
 use Rattle.order_lib.specs.Shows.{words_in, line_of, none_text, refused_text, text_of, answered, no_words, Shows}
 
-pub not-whole : {bytes old new : List ℕ} {n : ℕ} → (length bytes % 4 ≡ 0 → ⊥) → InFront true refused_text old new n
+pub not_whole : {bytes old new : List ℕ} {n : ℕ} → (length bytes % 4 ≡ 0 → ⊥) → InFront true refused_text old new n
     → Shows bytes old new n
-not-whole h p = record { text = refused_text; told = no_words h; printed = p }
+not_whole h p = record { text = refused_text; told = no_words h; printed = p }
 
 -- an answer to the words of some bytes
 module _ {bytes words : List ℕ} {r : ℕ} {o : List ℕ} (a : OrderFound words (replicate 6 0) r o)
@@ -31,18 +31,18 @@ module _ {bytes words : List ℕ} {r : ℕ} {o : List ℕ} (a : OrderFound words
         printed = subst⁻¹ (λ t. InFront true t old new n) e p;
       }
 
-  pub none-shown : r ≡ 0 → InFront true none_text old new n → Shows bytes old new n
+  pub none_shown : r ≡ 0 → InFront true none_text old new n → Shows bytes old new n
   unfolding text_of
-  none-shown e = shows none_text (ap (λ k. text_of (words_in bytes) k o) e)
+  none_shown e = shows none_text (ap (λ k. text_of (words_in bytes) k o) e)
 
-  pub refusal-shown : (r ≡ 1 → ⊥) → (r ≡ 0 → ⊥) → InFront true refused_text old new n → Shows bytes old new n
+  pub refusal_shown : (r ≡ 1 → ⊥) → (r ≡ 0 → ⊥) → InFront true refused_text old new n → Shows bytes old new n
   unfolding text_of
-  refusal-shown h k = shows refused_text (rw (ne_eqb r 1 h, ne_eqb r 0 k))
+  refusal_shown h k = shows refused_text (rw (ne_eqb r 1 h, ne_eqb r 0 k))
 
-  pub order-shown : r ≡ 1 → (k : ℕ) → k ≡ get_or (words_in bytes) 0 0 → InFront true (line_of (take k o)) old new n
+  pub order_shown : r ≡ 1 → (k : ℕ) → k ≡ get_or (words_in bytes) 0 0 → InFront true (line_of (take k o)) old new n
       → Shows bytes old new n
   unfolding text_of
-  order-shown e k is p =
+  order_shown e k is p =
       shows (line_of (take (get_or (words_in bytes) 0 0) o)) (ap (λ m. text_of (words_in bytes) m o) e)
       (subst (λ m. InFront true (line_of (take m o)) old new n) is p)
 

@@ -1,4 +1,6 @@
 // Reads a tray from standard input, runs it, and prints its answers.
-fn main() {
-    viewer_lib::show();
+#![tactic(auto)]
+
+fn main(rt: HostRuntime) {
+    viewer_lib::show(&rt);
 }

@@ -1,4 +1,6 @@
 // The program, run on a tray whose last pair runs past it: 16.
-fn main() {
-    viewer_lib::show();
+#![tactic(auto)]
+
+fn main(rt: HostRuntime) {
+    viewer_lib::show(&rt);
 }

@@ -1,4 +1,6 @@
 // The program, run on a tray of 65,537 bytes: 15.
-fn main() {
-    viewer_lib::show();
+#![tactic(auto)]
+
+fn main(rt: HostRuntime) {
+    viewer_lib::show(&rt);
 }

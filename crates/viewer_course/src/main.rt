@@ -1,4 +1,6 @@
 // The program, run on the course's examples C9 to C13.
-fn main() {
-    viewer_lib::show();
+#![tactic(auto)]
+
+fn main(rt: HostRuntime) {
+    viewer_lib::show(&rt);
 }

@@ -13,16 +13,10 @@ use Rattle.rules.specs.Numbers.{record_size}
 use Rattle.rules.proofs.PartLaws.{part_from}
 use Rattle.viewer_lib.specs.Shows.{record_texts}
 
--- the lengths of a buffer and of a text printed into it
-pub prints-within : (text old new : List ℕ) (n : ℕ) → Prints true text old new n → length new ≡ length old
+-- a text printed into a buffer ends within it
+pub prints_within : (text old new : List ℕ) (n : ℕ) → Prints true text old new n → length new ≡ length old
     → n ≤ length new
-prints-within text old new n p h =
-    let l = length-append text (drop (length text) old) in
-    omega (arith, p.count, ap length p.bytes, l, length-drop (length text) old)
-
-pub prints-length : (text old new : List ℕ) (n : ℕ) → Prints true text old new n → n ≤ length old
-    → length new ≡ length old
-prints-length text old new n p h =
+prints_within text old new n p h =
     let l = length-append text (drop (length text) old) in
     omega (arith, p.count, ap length p.bytes, l, length-drop (length text) old)
 
@@ -33,8 +27,8 @@ line_at out at = take (at + line_size - at) (drop at out)
 abbrev pub with_line : List ℕ → ℕ → List ℕ → List ℕ
 with_line out at new = take at out ++ (new ++ drop (at + line_size - at) (drop at out))
 
-pub line-room : (out : List ℕ) (at : ℕ) → at + line_size ≤ length out → has_line (line_at out at) ≡ true
-line-room out at h = le-leb line_size (length (line_at out at)) (simp (length-take, length-drop) (omega arith))
+pub line_room : (out : List ℕ) (at : ℕ) → at + line_size ≤ length out → has_line (line_at out at) ≡ true
+line_room out at h = le-leb line_size (length (line_at out at)) (simp (length-take, length-drop) (omega arith))
 
 pub by_room : (room : Bool) (text old new : List ℕ) (n : ℕ) → room ≡ true → Prints room text old new n
     → Prints true text old new n
@@ -47,14 +41,14 @@ module _ (first text old out new : List ℕ) (at n : ℕ) (f : Prints true first
   no_longer =
       omega (
         arith,
-        prints-within text (line_at out at) new n t same,
+        prints_within text (line_at out at) new n t same,
         same,
         length-take (at + line_size - at)
             (drop at out),
       )
 
-  pub prints-then : Prints true (first ++ text) old (with_line out at new) (at + n)
-  prints-then =
+  pub prints_then : Prints true (first ++ text) old (with_line out at new) (at + n)
+  prints_then =
       record {
         bytes =
             ap₂ (λ (x y : List ℕ). x ++ y) front (ap (λ l. l ++ drop size (drop at out)) t.bytes ∙ back)
@@ -66,7 +60,7 @@ module _ (first text old out new : List ℕ) (at n : ℕ) (f : Prints true first
       size = at + line_size - at
 
       fits : length text ≤ length (line_at out at)
-      fits = omega (arith, prints-within text (line_at out at) new n t same, same, t.count)
+      fits = omega (arith, prints_within text (line_at out at) new n t same, same, t.count)
 
       front : take at out ≡ first
       front = ap (take at) f.bytes ∙ take_at first (drop (length first) old) at (sym f.count)
@@ -85,9 +79,9 @@ module _ (first text old out new : List ℕ) (at n : ℕ) (f : Prints true first
           ∙ ap (λ k. drop k old) (sym (length-append first text)))
 
 -- the lines of records
-pub none-printed : (area old : List ℕ) → Prints true (record_texts 0 area) old old 0
+pub none_printed : (area old : List ℕ) → Prints true (record_texts 0 area) old old 0
 unfolding record_texts
-none-printed area old = record { bytes = refl; count = refl }
+none_printed area old = record { bytes = refl; count = refl }
 
 texts_suc : (n : ℕ) (bs : List ℕ) → record_texts (suc n) bs ≡ record_texts n bs ++ record_text (drop (record_size * n) bs)
 unfolding record_texts
@@ -120,7 +114,7 @@ module _ (area old out new : List ℕ) (at i n : ℕ) (f : Prints true (record_t
       whole = le-leb record_size (length (record_from area i)) (simp (length-take, length-drop) (omega arith))
 
       room : (has_record (record_from area i) && has_line (line_at out at)) ≡ true
-      room = ap₂ (λ x y. x && y) whole (line-room out at k)
+      room = ap₂ (λ x y. x && y) whole (line_room out at k)
 
   pub record_short : n ≤ line_size
   record_short =
@@ -130,4 +124,4 @@ module _ (area old out new : List ℕ) (at i n : ℕ) (f : Prints true (record_t
   record_printed =
       subst (λ text. Prints true text old (with_line out at new) (at + n))
       (sym (texts_suc i area) ∙ ap (λ k. record_texts k area) (sym (add-one i)))
-      (prints-then (record_texts i area) (record_text (drop (record_size * i) area)) old out new at n f its_line same)
+      (prints_then (record_texts i area) (record_text (drop (record_size * i) area)) old out new at n f its_line same)

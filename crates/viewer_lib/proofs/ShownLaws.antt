@@ -25,7 +25,7 @@ use Rattle.demands.proofs.TraysProof.{trays_are_histories, numbers_are_read_back
 use Rattle.demands.proofs.Follows.{follows-bounds}
 use Rattle.printer.specs.Text.{Prints, line_size, has_line}
 use Rattle.viewer_lib.specs.Shows.{record_texts, Shows}
-use Rattle.viewer_lib.proofs.PrintedLaws.{line_at, with_line, line-room, by_room, no_longer, prints-then}
+use Rattle.viewer_lib.proofs.PrintedLaws.{line_at, with_line, line_room, by_room, prints_then}
 use Rattle.viewer_lib.proofs.RecordLines.{texts_are_lines}
 
 -- the bytes of a slice, of a part of it, and of each frame of a tray
@@ -52,12 +52,12 @@ frame-bytes tray h f i b j =
     h b (mem_drop p.0.offset tray (mem_take p.0.size (drop p.0.offset tray)
     (subst⁻¹ (Memᴰ b) p.2 j)))
 
-handed-frame : {m n : Model} {area : List ℕ} {fs : List (List ℕ)} {log : List Logged}
+handed_frame : {m n : Model} {area : List ℕ} {fs : List (List ℕ)} {log : List Logged}
     → HandedIn m area fs log n
     → (l : Logged) → Memᴰ l log → Memᴰ l.frame fs
-handed-frame (none_left m area) l i = absurd (Memᴰ.not-nil i)
-handed-frame (one_more a s h) l i =
-    ⊎_elim (λ q. Memᴰ.head (ap (λ (x : Logged). x.frame) q)) (λ j. Memᴰ.tail (handed-frame h l j))
+handed_frame (none_left m area) l i = absurd (Memᴰ.not-nil i)
+handed_frame (one_more a s h) l i =
+    ⊎_elim (λ q. Memᴰ.head (ap (λ (x : Logged). x.frame) q)) (λ j. Memᴰ.tail (handed_frame h l j))
     (Memᴰ.cases_cons i)
 
 -- what a run leaves: its records fit their bytes, and the area
@@ -84,7 +84,7 @@ left tray area h =
           in_range = subst⁻¹ AllInRange t.records
               ((follows-bounds the_rules rules_follow).in_range t.log t.last (empty, refl, t.history)
               (λ l i. frame-bytes tray h l.frame
-              (mem_take (run_frames empty (length area) fs).frames fs (handed-frame t.handed_in l i))));
+              (mem_take (run_frames empty (length area) fs).frames fs (handed_frame t.handed_in l i))));
           fit = t.fit;
         }
 
@@ -115,9 +115,9 @@ module _ (tray area area' : List ℕ) (told : ℕ) (r : TrayRan tray area told a
             ∙ b.number,
       )
 
-  pub records-fit : record_size * records_in told ≤ length area
+  pub records_fit : record_size * records_in told ≤ length area
   unfolding o
-  records-fit = omega (arith, back.1, (left tray area bytes).fit)
+  records_fit = omega (arith, back.1, (left tray area bytes).fit)
 
   text : record_texts (records_in told) area' ++ last_line told ≡ printed o
   unfolding printed area_after o
@@ -134,13 +134,10 @@ module _ (tray area area' : List ℕ) (told : ℕ) (r : TrayRan tray area told a
       (k : at + line_size ≤ length out) (p : Prints (has_line (line_at out at)) (last_line told) (line_at out at) new n)
       (same : length new ≡ length (line_at out at)) where
     last : Prints true (last_line told) (line_at out at) new n
-    last = by_room (has_line (line_at out at)) (last_line told) (line_at out at) new n (line-room out at k) p
-
-    pub shown_short : n ≤ line_size
-    shown_short = no_longer (record_texts (records_in told) area') (last_line told) old out new at n f last same
+    last = by_room (has_line (line_at out at)) (last_line told) (line_at out at) new n (line_room out at k) p
 
     pub shown : Shows tray area old (with_line out at new) (at + n)
     unfolding o
     shown =
         subst (λ l. Prints true l old (with_line out at new) (at + n)) text
-        (prints-then (record_texts (records_in told) area') (last_line told) old out new at n f last same)
+        (prints_then (record_texts (records_in told) area') (last_line told) old out new at n f last same)

@@ -1,10 +1,10 @@
 use Rattle.std.proofs.Common.{◌+◌, ◌*◌, ◌<◌, true≢false, sym, ap, arith}
 use Rattle.order.specs.Reading.{slots}
-use Rattle.order.proofs.PlanLaws.{none-resolved, written_twice, resolved_more, code_put}
+use Rattle.order.proofs.PlanLaws.{none_resolved, written_twice, resolved_more, code_put}
 use Rattle.order.proofs.plan.resolve.Goals as goal
 
 pub loop-j-init : goal.loop-j-init
-loop-j-init c = (omega arith, c.requires.2, λ acts b. none-resolved _ _ acts c.requires.1.as_many-numbers)
+loop-j-init c = (omega arith, c.requires.2, λ acts b. none_resolved _ _ acts c.requires.1.as_many_numbers)
 
 pub returns-then-writes-again-clause-resolved : goal.returns-then-writes-again-clause-resolved
 returns-then-writes-again-clause-resolved c acts b =

@@ -1,6 +1,6 @@
 use Rattle.std.proofs.Common.{refl, sym, ◌∙◌, length, arith}
-use Rattle.order.proofs.TxnLaws.{no_txns-read, one_more_txn, no_txn, left_over, no_actions, refuse, no_words}
-use Rattle.order.proofs.TxnLaws.{has_txn_lem, no_txn_there, too_many, all-txns-read}
+use Rattle.order.proofs.TxnLaws.{no_txns_read, one_more_txn, no_txn, left_over, no_actions, refuse, no_words}
+use Rattle.order.proofs.TxnLaws.{has_txn_lem, no_txn_there, too_many, all_txns_read}
 use Rattle.order.proofs.read.read_export.Goals as goal
 
 pub returns-then-words-eq0 : goal.returns-then-words-eq0
@@ -10,7 +10,7 @@ pub returns-then-n-gt-MAX_TXNS : goal.returns-then-n-gt-MAX_TXNS
 returns-then-n-gt-MAX_TXNS c = refuse c.no_export-broken.ensures (too_many _ _ c.size-n.ensures.0 c.if-n-gt-MAX_TXNS.true)
 
 pub loop-t-init : goal.loop-t-init
-loop-t-init c = (omega arith, omega arith, omega arith, no_txns-read _)
+loop-t-init c = (omega arith, omega arith, omega arith, no_txns_read _)
 
 -- no transaction stands there
 pub returns-then-not-has_txn : goal.returns-then-not-has_txn
@@ -53,5 +53,5 @@ returns-then-at-words c =
 
 pub returns : goal.returns
 returns c =
-    all-txns-read _ _ _ _ _ _ _ _ c.loop-t.invariant.3 c.size-n.ensures.0 (omega arith) (omega arith)
+    all_txns_read _ _ _ _ _ _ _ _ c.loop-t.invariant.3 c.size-n.ensures.0 (omega arith) (omega arith)
     (omega arith) (omega arith)

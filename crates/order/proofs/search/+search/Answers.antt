@@ -1,6 +1,6 @@
 use borrow.Author.Tests.{not-true, not-false}
 use Rattle.std.proofs.Common.{◌≡◌, length, arith}
-use Rattle.order.proofs.SearchLaws.{not_left, not-run, not_found, is_found, all_placed, all-tried}
+use Rattle.order.proofs.SearchLaws.{not_left, not_run, not_found, is_found, all_placed, all_tried}
 use Rattle.order.proofs.search.+search.Goals as goal
 
 pub returns-then-d-n : goal.returns-then-d-n
@@ -12,7 +12,7 @@ loop-next-preserved-then-not-left-p t c = not_left _ _ _ _ _ _ _ c.loop-next.inv
 pub loop-next-preserved-then-not-ran : goal.loop-next-preserved-then-not-ran
 loop-next-preserved-then-not-ran t c =
     let ran = c.run_codes-ran in
-    not-run _ _ _ _ _ _ _ c.loop-next.invariant ran.result.present ran.result.ok ran.ensures (not-true _ c.if-not-ran.true)
+    not_run _ _ _ _ _ _ _ c.loop-next.invariant ran.result.present ran.result.ok ran.ensures (not-true _ c.if-not-ran.true)
 
 pub returns-then-found : goal.returns-then-found
 returns-then-found t c =
@@ -30,4 +30,4 @@ loop-next-preserved t c =
 
 pub returns : goal.returns
 returns t c =
-    all-tried _ _ _ _ _ _ _ _ c.loop-next.invariant (omega arith) (omega (arith, c.requires))
+    all_tried _ _ _ _ _ _ _ _ c.loop-next.invariant (omega arith) (omega (arith, c.requires))
