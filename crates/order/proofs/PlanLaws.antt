@@ -11,13 +11,13 @@ use native.Mathlib.Omega.{arith}
 use borrow.Author.Tests.{eq-eqb, ne_eqb, eqb-true, eqb-false}
 use lib.Dec.{eqb}
 use lib.ListN.{length, get_or, take, drop, set, replicate, length-set}
-use lib.Seq.{take-suc, split_at, get_or-take, get_or-set_same, get_or-set_other}
+use lib.Seq.{take_all, take-suc, split_at, get_or-take, get_or-set_same, get_or-set_other}
 use Rattle.rules.specs.Lists.{anyb, distinct, joined}
 use Rattle.rules.proofs.BoolLaws.{and_left, and_right, or_left, or_right, or_cases}
 use Rattle.rules.proofs.ListLaws.{any_append, mem_any}
 use Rattle.order.specs.Export.{Action, writes, reads, takes, written_by}
 use Rattle.order.specs.Reading.{kind_of, number_of, Arrays, slots}
-use Rattle.order.specs.Plan.{slot_in, code_in, Begin, Codes, max_code}
+use Rattle.order.specs.Plan.{slot_in, code_in, Begin, Resolved, Codes, max_code}
 use Rattle.order.proofs.ArrayLaws.{joined-append, joined_map_more, at_set, filled_more, get_d_map, all_same}
 
 -- where a number stands first is its slot
@@ -240,4 +240,13 @@ code_put codes j slot kind c l k =
     record {
       as_many = length-set codes j (4 * slot + kind) ∙ c.as_many;
       below = at_set (λ n. n < max_code) codes j (4 * slot + kind) 0 c.below (omega arith);
+    }
+
+pub all_resolved : (numbers codes : List ℕ) (written : List Bool) (len j : ℕ) (acts : List Action) → length acts ≡ len
+    → j ≡ len → Resolving numbers acts j codes written → Resolved numbers acts true codes
+all_resolved numbers codes written len j acts n all r =
+    let whole = take_all j acts (omega arith) in
+    record {
+      once = sym r.once ∙ ap (λ l. distinct (written_in l)) whole;
+      are_codes = λ t. ap (λ m. take m codes) (n ∙ sym all) ∙ r.are_codes ∙ ap (map (code_in numbers)) whole;
     }

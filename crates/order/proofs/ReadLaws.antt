@@ -2,7 +2,7 @@
 use Prim.Native.Nat.{ℕ, zero, suc, ◌+◌, ◌*◌, ◌≤◌, ◌<◌}
 use mathlib.Core.Bool.{true, false}
 use mathlib.Core.Path.{◌≡◌, refl, sym, ap, ap₂, ◌∙◌, subst}
-use mathlib.Core.List.{List, [], ◌∷◌, ◌++◌, map, append_assoc}
+use mathlib.Core.List.{List, [], ◌∷◌, ◌++◌, map, append_assoc, append-nil}
 use native.Mathlib.Omega.{arith}
 use lib.ListN.{length, get_or, take, drop, set, length-append, length-set}
 use lib.Seq.{drop-cons, get_or-drop, drop-drop}
@@ -92,6 +92,20 @@ pub record Reading (words : List ℕ) (at len : ℕ) (kinds₀ numbers₀ kinds 
   pub are_kinds : take (len + i) kinds ≡ take len kinds₀ ++ map kind_of acts
   pub are_numbers : take (len + i) numbers ≡ take len numbers₀ ++ map number_of acts
   pub arrays : Arrays kinds numbers
+
+pub none_read : (words : List ℕ) (at len : ℕ) (kinds numbers : List ℕ) → Arrays kinds numbers
+    → Reading words at len kinds numbers kinds numbers 0
+none_read words at len kinds numbers a =
+    let same : len ≡ len + 0 = omega arith in
+    let here : at ≡ at + 2 * 0 = omega arith in
+    record {
+      acts = [];
+      as_many = refl;
+      stand_for = ap (λ k. drop k words) here;
+      are_kinds = ap (λ k. take k kinds) (sym same) ∙ sym (append-nil _);
+      are_numbers = ap (λ k. take k numbers) (sym same) ∙ sym (append-nil _);
+      arrays = a;
+    }
 
 -- one more is read
 pub one_more : (words : List ℕ) (at len : ℕ) (kinds₀ numbers₀ kinds numbers : List ℕ) (i : ℕ)

@@ -97,6 +97,9 @@ module _ (codes starts : List ℕ) (n d : ℕ) (left present : List Bool) where
   pub record Tried (p : ℕ) : Type 0 where
     pub fails : (q : ℕ) (qs : List ℕ) → q < p → OrderOf n d left (q ∷ qs) → goes codes starts (q ∷ qs) present ≡ false
 
+  pub none_tried : Tried 0
+  none_tried = record { fails = λ q qs h o. absurd (omega arith) }
+
   try_more : (p : ℕ) → Tried p → ((qs : List ℕ) → OrderOf n d left (p ∷ qs) → goes codes starts (p ∷ qs) present ≡
       false)
       → Tried (p + 1)
