@@ -1,10 +1,11 @@
 -- The order that is found is the first that succeeds.
 use Prim.Native.Nat.{ℕ, ◌*◌, ◌≤◌, ◌<◌}
 use mathlib.Core.Bool.{Bool, true, false, true≢false}
-use mathlib.Core.Path.{◌≡◌, refl, sym, ap, ◌∙◌, subst, subst⁻¹}
+use mathlib.Core.Path.{◌≡◌, refl, sym, ap, ap₂, ◌∙◌, subst, subst⁻¹}
 use mathlib.Core.List.{List, ◌++◌}
 use native.Mathlib.Omega.{arith}
 use lib.ListN.{length, take, drop, replicate, get_or-replicate}
+use lib.Seq.{take-length, length-take-le}
 use Rattle.rules.specs.Numbers.{order_refused}
 use Rattle.rules.specs.SerialRun.{start}
 use Rattle.order.specs.Export.{Action}
@@ -54,6 +55,14 @@ module _ (ts : List (List Action)) (codes starts : List ℕ) (plan : Plan ts cod
 
   none_there : {order : List ℕ} → Looked codes starts (length ts) false order → NoneSucceeds ts
   none_there (search.none_found h) = λ qs q. sym (goes_there qs q) ∙ h qs (order_of ts few q)
+
+-- the first n positions, copied
+pub in_front : (n : ℕ) (positions order : List ℕ) → n ≤ length positions
+    → take (length (take n positions)) (take n positions) ++ drop (length (take n positions)) order
+    ≡ take n positions ++ drop n order
+in_front n positions order h =
+    ap₂ (λ (a b : List ℕ). a ++ b) (take-length (take n positions))
+    (ap (λ k. drop k order) (length-take-le n positions h))
 
 -- what is planned, and what is refused
 pub plan_within : {words codes starts : List ℕ} {ok : Bool} {n : ℕ} → Planned words ok n codes starts → ok ≡ true

@@ -7,7 +7,7 @@ use mathlib.Core.List.{List, [], ◌∷◌, ◌++◌}
 use native.Mathlib.Decide.{dec_lt}
 use native.Mathlib.Omega.{arith}
 use borrow.Author.Tests.{ne_eqb}
-use lib.ListN.{length, get_or, take, drop, replicate, length-take, get_or-append}
+use lib.ListN.{length, get_or, take, drop, replicate, length-append, length-take, get_or-append}
 use lib.Seq.{get_or-take, get_or-drop, get_or-append-add}
 use Rattle.codec.specs.Area.{InFront}
 use Rattle.rules.specs.Lists.{All}
@@ -19,6 +19,17 @@ use Rattle.order_lib.specs.Shows.{words_in, line_of, none_text, refused_text, te
 pub not_whole : {bytes old new : List ℕ} {n : ℕ} → (length bytes % 4 ≡ 0 → ⊥) → InFront true refused_text old new n
     → Shows bytes old new n
 not_whole h p = record { text = refused_text; told = no_words h; printed = p }
+
+-- the text lies within its buffer
+pub shown_within : {bytes old new : List ℕ} {n : ℕ} → Shows bytes old new n → n ≤ length new
+shown_within {old = old} s =
+    omega (
+      arith,
+      s.printed.count,
+      ap length s.printed.bytes,
+      length-append s.text
+          (drop (length s.text) old),
+    )
 
 -- an answer to the words of some bytes
 module _ {bytes words : List ℕ} {r : ℕ} {o : List ℕ} (a : OrderFound words (replicate 6 0) r o)
