@@ -1,4 +1,4 @@
-// Every function that a host may call: `rt staticlib space` gives libspace.a, and host/space.h declares them.
+// Every function that a host may call: `rt lib` here gives out/libspace.a, and host/space.h declares them.
 #![tactic(auto)]
 
 ghost use Rattle.std.specs.Prelude.{[], ◌≡◌};
