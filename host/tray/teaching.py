@@ -4,14 +4,14 @@ usage: teaching.py TEACHING.md REPOSITORY FOLDER, with `tray` in the PATH; files
 """
 import os
 import re
+import shutil
 import subprocess
 import sys
 
 document, repository, folder = (os.path.realpath(argument) for argument in sys.argv[1:])
 os.makedirs(folder, exist_ok=True)
-link = os.path.join(folder, "examples")
-if not os.path.islink(link):
-    os.symlink(os.path.join(repository, "examples"), link)
+# a copy: `rt ci` takes no link in the checkout
+shutil.copytree(os.path.join(repository, "examples"), os.path.join(folder, "examples"), dirs_exist_ok=True)
 
 blocks = re.findall(r"^```(sh|text)\n(.*?)^```$", open(document, encoding="utf-8").read(), re.M | re.S)
 output, commands, lines = None, 0, 0

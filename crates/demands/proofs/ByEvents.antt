@@ -41,15 +41,15 @@ hears-append k f (h ∷ hs) ks r = hears-append k f hs ks (hears k f h r)
 
 -- a fold over frames and records reads them so
 module _ {R : Type 0} (k : Reader R) (all : Frame → List Record → R → R) (log : List Logged → R → R)
-    (All-nil : (f : Frame) (r : R) → all f [] r ≡ r)
-    (All-more : (f : Frame) (a : Record) (rs : List Record) (r : R) → all f (a ∷ rs) r ≡ all f rs (k.reads f a r))
+    (all_nil : (f : Frame) (r : R) → all f [] r ≡ r)
+    (all_more : (f : Frame) (a : Record) (rs : List Record) (r : R) → all f (a ∷ rs) r ≡ all f rs (k.reads f a r))
     (log-nil : (r : R) → log [] r ≡ r) (log_more : (l : Logged) (ls : List Logged) (r : R) → log (l ∷ ls) r
     ≡ log ls (all (decode l.frame) l.records
     (cond (is_look_up (decode l.frame).op && not (was_refused l.records)) (k.asked (decode l.frame) r) r)))
   where
     reads_all : (f : Frame) (rs : List Record) (r : R) → hears_all k f (map saying rs) r ≡ all f rs r
-    reads_all f [] r = sym (All-nil f r)
-    reads_all f (a ∷ rs) r = reads_all f rs (k.reads f a r) ∙ sym (All-more f a rs r)
+    reads_all f [] r = sym (all_nil f r)
+    reads_all f (a ∷ rs) r = reads_all f rs (k.reads f a r) ∙ sym (all_more f a rs r)
 
     pub reads-log : (ls : List Logged) (r : R) → reads_log k ls r ≡ log ls r
     unfolding reads_log

@@ -298,7 +298,7 @@ pub record Bells : Type 0 where
   pub commits : later 6 (notify_by 2 9 7 ∷ take_by 3 0 9 7 ∷ create_by 1 9 ∷ times 3 (write_by 1 1 9 E)
       ++ (take_by 1 1 0 7 ∷ commit_by 1 1 ∷ []))
       ≡ (Found 1 1 1 E ∷ []) ∷ (Committed 1 1 ∷ Found 3 0 2 E ∷ Rung 2 1 2 2 ∷ []) ∷ []
-  -- a put_back does not ring; two registrations ring by number; at the end of its lease one rings no more
+  -- a put-back does not ring; two registrations ring by number; at the end of its lease one rings no more
   pub put_back : later 2 (write_by 1 0 9 E ∷ create_by 1 9 ∷ notify_by 2 1 7 ∷ notify_by 3 9 7 ∷ take_by 1 1 0 7
       ∷ abort_by 1 1 ∷ write_by 1 0 9 E ∷ a_tick ∷ write_by 1 0 9 E ∷ [])
       ≡ (Notified 2 1 ∷ []) ∷ (Notified 3 2 ∷ []) ∷ (Found 1 1 1 E ∷ []) ∷ (Aborted 1 1 ∷ [])

@@ -24,7 +24,7 @@ pub record Starred : Type 0 where
       ∷ (Ticked ∷ []) ∷ (Nothing 2 0 ∷ []) ∷ []
   -- lease 0: written, then a read with timeout 0 gives nothing
   pub c2 : answers (write_by 1 0 0 E ∷ read_by 2 0 0 7 ∷ []) ≡ (Written 1 0 1 ∷ []) ∷ (Nothing 2 0 ∷ []) ∷ []
-  -- T1 writes; another party's read, timeout 0: nothing; its read_if_exists, timeout 3: waiting; T1 commits: found
+  -- T1 writes; another party's read, timeout 0: nothing; its readIfExists, timeout 3: waiting; T1 commits: found
   pub c3 : answers (create_by 1 9 ∷ write_by 1 1 9 E ∷ read_by 2 0 0 7 ∷ read_if_exists_by 2 0 3 7
       ∷ commit_by 1 1 ∷ [])
       ≡ (Created 1 1 ∷ []) ∷ (Written 1 1 1 ∷ []) ∷ (Nothing 2 0 ∷ []) ∷ (Waiting 2 0 ∷ [])

@@ -1,3 +1,2 @@
-#![tactic(auto)]
-
 // The demands have statements (specs/) and theorems (proofs/), and no code.
+#![tactic(auto)]

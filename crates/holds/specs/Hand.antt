@@ -8,7 +8,7 @@ use Rattle.rules.specs.LookUp.{removes, marked}
 use Rattle.words.specs.Rows.{without}
 
 -- the entries once e, which stands in row i, is handed out: it goes, or gets the mark. Where no other has its number,
--- this is the rules' `hand_out` (`HandLaws.by_Row`).
+-- this is the rules' `hand_out` (`HandLaws.by_row`).
 unfoldable pub hand_at : List Txn → LookUp → Entry → ℕ → List Entry → List Entry
 hand_at ts w e i es = cond (removes w e) (without i es) (set es i (marked ts w e))
 

@@ -7,7 +7,7 @@ use Rattle.rules.specs.Renew.{ending_at}
 use Rattle.words.specs.Rows.{without}
 
 -- e, which stands in row i, goes or ends then. Where no other has its number, this is the rules' `renew`
--- (`RenewLaws.by_Row`).
+-- (`RenewLaws.by_row`).
 unfoldable pub renewed_at : ℕ → Entry → ℕ → Model → Model
 renewed_at lease e i m =
     with_entries

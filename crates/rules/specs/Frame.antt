@@ -48,7 +48,7 @@ decode bs =
 abbrev pub is_write : ℕ → Bool
 is_write op = eqb op op_write
 
--- the four look-ups: read, take, read_if_exists, take_if_exists
+-- the four look-ups: read, take, readIfExists, takeIfExists
 abbrev pub is_look_up : ℕ → Bool
 is_look_up op = leb op_read op && leb op op_take_if_exists
 
@@ -114,8 +114,8 @@ layouts =
     ∷ layout 28 false true true false false false true  -- write
     ∷ layout 28 true false true false false false false  -- read
     ∷ layout 28 true false true false false false false  -- take
-    ∷ layout 28 true false true false false false false  -- read_if_exists
-    ∷ layout 28 true false true false false false false  -- take_if_exists
+    ∷ layout 28 true false true false false false false  -- readIfExists
+    ∷ layout 28 true false true false false false false  -- takeIfExists
     ∷ layout 12 false false true true false false false  -- create
     ∷ layout 8 false false false false false true true  -- commit
     ∷ layout 8 false false false false false true true  -- abort

@@ -1,3 +1,2 @@
-#![tactic(auto)]
-
 // That every space is sound which frames make has proofs, and no code.
+#![tactic(auto)]

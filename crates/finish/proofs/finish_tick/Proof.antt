@@ -1,4 +1,4 @@
--- `step::finish::finish_tick` meets its contract. Assumes nothing.
+-- `finish::finish_tick` meets its contract. Assumes nothing.
 use Prim.Native.Nat.{◌-◌}
 use mathlib.Core.Path.{refl, ap}
 use native.Mathlib.Omega.{arith}

@@ -1,4 +1,4 @@
--- `step::finish::serve` meets its contract. Assumes nothing.
+-- `finish::serve` meets its contract. Assumes nothing.
 use mathlib.Core.Path.{sym, subst}
 use native.Mathlib.Omega.{arith}
 use borrow.Author.Rules.{rules}

@@ -1,4 +1,4 @@
--- `step::finish::serve_and_close` meets its contract. Assumes nothing.
+-- `finish::serve_and_close` meets its contract. Assumes nothing.
 use mathlib.Core.Path.{refl, ap}
 use native.Mathlib.Omega.{arith}
 use borrow.Author.Rules.{rules}

@@ -1,4 +1,4 @@
--- `step::finish::serve_ended` meets its contract. Assumes nothing.
+-- `finish::serve_ended` meets its contract. Assumes nothing.
 use borrow.Author.Rules.{rules}
 use borrow.Author.Tests.{eq-eqb, ne_eqb}
 use Rattle.rules.specs.Numbers.{max_entries}

@@ -1,4 +1,4 @@
--- `step::judge::commit_refusal` meets its contract. Assumes nothing.
+-- `judge::commit_refusal` meets its contract. Assumes nothing.
 use mathlib.Core.Bool.{or-true}
 use mathlib.Core.Path.{refl, ◌∙◌}
 use borrow.Author.Rules.{rules}

@@ -1,4 +1,4 @@
--- `step::judge::create_refusal` meets its contract. Assumes nothing.
+-- `judge::create_refusal` meets its contract. Assumes nothing.
 use mathlib.Core.Path.{refl, ◌∙◌}
 use borrow.Author.Rules.{rules}
 use Rattle.rules.specs.Frame.{layout_of}

@@ -1,4 +1,4 @@
--- `step::judge::entry_refusal` meets its contract. Assumes nothing.
+-- `judge::entry_refusal` meets its contract. Assumes nothing.
 use mathlib.Core.Bool.{cond}
 use mathlib.Core.Path.{◌≡◌, sym, ◌∙◌}
 use borrow.Author.Rules.{rules}

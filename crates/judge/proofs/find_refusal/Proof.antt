@@ -1,4 +1,4 @@
--- `step::judge::find_refusal` meets its contract. Assumes nothing.
+-- `judge::find_refusal` meets its contract. Assumes nothing.
 use mathlib.Core.Path.{sym, ◌∙◌}
 use borrow.Author.Rules.{rules}
 use Rattle.judge.proofs.RefusalParts.{admission_parts, find_names, find_inside, find_leaves, find_room}

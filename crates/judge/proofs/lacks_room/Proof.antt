@@ -1,4 +1,4 @@
--- `step::judge::lacks_room` meets its contract. Assumes nothing.
+-- `judge::lacks_room` meets its contract. Assumes nothing.
 use borrow.Author.Rules.{rules}
 use borrow.Author.Tests.{eq-eqb, ne_eqb}
 use Rattle.words.proofs.Tables.{length-entries}

@@ -1,4 +1,4 @@
--- `step::judge::notify_refusal` meets its contract. Assumes nothing.
+-- `judge::notify_refusal` meets its contract. Assumes nothing.
 use mathlib.Core.Path.{refl, ◌∙◌}
 use borrow.Author.Rules.{rules}
 use Rattle.judge.proofs.notify_refusal.Tie as tie

@@ -1,4 +1,4 @@
--- `step::judge::notify_room` meets its contract. Assumes nothing.
+-- `judge::notify_room` meets its contract. Assumes nothing.
 use mathlib.Core.Bool.{cond}
 use mathlib.Core.Path.{◌≡◌, sym, ◌∙◌}
 use borrow.Author.Rules.{rules}

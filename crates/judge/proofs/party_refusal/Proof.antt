@@ -1,4 +1,4 @@
--- `step::judge::party_refusal` meets its contract. Assumes nothing.
+-- `judge::party_refusal` meets its contract. Assumes nothing.
 use mathlib.Core.Path.{sym, ◌∙◌}
 use borrow.Author.Rules.{rules}
 use Rattle.judge.specs.Judge.{party_refusal}

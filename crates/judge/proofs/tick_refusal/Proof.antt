@@ -1,4 +1,4 @@
--- `step::judge::tick_refusal` meets its contract. Assumes nothing.
+-- `judge::tick_refusal` meets its contract. Assumes nothing.
 use mathlib.Core.Path.{refl, sym, ◌∙◌}
 use borrow.Author.Rules.{rules}
 use borrow.Author.Tests.{le-leb, lt-leb}

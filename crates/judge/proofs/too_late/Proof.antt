@@ -1,4 +1,4 @@
--- `step::judge::too_late` meets its contract. Assumes nothing.
+-- `judge::too_late` meets its contract. Assumes nothing.
 use mathlib.Core.Path.{sym}
 use native.Mathlib.Omega.{arith}
 use borrow.Author.Rules.{rules}

@@ -1,4 +1,4 @@
--- `step::judge::txn_refusal` meets its contract. Assumes nothing.
+-- `judge::txn_refusal` meets its contract. Assumes nothing.
 use Prim.Native.Nat.{ℕ}
 use mathlib.Core.Bool.{true, false, not, cond}
 use mathlib.Core.Path.{◌≡◌, sym, ap, ◌∙◌}

@@ -1,4 +1,4 @@
--- `step::judge::waits_already` meets its contract. The loop's invariant: none of the look-ups passed bars the frame.
+-- `judge::waits_already` meets its contract. The loop's invariant: none of the look-ups passed bars the frame.
 -- Assumes nothing.
 use Prim.Native.Nat.{◌≤◌, ◌-◌}
 use mathlib.Core.Path.{sym, ◌∙◌}

@@ -1,4 +1,4 @@
--- `step::judge::write_refusal` meets its contract. Assumes nothing.
+-- `judge::write_refusal` meets its contract. Assumes nothing.
 use mathlib.Core.Bool.{or-false}
 use mathlib.Core.Path.{refl, ◌∙◌}
 use borrow.Author.Rules.{rules}

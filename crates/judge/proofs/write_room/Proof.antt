@@ -1,4 +1,4 @@
--- `step::judge::write_room` meets its contract. Assumes nothing.
+-- `judge::write_room` meets its contract. Assumes nothing.
 use mathlib.Core.Bool.{cond, or-false}
 use mathlib.Core.Path.{◌≡◌, sym, ◌∙◌}
 use borrow.Author.Rules.{rules}

@@ -1,4 +1,4 @@
--- `step::answers::add_record` meets its contract. Assumes nothing.
+-- `finish::answers::add_record` meets its contract. Assumes nothing.
 use Prim.Native.Nat.{◌*◌}
 use mathlib.Core.Path.{refl, ap, ◌∙◌}
 use mathlib.Core.List.{◌++◌}

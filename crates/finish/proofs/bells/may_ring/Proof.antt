@@ -1,4 +1,4 @@
--- `step::bells::may_ring` meets its contract. Assumes nothing.
+-- `finish::bells::may_ring` meets its contract. Assumes nothing.
 use mathlib.Core.Bool.{not, ◌&&◌}
 use mathlib.Core.Path.{sym, ap, ◌∙◌}
 use borrow.Author.Rules.{rules}

@@ -1,4 +1,4 @@
--- `step::bells::put_bells` meets its contract. The loop's invariant: of the registrations passed, those with a count
+-- `finish::bells::put_bells` meets its contract. The loop's invariant: of the registrations passed, those with a count
 -- have their bells. Assumes nothing.
 use Prim.Native.Nat.{ℕ, ◌≤◌, ◌-◌}
 use mathlib.Core.Bool.{Bool, not}

@@ -1,4 +1,4 @@
--- `step::bells::serve_and_ring` meets its contract. Assumes nothing.
+-- `finish::bells::serve_and_ring` meets its contract. Assumes nothing.
 use mathlib.Core.Path.{◌≡◌, ap, ap₂, ◌∙◌}
 use native.Mathlib.Omega.{arith}
 use borrow.Author.Rules.{rules}

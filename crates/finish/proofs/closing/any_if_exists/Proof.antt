@@ -1,4 +1,4 @@
--- `step::closing::any_if_exists` meets its contract. The loop's invariant: none of the look-ups passed is of an
+-- `finish::closing::any_if_exists` meets its contract. The loop's invariant: none of the look-ups passed is of an
 -- IfExists kind. Assumes nothing.
 use Prim.Native.Nat.{◌≤◌, ◌-◌}
 use mathlib.Core.Path.{sym}

@@ -1,4 +1,4 @@
--- `step::closing::close_in_vain` meets its contract. Assumes nothing.
+-- `finish::closing::close_in_vain` meets its contract. Assumes nothing.
 use mathlib.Core.Path.{sym, ◌∙◌}
 use Rattle.finish.proofs.AddsLaws.{does-nothing}
 use borrow.Author.Rules.{rules}

@@ -1,4 +1,4 @@
--- `step::closing::close_waits` meets its contract. Assumes nothing.
+-- `finish::closing::close_waits` meets its contract. Assumes nothing.
 use native.Mathlib.Omega.{arith}
 use borrow.Author.Rules.{rules}
 use Rattle.rules.specs.Closing.{close_waits}

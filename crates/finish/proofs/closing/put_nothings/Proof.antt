@@ -1,4 +1,4 @@
--- `step::closing::put_nothings` meets its contract. The loop's invariant: of the look-ups passed, those that are over
+-- `finish::closing::put_nothings` meets its contract. The loop's invariant: of the look-ups passed, those that are over
 -- have their nothings. Assumes nothing.
 use Prim.Native.Nat.{◌≤◌, ◌-◌}
 use mathlib.Core.Path.{refl, sym, ap, ◌∙◌}

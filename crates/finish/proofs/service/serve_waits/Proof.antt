@@ -1,4 +1,4 @@
--- `step::service::serve_waits` meets its contract. The outer loop's invariant: the first i look-ups are gone through
+-- `finish::service::serve_waits` meets its contract. The outer loop's invariant: the first i look-ups are gone through
 -- (`Turns`). The inner loop's: nothing is changed yet, and none of the entries up to row j is available (`Looking`).
 -- Assumes nothing.
 use Prim.Native.Nat.{◌≤◌, ◌<◌, ◌-◌, ◌+◌, ◌*◌}

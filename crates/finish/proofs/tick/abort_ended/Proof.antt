@@ -1,4 +1,4 @@
--- `step::tick::abort_ended` meets its contract. Assumes nothing.
+-- `finish::tick::abort_ended` meets its contract. Assumes nothing.
 use Prim.Native.Nat.{◌<◌}
 use mathlib.Core.Path.{refl, sym, ap, ◌∙◌}
 use borrow.Author.Rules.{rules}

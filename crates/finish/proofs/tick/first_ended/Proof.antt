@@ -1,4 +1,4 @@
--- `step::tick::first_ended` meets its contract. Assumes nothing.
+-- `finish::tick::first_ended` meets its contract. Assumes nothing.
 use Prim.Native.Nat.{◌≤◌, ◌-◌}
 use mathlib.Core.Path.{◌≡◌, sym, ◌∙◌}
 use native.Mathlib.Omega.{arith}

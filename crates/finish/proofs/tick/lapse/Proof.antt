@@ -1,4 +1,4 @@
--- `step::tick::lapse` meets its contract. Assumes nothing.
+-- `finish::tick::lapse` meets its contract. Assumes nothing.
 use mathlib.Core.Path.{ap, ◌∙◌}
 use borrow.Author.Rules.{rules}
 use Rattle.rules.specs.Tick.{drop_ended, lapsed}

@@ -1,4 +1,4 @@
--- `step::tick::put_exceptions` meets its contract. The loop's invariant: of the transactions passed, those that end now
+-- `finish::tick::put_exceptions` meets its contract. The loop's invariant: of the transactions passed, those that end now
 -- have their exceptions. Assumes nothing.
 use Prim.Native.Nat.{ℕ, ◌≤◌, ◌-◌}
 use mathlib.Core.Bool.{Bool}
