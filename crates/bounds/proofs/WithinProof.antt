@@ -52,7 +52,7 @@ step-share ahead m f area b =
     omega (
       arith,
       (step_grown m f area).records,
-      within-share (kind_of f) b.bounded.registrations-fit b.notified,
+      within-share (kind_of f) b.bounded.registrations_fit b.notified,
     )
 
 few-records : (fs : List (List ℕ)) (ahead area : ℕ) (m : Model) → Before ahead m
@@ -128,16 +128,16 @@ before_empty =
       sound = sound_empty;
       bounded = record {
         entries_fit = omega arith;
-        txns-fit = omega arith;
-        waits-fit = omega arith;
-        registrations-fit = omega arith;
+        txns_fit = omega arith;
+        waits_fit = omega arith;
+        registrations_fit = omega arith;
       };
       notified = omega arith;
     }
 
-pub bounds-are-kept : BoundsAreKept
+pub bounds_are_kept : BoundsAreKept
 unfolding BoundsAreKept entries_bound records_bound area_for
-bounds-are-kept tray area fine =
+bounds_are_kept tray area fine =
     let fs = frames_of tray in
     let run = runs tray fine area in
     let through : area_for fs ≤ area → Through fs (run_tray tray area) = λ h.

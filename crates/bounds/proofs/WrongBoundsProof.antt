@@ -26,16 +26,16 @@ unfolding all-trays many bells_bound records_bound area_for
 wrong_bounds =
     record {
       -- created; ticked, exception
-      without-creates = λ kept. let few : 3 ≤ 2 = kept (create ∷ tick ∷ []) 1400 in omega (arith, few);
+      without_creates = λ kept. let few : 3 ≤ 2 = kept (create ∷ tick ∷ []) 1400 in omega (arith, few);
       -- waiting; ticked, nothing
       without_look_ups = λ kept. let few : 3 ≤ 2 = kept (long op_read 1 ∷ tick ∷ []) 1400 in omega (arith, few);
       -- notified; written, a bell
-      without-bells = λ kept.
+      without_bells = λ kept.
           let few : 3 ≤ 2 = kept (long op_notify forever ∷ long op_write forever ∷ []) 1400 in omega (arith, few);
       -- the notify comes behind the write
-      with_all-notifies = λ same.
+      with_all_notifies = λ same.
           let more : ◌≡◌ {A = ℕ} 3 2 = same (long op_write forever ∷ long op_notify forever ∷ []) in omega (arith, more);
       -- 28 bytes for a tick; 699
-      records-alone = λ enough. let stops : ◌≡◌ {A = ℕ} 1 0 = enough (tick ∷ []) in omega (arith, stops);
-      a-byte-less = λ enough. let stops : ◌≡◌ {A = ℕ} 1 0 = enough (tick ∷ tick ∷ []) in omega (arith, stops);
+      records_alone = λ enough. let stops : ◌≡◌ {A = ℕ} 1 0 = enough (tick ∷ []) in omega (arith, stops);
+      a_byte_less = λ enough. let stops : ◌≡◌ {A = ℕ} 1 0 = enough (tick ∷ tick ∷ []) in omega (arith, stops);
     }

@@ -16,14 +16,14 @@ Suffices size = (fs : List (List ℕ)) → (run_frames empty (size fs) fs).numbe
 
 pub record WrongBounds : Type 0 where
   -- exceptions come besides
-  pub without-creates : Kept (λ fs. length fs + many is_look_up fs + bells_bound 0 fs) → ⊥
+  pub without_creates : Kept (λ fs. length fs + many is_look_up fs + bells_bound 0 fs) → ⊥
   -- later answers come besides
   pub without_look_ups : Kept (λ fs. length fs + many is_create fs + bells_bound 0 fs) → ⊥
   -- bells come besides
-  pub without-bells : Kept (λ fs. length fs + many is_look_up fs + many is_create fs) → ⊥
+  pub without_bells : Kept (λ fs. length fs + many is_look_up fs + many is_create fs) → ⊥
   -- "the notify frames ahead of it", not all of them
-  pub with_all-notifies : ((fs : List (List ℕ))
+  pub with_all_notifies : ((fs : List (List ℕ))
       → length fs + many is_look_up fs + many is_create fs + bells_bound (many is_notify fs) fs ≡ records_bound fs) → ⊥
   -- the records within the bound are no bound for the area, nor is a byte less than what suffices
-  pub records-alone : Suffices (λ fs. 28 * records_bound fs) → ⊥
-  pub a-byte-less : Suffices (λ fs. area_for fs - 1) → ⊥
+  pub records_alone : Suffices (λ fs. 28 * records_bound fs) → ⊥
+  pub a_byte_less : Suffices (λ fs. area_for fs - 1) → ⊥

@@ -65,7 +65,7 @@ each-asked m f s a =
 permitted : (m n : Model) (w : LookUp) → m ≡ (close_waits n).model → some_available n.txns w n.entries ≡ false
     → Closes n w → Permitted m w
 unfolding close_waits
-permitted m n w q u c = subst⁻¹ (λ k. Permitted k w) q (record { none-available = u; in_vain = c })
+permitted m n w q u c = subst⁻¹ (λ k. Permitted k w) q (record { none_available = u; in_vain = c })
 
 pub nothing_left : (m : Model) → Sound m → (bs : List ℕ) (area : ℕ) → refusal m bs area ≡ 0
     → NothingLeft (asked m (decode bs)) (step m bs area).records (step m bs area).model

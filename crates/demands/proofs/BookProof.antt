@@ -99,7 +99,7 @@ booked : {b : Book} {m : Model} → Written b.writers m.entries → b.right ≡ 
     → Booked b m
 unfolding told
 booked s r c e t l w =
-    record { right = r; clock = c; next-entry = e; next-txn = t; writers = s; live = l; waiting = w }
+    record { right = r; clock = c; next_entry_lem = e; next_txn_lem = t; writers = s; live = l; waiting = w }
 
 -- a new entry has a number that no other has
 written_next : (f : Frame) (m : Model) (ws : List WrittenBy) → All (λ e. e.id.0 < m.next_entry) m.entries
@@ -132,59 +132,59 @@ book_event : {f : Frame} {m n : Model} {hs : List Heard} (b : Book) → Event f 
 unfolding books enters told written stored found nothing waiting created create committed commit aborted abort exception
     renewed renew notified notify rung heard_of ticked tick unregistered refused drop_ended look_up_of
 book_event {f} b (refuses m bs area q) s h =
-    booked (told-still {f = f} (refuses m bs area q) s h refl) (fine h) h.clock h.next-entry h.next-txn
+    booked (told-still {f = f} (refuses m bs area q) s h refl) (fine h) h.clock h.next_entry_lem h.next_txn_lem
     h.live h.waiting
 book_event {f} b (asks m t a) s h =
-    booked (told-still {f = f} (asks m t a) s h refl) h.right h.clock h.next-entry h.next-txn h.live
+    booked (told-still {f = f} (asks m t a) s h refl) h.right h.clock h.next_entry_lem h.next_txn_lem h.live
     (ap₂ (λ (l : List LookUp) (n : ℕ). l ++ (look_up_of (with_clock n empty) f ∷ [])) h.waiting h.clock)
 book_event {f} b (writes m t a) s h =
     booked (written_all (λ k x w. w ≡ writer_of k (record { number = m.next_entry; party = f.party } ∷ b.writers))
     (writes m t a) s.ordered (λ _ _. new f m b) (written_next f m b.writers s.below h.writers))
-    (counted h m.next_entry b.next_entry (sym h.next-entry)) h.clock (ap (λ n. n + 1) h.next-entry)
-    h.next-txn h.live h.waiting
+    (counted h m.next_entry b.next_entry (sym h.next_entry_lem)) h.clock (ap (λ n. n + 1) h.next_entry_lem)
+    h.next_txn_lem h.live h.waiting
 book_event {f} b (is_found m w x ws o i av) s h =
     let r = named (found w x) w (itself w) s.each o in
     booked (told-still {f = f} (is_found m w x ws o i av) s h refl)
-    (counted h _ 1 (ap (count (names (found w x))) h.waiting ∙ r.1)) h.clock h.next-entry h.next-txn
+    (counted h _ 1 (ap (count (names (found w x))) h.waiting ∙ r.1)) h.clock h.next_entry_lem h.next_txn_lem
     h.live (ap (filterb (λ v. not (names (found w x) v))) h.waiting ∙ r.0)
 book_event {f} b (is_nothing m w ws o c) s h =
     let r = named (nothing w) w (itself w) s.each o in
     booked (told-still {f = f} (is_nothing m w ws o c) s h refl)
-    (counted h _ 1 (ap (count (names (nothing w))) h.waiting ∙ r.1)) h.clock h.next-entry h.next-txn
+    (counted h _ 1 (ap (count (names (nothing w))) h.waiting ∙ r.1)) h.clock h.next_entry_lem h.next_txn_lem
     h.live (ap (filterb (λ v. not (names (nothing w) v))) h.waiting ∙ r.0)
 book_event {f} b (is_waiting m w i q n d c) s h =
-    booked (told-still {f = f} (is_waiting m w i q n d c) s h refl) (fine h) h.clock h.next-entry h.next-txn
+    booked (told-still {f = f} (is_waiting m w i q n d c) s h refl) (fine h) h.clock h.next_entry_lem h.next_txn_lem
     h.live h.waiting
 book_event {f} b (creates m t a) s h =
-    booked (told-still {f = f} (creates m t a) s h refl) (counted h m.next_txn b.next_txn (sym h.next-txn))
-    h.clock h.next-entry
-    (ap (λ n. n + 1) h.next-txn) (ap₂ (λ (l : List LiveTold) (k : ℕ).
+    booked (told-still {f = f} (creates m t a) s h refl) (counted h m.next_txn b.next_txn (sym h.next_txn_lem))
+    h.clock h.next_entry_lem
+    (ap (λ n. n + 1) h.next_txn_lem) (ap₂ (λ (l : List LiveTold) (k : ℕ).
     l ++ (record { number = m.next_txn; party = f.party; end = until k f.lease_or_timeout } ∷ []))
     h.live h.clock ∙ sym (map-append told m.txns _)) h.waiting
 book_event {f} b (commits m t a) s h =
-    booked (told-still {f = f} (commits m t a) s h refl) (fine h) h.clock h.next-entry h.next-txn
+    booked (told-still {f = f} (commits m t a) s h refl) (fine h) h.clock h.next_entry_lem h.next_txn_lem
     (ended h f.txn) h.waiting
 book_event {f} b (aborts m t a) s h =
-    booked (told-still {f = f} (aborts m t a) s h refl) (fine h) h.clock h.next-entry h.next-txn
+    booked (told-still {f = f} (aborts m t a) s h refl) (fine h) h.clock h.next_entry_lem h.next_txn_lem
     (ended h f.txn)
     (ap (filterb (λ (w : LookUp). not (eqb w.txn.0 f.txn))) h.waiting)
 book_event {f} b (renews m t a) s h =
-    booked (told-still {f = f} (renews m t a) s h refl) (fine h) h.clock h.next-entry h.next-txn h.live
+    booked (told-still {f = f} (renews m t a) s h refl) (fine h) h.clock h.next_entry_lem h.next_txn_lem h.live
     h.waiting
 book_event {f} b (notifies m t a) s h =
-    booked (told-still {f = f} (notifies m t a) s h refl) (fine h) h.clock h.next-entry h.next-txn h.live
+    booked (told-still {f = f} (notifies m t a) s h refl) (fine h) h.clock h.next_entry_lem h.next_txn_lem h.live
     h.waiting
 book_event {f} b (ticks m t a) s h =
-    booked (told-still {f = f} (ticks m t a) s h refl) (fine h) (ap (λ n. n + 1) h.clock) h.next-entry
-    h.next-txn h.live h.waiting
+    booked (told-still {f = f} (ticks m t a) s h refl) (fine h) (ap (λ n. n + 1) h.clock) h.next_entry_lem
+    h.next_txn_lem h.live h.waiting
 book_event {f} b (excepts m t k i r) s h =
-    booked (told-still {f = f} (excepts m t k i r) s h refl) (fine h) h.clock h.next-entry h.next-txn
+    booked (told-still {f = f} (excepts m t k i r) s h refl) (fine h) h.clock h.next_entry_lem h.next_txn_lem
     (ended h t.id.0)
     (ap (filterb (λ (w : LookUp). not (eqb w.txn.0 t.id.0))) h.waiting)
 book_event {f} b (expires m k) s h = booked (told-still {f = f} (expires m k) s h refl) h.right h.clock
-    h.next-entry h.next-txn h.live h.waiting
+    h.next_entry_lem h.next_txn_lem h.live h.waiting
 book_event {f} b (rings m c g i l) s h =
-    booked (told-still {f = f} (rings m c g i l) s h refl) (fine h) h.clock h.next-entry h.next-txn
+    booked (told-still {f = f} (rings m c g i l) s h refl) (fine h) h.clock h.next_entry_lem h.next_txn_lem
     h.live h.waiting
 
 pub book_demand : (is : List Input) → Booked (book_of (runs empty is).log) (made is)

@@ -102,12 +102,12 @@ module _ {n : ℕ} {ts : List Txn} (ok : TxnsOk n ts) (e : Entry) (live : (p : �
   )
 
 pub readers_are_live : (is : List Input) → ReadByLive (made is)
-readers_are_live is e t i = read_by_live (consistent is).txns-ok e ((consistent is).held e i).readers t
+readers_are_live is e t i = read_by_live (consistent is).txns_ok e ((consistent is).held e i).readers t
 
 -- "T's own take hold makes an entry neither available nor conflicting."
-pub own-take_hold : (is : List Input) → OwnTakeHold (made is)
+pub own_take_hold : (is : List Input) → OwnTakeHold (made is)
 unfolding conflicts
-own-take_hold is w e i z q = (not_so _ (λ t. let f = (available_free m.txns w e t).untaken in omega arith), calm)
+own_take_hold is w e i z q = (not_so _ (λ t. let f = (available_free m.txns w e t).untaken in omega arith), calm)
   where
     m : Model
     m = made is

@@ -15,8 +15,8 @@ bounded is =
       sound_empty,
       record {
         entries_fit = omega arith;
-        txns-fit = omega arith;
-        waits-fit = omega arith;
-        registrations-fit = omega arith;
+        txns_fit = omega arith;
+        waits_fit = omega arith;
+        registrations_fit = omega arith;
       },
     ) is).1

@@ -51,7 +51,7 @@ answered_twins f {m} {n} {u} {o} {rs} t t' a =
 permitted_twins : {m n : Model} {w : LookUp} → Twins m n → Permitted n w → Permitted m w
 permitted_twins {m} {n} {w} t p =
     record {
-      none-available = available_in t.peers t.entries w ∙ p.none-available;
+      none_available = available_in t.peers t.entries w ∙ p.none_available;
       in_vain =
           ⊎_elim (λ r. inl (ap (λ (k : Model). reached k.clock w.deadline) t.same ∙ r))
           (λ r. inr (r.0, conflicts_in t.peers t.entries w ∙ r.1)) p.in_vain;
@@ -78,10 +78,10 @@ every_consequence S d1 d2 =
           let b = beside S d1 d2 made p in
           answered_twins (decode h.frame) b.here b.there
           (rules_follow_on.found_exactly log b.before b.after h a b.run b.steps (sym b.carried ∙ z) l);
-      nothing-only = λ log t u h a made p z w i j.
+      nothing_only = λ log t u h a made p z w i j.
           let b = beside S d1 d2 made p in
           permitted_twins b.there
-          (rules_follow_on.nothing-only log b.before b.after h a b.run b.steps (sym b.carried ∙ z) w
+          (rules_follow_on.nothing_only log b.before b.after h a b.run b.steps (sym b.carried ∙ z) w
           (subst (λ (ws : List LookUp). Memᴰ w ws) (asked-same (decode h.frame) b.here) i) j);
       in_time = λ log t u h a made p later v rest z l d.
           let b = beside S d1 d2 made p in
@@ -95,9 +95,9 @@ every_consequence S d1 d2 =
           let among : (w : LookUp) → Memᴰ w (S.view t).waits → Memᴰ w d.0.waits =
           λ w i. subst (λ (x : Model). Memᴰ w x.waits) k.same i in
           record {
-            none-available = λ w i. available_in k.peers k.entries w ∙ s.none-available w (among w i);
-            not-reached = λ w i.
-                ap (λ (x : Model). reached x.clock w.deadline) k.same ∙ s.not-reached w (among w i);
+            none_available = λ w i. available_in k.peers k.entries w ∙ s.none_available w (among w i);
+            not_reached = λ w i.
+                ap (λ (x : Model). reached x.clock w.deadline) k.same ∙ s.not_reached w (among w i);
             not_in_vain = λ w i e. conflicts_in k.peers k.entries w ∙ s.not_in_vain w (among w i) e;
           };
       one_each = λ log t made.

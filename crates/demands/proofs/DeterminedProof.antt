@@ -106,10 +106,10 @@ module _ {b : Book} {r : Run} {m n : Model} (p : Booked b m) (q : Booked b n) (x
   entries-told =
       record {
         forth = λ e i.
-            let z = x.stored-told e i in let u = y.told-stored z.0 z.1 in
+            let z = x.stored_told e i in let u = y.told_stored z.0 z.1 in
             (u.0, u.1, like_told e u.0 i u.1 z.0 z.2 u.2);
         back = λ u j.
-            let z = y.stored-told u j in let e = x.told-stored z.0 z.1 in
+            let z = y.stored_told u j in let e = x.told_stored z.0 z.1 in
             (e.0, e.1, like_told e.0 u e.1 j z.0 e.2 z.2);
       }
 
@@ -118,8 +118,8 @@ twins_told : {b : Book} {r : Run} {g : Registry} (m n : Model) → Booked b m �
 twins_told m n p q x y k l s =
     let live = sym p.live ∙ q.live in
     let clock = sym p.clock ∙ q.clock in
-    let entry = sym p.next-entry ∙ q.next-entry in
-    let txn = sym p.next-txn ∙ q.next-txn in
+    let entry = sym p.next_entry_lem ∙ q.next_entry_lem in
+    let txn = sym p.next_txn_lem ∙ q.next_txn_lem in
     let waits = sym p.waiting ∙ q.waiting in
     let registration = sym k.next ∙ l.next in
     let registrations = k.live ∙ sym l.live in
@@ -129,8 +129,8 @@ twins_told m n p q x y k l s =
         counted = subst⁻¹ (λ k. 0 < k) txn s.positive;
         ok =
             subst⁻¹ (λ k. TxnsOk k m.txns) txn
-            (ok-told n.next_txn m.txns n.txns live s.txns-ok s.ordered.txns x.own-slot);
-        ok' = subst⁻¹ (λ k. TxnsOk k n.txns) txn s.txns-ok;
+            (ok-told n.next_txn m.txns n.txns live s.txns_ok s.ordered.txns x.own_slot);
+        ok' = subst⁻¹ (λ k. TxnsOk k n.txns) txn s.txns_ok;
         live = live;
       };
       entries = entries-told p q x y;
@@ -174,8 +174,8 @@ refusal-same m n bs area t entries unique =
     let f = decode bs in
     let waits : m.waits ≡ n.waits = ap (λ k. k.waits) t.same in
     let clock : m.clock ≡ n.clock = ap (λ k. k.clock) t.same in
-    let next-entry : m.next_entry ≡ n.next_entry = ap (λ k. k.next_entry) t.same in
-    let next-txn : m.next_txn ≡ n.next_txn = ap (λ k. k.next_txn) t.same in
+    let next_entry_lem : m.next_entry ≡ n.next_entry = ap (λ k. k.next_entry) t.same in
+    let next_txn_lem : m.next_txn ≡ n.next_txn = ap (λ k. k.next_txn) t.same in
     let next-registration : m.next_registration ≡ n.next_registration = ap (λ k. k.next_registration) t.same in
     let registrations : m.registrations ≡ n.registrations = ap (λ k. k.registrations) t.same in
     let live = t.peers.live in
@@ -206,8 +206,8 @@ refusal-same m n bs area t entries unique =
       entries,
       txns,
       registrations,
-      next-entry,
-      next-txn,
+      next_entry_lem,
+      next_txn_lem,
       next-registration,
     )
   where
@@ -291,7 +291,7 @@ module _ (S : Machine) (d1 : Demand1 S) (d2 : Demand2 S) where
       judged = d1.judged log t u h a made p
 
       number : a.number ≡ code
-      number = judged.first-row ∙ same-refusal h
+      number = judged.first_row ∙ same-refusal h
 
       -- the rules write the same records
       same-records : a.records ≡ (step n h.frame (length h.area)).records
@@ -392,9 +392,9 @@ every_serial S d1 d2 log t made =
     let s = follows_3 the_rules rules_follow log d.0 d.1 in
     record {
       succeeds = s.succeeds;
-      taken-once = s.taken-once;
-      left-once = s.left-once;
-      committed-once =
+      taken_once = s.taken_once;
+      left_once = s.left_once;
+      committed_once =
           ap distinct (committed-numbers (filterb (is_private_to 0) (S.view t).entries))
           ∙ distinct_filter (λ (e : Entry). e.id.0) (is_private_to 0) (S.view t).entries (d2.told log t made).once;
       same = λ k. (

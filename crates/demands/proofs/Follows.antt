@@ -42,7 +42,7 @@ use Rattle.demands.proofs.ByRule.{ByRule, Follows, run_to, run_of, made-sound}
 use Rattle.demands.proofs.Capacities.{bounded}
 use Rattle.demands.proofs.JudgedProof.{number_is, one_is, refused_record, no_record}
 use Rattle.demands.proofs.OldestLaws.{answered_now}
-use Rattle.demands.proofs.BoundsProof.{numbers_ascend, timely, readers_are_live, own-take_hold}
+use Rattle.demands.proofs.BoundsProof.{numbers_ascend, timely, readers_are_live, own_take_hold}
 use Rattle.sound.proofs.OrderLaws.{InOrder}
 use Rattle.demands.proofs.ByEvents.{orderly, sound}
 use Rattle.demands.proofs.SaidProof.{step-said}
@@ -119,7 +119,7 @@ module _ (S : Machine) (f : Follows S) where
       let fits = records-room m h.frame n (made-sound S f r) (of_made Bounded bounded r) in
       let room : 28 * length a.records ≤ n = subst⁻¹ (λ (rs : List Record). 28 * length rs ≤ n) q.records fits in
       record {
-        first-row = number;
+        first_row = number;
         unchanged = q.unchanged;
         one_record = λ x y.
             q.records
@@ -189,13 +189,13 @@ module _ (S : Machine) (f : Follows S) where
             (λ t h rs m. CarriedOut S t h → is_look_up (frame_in h).op ≡ true
             → AnsweredNow (S.view t) (look_up_of (S.view t) (frame_in h)) (frame_in h).lease_or_timeout rs m)
             (λ log t u h a r q. answered_now (S.view t) h.frame (length h.area) (of_made InOrder orderly r));
-        nothing-only = of_step (λ t h rs m. CarriedOut S t h → NothingLeft (asked (S.view t) (frame_in h)) rs m)
+        nothing_only = of_step (λ t h rs m. CarriedOut S t h → NothingLeft (asked (S.view t) (frame_in h)) rs m)
             (λ log t u h a r q. nothing_left (S.view t) (of_made Sound sound r) h.frame
             (length h.area));
         in_time = closed_in_time;
         settled = λ log t r.
             let s = of_made Sound sound r in
-            record { none-available = s.none_for; not-reached = s.ahead; not_in_vain = s.hopeful };
+            record { none_available = s.none_for; not_reached = s.ahead; not_in_vain = s.hopeful };
         one_each = λ log t r. (of_made Sound sound r).consistent.each;
         few = of_step (λ t h rs m. length rs ≤ 25)
             (λ log t u h a r q. (step_fits (S.view t) h.frame (length h.area) (made-sound S f r)
@@ -210,7 +210,7 @@ module _ (S : Machine) (f : Follows S) where
         by_number = λ log t r. of_made ByNumber numbers_ascend r;
         timely = λ log t r. of_made Timely timely r;
         read_by_live = λ log t r. of_made ReadByLive readers_are_live r;
-        own-take_hold = λ log t r. of_made OwnTakeHold own-take_hold r;
+        own_take_hold = λ log t r. of_made OwnTakeHold own_take_hold r;
         in_range = λ log t r h.
             let q = run_of S f r in
             let bytes = subst (λ (l : List Logged). (x : Logged) → Memᴰ x l → AreBytes x.frame) q.log_is h in

@@ -101,7 +101,7 @@ module _ (f : Frame) (a : Record) (m n : Model) (r : Run) (es : List Entry) (s :
   unfolding published
   published-count p =
       let ks = filterb fresh (left (follow f a r)) in
-      let less = count-within p ks (map kept_of es) (distinct_filter number fresh (left (follow f a r)) t.left-once)
+      let less = count-within p ks (map kept_of es) (distinct_filter number fresh (left (follow f a r)) t.left_once)
       published_in in
       let more = count-within p (map kept_of es) ks h.once in_published in
       omega arith

@@ -154,7 +154,7 @@ unfolding answered_by
 by_judged does d fs f =
     let before = last_of does empty fs in
     (d.judged (log_of does empty fs) before (does before f 700).model (hand_in f) (answer_to does before f)
-    (from_empty does fs) (one-step does before f)).first-row
+    (from_empty does fs) (one-step does before f)).first_row
 
 abbrev parties : List ℕ
 parties = 1 ∷ 2 ∷ 3 ∷ 4 ∷ 5 ∷ 6 ∷ 7 ∷ 8 ∷ 9 ∷ 10 ∷ 11 ∷ 12 ∷ 13 ∷ 14 ∷ 15 ∷ 16 ∷ []
@@ -190,8 +190,8 @@ each-ruled_out =
           let x : Told = record { kept = a_kept; private_to = 0; takers = []; readers = [] } in
           let s =
           d.told (log_of stores_nothing empty fs) (last_of stores_nothing empty fs) (from_empty stores_nothing fs) in
-          Memᴰ.not-nil (s.told-stored x (Memᴰ.head refl)).1;
-      first-frame-only = λ d.
+          Memᴰ.not-nil (s.told_stored x (Memᴰ.head refl)).1;
+      first_frame_only_lem = λ d.
           by_said first_frame_only d (write_by 1 0 9 E ∷ []) (read_by 2 0 0 7) refl refl (kind_at 0)
           (λ (q : 2 ≡ 15). omega arith);
       invented_count_lem = λ d.
@@ -210,11 +210,11 @@ each-ruled_out =
           by_serial puts_back_late d (write_by 1 0 1 E ∷ create_by 1 9 ∷ take_by 1 1 0 7 ∷ a_tick ∷ abort_by 1 1 ∷ []) in
           Memᴰ.not-nil ((s.same (record { number = 1; fields = mark_of 0 E; end = Tick 1 })).1
           (Memᴰ.head refl));
-      own-read-bars = λ d.
+      own_read_bars_lem = λ d.
           by_said own_read_bars d (write_by 1 0 9 E ∷ create_by 1 9 ∷ read_by 1 1 0 7 ∷ []) (take_by 1 1 0 7) refl refl
           (kind_at 0) (λ (q : 2 ≡ 3). omega arith);
       -- party 2's take is given nothing in the tick that gives the entry back
-      nothing-first = λ d.
+      nothing_first_lem = λ d.
           by_said nothing_first d (write_by 1 0 9 E ∷ create_by 1 1 ∷ take_by 1 1 0 7 ∷ take_by 2 0 1 7 ∷ []) a_tick refl
           refl (kind_at 2) (λ (q : 2 ≡ 3). omega arith);
       -- the found stands before the commit of what it finds: the serial run fails
@@ -224,19 +224,19 @@ each-ruled_out =
       ignores_writes_lem = λ d.
           by_said ignores_writes d [] (write_by 1 0 9 E) refl refl length (λ (q : 1 ≡ 0). omega arith);
       writes_twice_lem = λ d. by_said writes_twice d [] (write_by 1 0 9 E) refl refl length (λ (q : 1 ≡ 2). omega arith);
-      ticks-at-writes = λ d.
+      ticks_at_writes_lem = λ d.
           by_said ticks_at_writes d [] (write_by 1 0 9 E) refl refl length (λ (q : 1 ≡ 2). omega arith);
       -- the transaction's exception is missing
       never_expires_lem = λ d.
           by_said never_expires d (create_by 1 1 ∷ []) a_tick refl refl length (λ (q : 2 ≡ 1). omega arith);
-      last-exception-first = λ d.
+      last_exception_first_lem = λ d.
           by_said last_exception_first d (create_by 1 1 ∷ create_by 2 1 ∷ []) a_tick refl refl (party_at 1)
           (λ (q : 1 ≡ 2). omega arith);
-      last-served-first = λ d.
+      last_served_first_lem = λ d.
           by_said last_served_first d (take_by 2 0 9 7 ∷ take_by 3 0 9 7 ∷ []) (write_by 1 0 9 E) refl refl (party_at 1)
           (λ (q : 2 ≡ 3). omega arith);
       -- E is given back in the tick of its end, and found
-      serves-ended = λ d.
+      serves_ended_lem = λ d.
           by_said serves_ended d (write_by 1 0 1 E ∷ create_by 1 1 ∷ take_by 1 1 0 7 ∷ take_by 2 0 9 7 ∷ []) a_tick refl
           refl length (λ (q : 2 ≡ 3). omega arith);
       -- of two entries the second is handed out
@@ -247,14 +247,14 @@ each-ruled_out =
           by_said newest_in_service d (take_by 2 0 9 7 ∷ create_by 1 9 ∷ write_by 1 1 9 E ∷ write_by 1 1 9 E ∷ [])
           (commit_by 1 1) refl refl (entry_at 1) (λ (q : 1 ≡ 2). omega arith);
       -- refused with 7 where its length is wrong
-      takes-long-commits = λ d.
+      takes_long_commits_lem = λ d.
           let q : ◌≡◌ {A = ℕ} 7 3 = by_judged takes_long_commits d [] (commit_by 1 1 ++ four_bytes 0) in omega arith;
       -- sixteen wait; a look-up of one of them is refused with 6
       gives_14 = λ d.
           let q : ◌≡◌ {A = ℕ} 14 6 = by_judged gives14 d (map (λ p. take_by p 0 9 7) parties) (take_by 1 0 9 7) in
           omega arith;
       -- the book has nobody waiting after the abort
-      keeps-withdrawn = λ d.
+      keeps_withdrawn_lem = λ d.
           let fs = create_by 1 9 ∷ take_by 1 1 9 7 ∷ abort_by 1 1 ∷ [] in
           let b =
           d.booked (log_of keeps_withdrawn empty fs) (last_of keeps_withdrawn empty fs) (from_empty keeps_withdrawn fs) in
@@ -263,7 +263,7 @@ each-ruled_out =
           by_said withdrawn_gets_nothing d (create_by 1 9 ∷ take_by 1 1 9 7 ∷ []) (abort_by 1 1) refl refl length
           (λ (q : 1 ≡ 2). omega arith);
       -- party 1 waits in transaction 1, and aborts transaction 2
-      aborts-any = λ d.
+      aborts_any_lem = λ d.
           let q : ◌≡◌ {A = ℕ} 0 6 =
           by_judged aborts_any d (create_by 1 9 ∷ create_by 1 9 ∷ take_by 1 1 9 7 ∷ []) (abort_by 1 2) in omega arith;
       -- the entry that party 2 asks for is taken by the transaction that wrote it: no point in waiting on
@@ -280,7 +280,7 @@ each-ruled_out =
           (create_by 1 9 ∷ write_by 1 1 9 E ∷ read_if_exists_by 3 0 9 7 ∷ read_if_exists_by 2 0 9 7 ∷ []) (abort_by 1 1)
           refl refl (party_at 1) (λ (q : 3 ≡ 2). omega arith);
       -- a mark without a kind is found by kind 0
-      matches-blanks = λ d.
+      matches_blanks_lem = λ d.
           by_said matches_blanks d (write_blank 1 0 9 1 no_fields ∷ []) (read_by 2 0 0 0) refl refl (kind_at 0)
           (λ (q : 3 ≡ 2). omega arith);
       -- the plain set has it without a place, the space with place 0
@@ -292,7 +292,7 @@ each-ruled_out =
       leaves_byte_3 = λ d.
           by_said leaves_byte3 d (write_blank 1 0 9 8 (F 7 1 40 0) ∷ []) (read_by 2 0 0 7) refl refl (blanks_at 0)
           (λ (q : 8 ≡ 0). omega arith);
-      takes-filled-blanks = λ d.
+      takes_filled_blanks_lem = λ d.
           let q : ◌≡◌ {A = ℕ} 0 4 = by_judged takes_filled_blanks d [] (write_blank 1 0 9 1 E) in omega arith;
       refuses_blanks_lem = λ d.
           let q : ◌≡◌ {A = ℕ} 4 0 = by_judged refuses_blanks d [] (write_blank 1 0 9 8 (F 7 1 40 0)) in omega arith;
@@ -301,17 +301,17 @@ each-ruled_out =
           let s = by_serial renews_from_the_write d (write_by 1 0 9 E ∷ renew_by 1 1 5 ∷ []) in
           let k : Kept = record { number = 1; fields = mark_of 0 E; end = Tick 5 } in
           true≢false (none_mem (λ x. reached 13 x.end) refl ((s.same k).0 (Memᴰ.head refl)));
-      renews-held = λ d.
+      renews_held_lem = λ d.
           let q : ◌≡◌ {A = ℕ} 0 20 =
           by_judged renews_held d (write_by 1 0 9 E ∷ create_by 2 9 ∷ read_by 2 1 0 7 ∷ []) (renew_by 1 1 5) in omega
           arith;
       renews_anothers_lem = λ d.
           let q : ◌≡◌ {A = ℕ} 0 19 = by_judged renews_anothers d (write_by 1 0 9 E ∷ []) (renew_by 2 1 5) in omega arith;
       -- what is told ends now, and is stored
-      leaves-lease_0 = λ d.
+      leaves_lease_0 = λ d.
           let fs = write_by 1 0 9 E ∷ renew_by 1 1 0 ∷ [] in
           let s = d.told (log_of leaves_lease0 empty fs) (last_of leaves_lease0 empty fs) (from_empty leaves_lease0 fs) in
-          Memᴰ.not-nil (s.stored-told _ (Memᴰ.head refl)).1;
+          Memᴰ.not-nil (s.stored_told _ (Memᴰ.head refl)).1;
       forgets_writer_lem = λ d.
           let fs = create_by 1 9 ∷ write_by 1 1 9 E ∷ commit_by 1 1 ∷ [] in
           let b =
@@ -325,7 +325,7 @@ each-ruled_out =
       rings_for_each_lem = λ d.
           by_said rings_for_each d (notify_by 2 9 7 ∷ create_by 1 9 ∷ write_by 1 1 9 E ∷ write_by 1 1 9 E ∷ [])
           (commit_by 1 1) refl refl length (λ (q : 2 ≡ 3). omega arith);
-      rings-first = λ d.
+      rings_first_lem = λ d.
           by_said rings_first d (notify_by 2 9 7 ∷ take_by 3 0 9 7 ∷ []) (write_by 1 0 9 E) refl refl (kind_at 1)
           (λ (q : 2 ≡ 11). omega arith);
       -- the second bell says 2 in all
@@ -348,5 +348,5 @@ each-ruled_out =
       arcs_go_round_lem = λ d.
           by_said arcs_go_round d (write_by 1 0 9 (F 7 1 40 720) ∷ []) (read_arc 2 0 0 0 0) refl refl (kind_at 0)
           (λ (q : 3 ≡ 2). omega arith);
-      answers-none = λ d. (d.answers [] empty (empty, refl, begun empty) (hand_in a_tick)).2;
+      answers_none = λ d. (d.answers [] empty (empty, refl, begun empty) (hand_in a_tick)).2;
     }

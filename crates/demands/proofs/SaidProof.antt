@@ -33,9 +33,9 @@ use Rattle.rules.proofs.LayoutLaws.{look_up_cases, write-serves, look_up-serves,
 use Rattle.rules.proofs.LayoutLaws.{abort-serves, renew-serves, notify-serves, tick-serves}
 use Rattle.rules.proofs.StepCases.{own_cases, serve_ind, serve-none, serve_some}
 use Rattle.rules.proofs.RefusalLaws.{clear, is_one}
-use Rattle.demands.specs.Said.{end_now, entries_left, in_vain, Own, writes, finds, finds-none, waits, creates}
+use Rattle.demands.specs.Said.{end_now, entries_left, in_vain, Own, writes, finds, finds_none, waits, creates}
 use Rattle.demands.specs.Said.{commits, aborts, renews, notifies, ticks, Serves, gone_through, is_found, waits_on}
-use Rattle.demands.specs.Said.{is_served, bell, Service, follows, follows-not, exceptions, lapsed, nothings, Ends}
+use Rattle.demands.specs.Said.{is_served, bell, Service, follows, follows_not, exceptions, lapsed, nothings, Ends}
 use Rattle.demands.specs.Said.{in_order, Said, own_first}
 use Rattle.sound.proofs.OrderLaws.{Numbered, InOrder, numbered-filter, handed-numbered, freed_numbered, stored-order}
 use Rattle.sound.proofs.OrderLaws.{renewed-numbered}
@@ -57,7 +57,7 @@ module _ (f : Frame) where
 own-serves : {f : Frame} {m n : Model} {a : Record} → Own f m a n → serves f ≡ is_served f
 own-serves {f} (writes t) = write-serves f t ∙ sym (served-at f (eqb-true f.op 1 t))
 own-serves {f} (finds e t o) = look_up-serves f t ∙ sym (look_up-not-served f t)
-own-serves {f} (finds-none t u g) = look_up-serves f t ∙ sym (look_up-not-served f t)
+own-serves {f} (finds_none t u g) = look_up-serves f t ∙ sym (look_up-not-served f t)
 own-serves {f} (waits t u g) = look_up-serves f t ∙ sym (look_up-not-served f t)
 own-serves {f} (creates t) = create-serves f t ∙ sym (served-at f (eqb-true f.op 6 t))
 own-serves {f} (commits t) = commit-serves f t ∙ sym (served-at f (eqb-true f.op 7 t))
@@ -107,7 +107,7 @@ own-order : {f : Frame} {m n : Model} {a : Record} → Own f m a n → InOrder m
 unfolding stored heard_of create commit abort renew notify tick unregistered
 own-order {f} {m} (writes t) h = stored-order m f h
 own-order {f} {m} (finds e t o) h = handed-numbered m.txns (look_up_of m f) e m.entries h
-own-order (finds-none t u g) h = h
+own-order (finds_none t u g) h = h
 own-order (waits t u g) h = h
 own-order (creates t) h = h
 own-order {f} {m} (commits t) h = freed_numbered m.txns f.txn _ m.entries h
@@ -137,7 +137,7 @@ answer-own f m h t (some e) q = finds e t (oldest-said h q)
 answer-own f m h t none q =
     let u = none_any (available m.txns (look_up_of m f)) m.entries q in
     cond_cases (λ (c : Carried). Own f m c.own c.model) (gives_nothing m (look_up_of m f) f.lease_or_timeout)
-    (finds-none t u) (waits t u)
+    (finds_none t u) (waits t u)
 
 own-said : (m : Model) (f : Frame) → InOrder m → is_operation f.op ≡ true
     → Own f m (own_part m f).own (own_part m f).model
@@ -151,7 +151,7 @@ service-said : (f : Frame) (m : Model) → InOrder m
 unfolding service
 service-said f m h =
     cond_cases (λ (d : Done). Service f m d.records d.model.waits d.model.entries) (is_served f)
-    (λ t. follows t (serves-all m.entries m.waits h)) follows-not
+    (λ t. follows t (serves-all m.entries m.waits h)) follows_not
   where
     ts : List Txn
     ts = m.txns
@@ -223,7 +223,7 @@ ends_given {f} {m} (in_order (follows t s)) q h =
     ∙ ap (said_then f m) is
     ∙ ap (λ (r : Served). exceptions f m ++ r.records ++ nothings n r.entries r.waits)
     (serves_given s (lapsed-order f m h))
-ends_given {f} {m} (in_order (follows-not t)) q h =
+ends_given {f} {m} (in_order (follows_not t)) q h =
     let n = lapsed f m in
     let is : served_by f n ≡ quiet n = rw t in
     finish_is f m q ∙ ap (said_then f m) is
@@ -247,7 +247,7 @@ unfolding write_frame write create commit_frame abort_frame renew notify tick lo
 own_given {f} {m} (writes t) h = part_at m f (eqb-true f.op 1 t)
 own_given {f} {m} (finds e t o) h =
     part_look_up m f t ∙ ap (answer m (look_up_of m f) f.lease_or_timeout) (oldest_given h o)
-own_given {f} {m} (finds-none t u g) h = none_given f m true t u g
+own_given {f} {m} (finds_none t u g) h = none_given f m true t u g
 own_given {f} {m} (waits t u g) h = none_given f m false t u g
 own_given {f} {m} (creates t) h = part_at m f (eqb-true f.op 6 t)
 own_given {f} {m} (commits t) h = part_at m f (eqb-true f.op 7 t)

@@ -146,7 +146,7 @@ module _ {m : Model} {ks : List Kept} {lists : ℕ → List Operation} (s : Cons
       })
     where
       nz : 0 < x.id.0
-      nz = s.txns-ok.above x j
+      nz = s.txns_ok.above x j
 
       taker : Entry → ℕ
       taker e = (cond (eqb e.taken_by.0 t) no_txn e.taken_by).0
@@ -158,7 +158,7 @@ module _ {m : Model} {ks : List Kept} {lists : ℕ → List Operation} (s : Cons
           (ne_eqb e.taken_by.0 x.id.0 (λ c. d (sym c ∙ q)))) (λ _. refl)
 
       same_bit : (e : Entry) → bit x.slot (drop_reader_of (live_txn t ts) e.readers) ≡ bit x.slot e.readers
-      same_bit e = drop_other s.txns-ok x j t e.readers d
+      same_bit e = drop_other s.txns_ok x j t e.readers d
 
       stay : (e : Entry) → Holds x e → Holds x (released ts t e)
       stay e (inl q) =
@@ -192,7 +192,7 @@ module _ {m : Model} {ks : List Kept} {lists : ℕ → List Operation} (s : Cons
   agree_end ls keep set cans =
       record {
         set = set;
-        own = λ x i. let r = other x i in let nz = s.txns-ok.above x r.0 in
+        own = λ x i. let r = other x i in let nz = s.txns_ok.above x r.0 in
             rw (ne_eqb x.id.0 t r.1) (same_other x.id.0 _ r.1 (λ c. omega arith)
             (λ e j q. keep e j (λ c. omega arith) (λ c. r.1 (sym q ∙ c))) (a.own x r.0));
         ties = λ x i. let r = other x i in rw (ne_eqb x.id.0 t r.1) (ties_other x r.0 r.1);
@@ -254,7 +254,7 @@ module _ {m : Model} {ks : List Kept} {lists : ℕ → List Operation} (s : Cons
       t = y.id.0
 
       z : 0 < t
-      z = s.txns-ok.above y j
+      z = s.txns_ok.above y j
 
       os : List Operation
       os = lists t

@@ -76,10 +76,10 @@ module _ {m : Model} {ks : List Kept} {lists : ℕ → List Operation} (s : Cons
   -- what is available to a take no other transaction holds
   not-held : (x : Txn) → Memᴰ x ts → (x.id.0 ≡ t → ⊥) → w.takes ≡ true → Holds x e → ⊥
   not-held x j d tk (inl q) =
-      ⊎_elim (λ c. let z = s.txns-ok.above x j in omega arith) (λ c. d (sym q ∙ c)) free.owner
-  not-held x j d tk (inr (inl q)) = let z = s.txns-ok.above x j in omega (arith, free.untaken)
+      ⊎_elim (λ c. let z = s.txns_ok.above x j in omega arith) (λ c. d (sym q ∙ c)) free.owner
+  not-held x j d tk (inr (inl q)) = let z = s.txns_ok.above x j in omega (arith, free.untaken)
   not-held x j d tk (inr (inr q)) =
-      true≢false (sym q ∙ sym (drop_other s.txns-ok x j t e.readers d) ∙ ap (bit x.slot) (free.unread tk)
+      true≢false (sym q ∙ sym (drop_other s.txns_ok x j t e.readers d) ∙ ap (bit x.slot) (free.unread tk)
       ∙ bit_of_zero x.slot)
 
   unfound : (x : Txn) → Memᴰ x ts → (x.id.0 ≡ t → ⊥) → w.takes ≡ true → (c : ℕ) → c ≡ n
@@ -135,7 +135,7 @@ module _ {m : Model} {ks : List Kept} {lists : ℕ → List Operation} (s : Cons
     tie = a.ties x j e i
 
     z : 0 < x.id.0
-    z = s.txns-ok.above x j
+    z = s.txns_ok.above x j
 
     untaken : eqb e.taken_by.0 x.id.0 ≡ false
     untaken = ne_eqb e.taken_by.0 x.id.0 (λ r. omega (arith, free.untaken, z))
@@ -145,7 +145,7 @@ module _ {m : Model} {ks : List Kept} {lists : ℕ → List Operation} (s : Cons
         record {
           held = λ q. tie.held q ∙ untaken ∙ sym (ne_eqb t x.id.0 (λ r. d (sym r)));
           holds = λ q. absurd (not-held x j d tk (tie.holds q));
-          reads = λ q. ((tie.reads (sym (drop_other s.txns-ok x j t e.readers d) ∙ q)).0, λ r. d (sym r));
+          reads = λ q. ((tie.reads (sym (drop_other s.txns_ok x j t e.readers d) ∙ q)).0, λ r. d (sym r));
           fitting = tie.fitting;
         }
     held_other d false rd =
@@ -157,7 +157,7 @@ module _ {m : Model} {ks : List Kept} {lists : ℕ → List Operation} (s : Cons
         }
       where
         same : bit x.slot (held_by ts w e false).readers ≡ bit x.slot e.readers
-        same = add_other s.txns-ok x j t e.readers d
+        same = add_other s.txns_ok x j t e.readers d
 
     -- and its own, with the operation last
     fits_it : All (λ o. fits n e.fields o ≡ true) (os ++ (operation ∷ []))
@@ -182,14 +182,14 @@ module _ {m : Model} {ks : List Kept} {lists : ℕ → List Operation} (s : Cons
           held = λ o. any_snoc (takes_number n) os operation ∙ ap₂ (λ x y. x || y && eqb n n) (tie.held o ∙ untaken) tk
               ∙ eq-eqb n n refl ∙ sym (eq-eqb t x.id.0 (sym q));
           holds = λ _. inr (inl (sym q));
-          reads = λ b. absurd (true≢false (sym b ∙ drop_own s.txns-ok x j t e.readers q));
+          reads = λ b. absurd (true≢false (sym b ∙ drop_own s.txns_ok x j t e.readers q));
           fitting = fits_it;
         }
     held-own q c false rd =
         record {
           held =
               λ o. any_snoc (takes_number n) os operation ∙ ap₂ (λ x y. x || y && eqb n n) (tie.held o) rd ∙ or-false _;
-          holds = λ _. inr (inr (add-own s.txns-ok x j t e.readers q));
+          holds = λ _. inr (inr (add-own s.txns_ok x j t e.readers q));
           reads = λ _. (
             any_snoc (reads_number n) os operation ∙ ap₂ (λ x y. anyb (reads_number n) os || not x && y) rd
                 (eq-eqb n n refl) ∙ or-true (anyb (reads_number n) os),

@@ -228,7 +228,7 @@ unfolding follow written stored new_entry
 wrote f {m} {r} s l h =
     let it : ℕ → Operation = λ c. adds (written_by f (written f m.next_entry) c) in
     subst⁻¹ (λ c. TracksIn (stored m f) (perform f.txn (it c) r)) h.same-clock
-    (performed r f.txn (it m.clock) h (performs_write f s h.agree l) s.txns-ok.above (λ _. tt)
+    (performed r f.txn (it m.clock) h (performs_write f s h.agree l) s.txns_ok.above (λ _. tt)
     (λ c. eqb_cases (λ (ks : List Operation). uses c r + length ks ≤ 1) m.next_entry c
     (λ q. let n = h.fresh c (omega arith) in omega arith) (λ _. let n = h.once c in omega arith))
     (λ c k. let n = h.fresh c (omega arith) in
@@ -245,7 +245,7 @@ took f {m} {r} w e s j i av k h =
     let Q : Run → Type 0 = Tracks m.clock (hand_out m.txns w e m.entries) m.txns m.next_entry in
     subst⁻¹ (λ b. Q (perform w.txn.0 (finds b e.id.0 e.fields) r)) k
     (performed r w.txn.0 (finds w.takes e.id.0 e.fields) h
-    (performs_found s h.agree w e i av (⊎_elim inl (λ x. inr (x.0, x.1, x.2)) (s.owned w j))) s.txns-ok.above
+    (performs_found s h.agree w e i av (⊎_elim inl (λ x. inr (x.0, x.1, x.2)) (s.owned w j))) s.txns_ok.above
     (can_now s h.agree w e i av) (λ c. omega (arith, h.once c)) (λ c l. omega (arith, h.fresh c l)))
 
 -- a renewed record
@@ -387,7 +387,7 @@ linked_event {f} r (ticks m t a) s h =
     record { tracks = on; knows = h.knows }
 linked_event {f} r (excepts m t k i q) s h =
     record {
-      tracks = thrown r t.id.0 h.tracks (agree_abort s h.tracks.agree t.id.0 (s.txns-ok.above t i));
+      tracks = thrown r t.id.0 h.tracks (agree_abort s h.tracks.agree t.id.0 (s.txns_ok.above t i));
       knows = all_filter (λ w. not (eqb w.txn.0 t.id.0)) m.waits (λ w j _. h.knows w j);
     }
 linked_event {f} r (expires m k) s h =
@@ -453,9 +453,9 @@ unfolding left committed_in
 serial_of m r ordered lasting h =
     record {
       succeeds = h.ok;
-      taken-once = distinct_of r.taken (λ n. omega (arith, h.once n));
-      left-once = distinct_of (numbers_of (filterb lasts r.kept)) (λ n. omega (arith, h.once n, kept-once n));
-      committed-once = committed-distinct m ordered;
+      taken_once = distinct_of r.taken (λ n. omega (arith, h.once n));
+      left_once = distinct_of (numbers_of (filterb lasts r.kept)) (λ n. omega (arith, h.once n, kept-once n));
+      committed_once = committed-distinct m ordered;
       same = λ k. (forth k, back k);
     }
   where

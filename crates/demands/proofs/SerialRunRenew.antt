@@ -93,8 +93,8 @@ module _ (f : Frame) (m : Model) (s : Consistent m) (x : Renewable f m) where
       where
         nobody : Holds t x.entry → ⊥
         nobody =
-            ⊎_elim (λ q. let p = x.committed in let l = s.txns-ok.above t i in omega arith)
-            (⊎_elim (λ q. let p = x.untaken in let l = s.txns-ok.above t i in omega arith)
+            ⊎_elim (λ q. let p = x.committed in let l = s.txns_ok.above t i in omega arith)
+            (⊎_elim (λ q. let p = x.untaken in let l = s.txns_ok.above t i in omega arith)
             (λ b. absurd (not-bit b)))
           where
             not-bit : bit t.slot x.entry.readers ≡ true → ⊥
@@ -143,7 +143,7 @@ module _ (f : Frame) (m : Model) (s : Consistent m) (x : Renewable f m) where
         another e j c q =
             let same = ap (λ (y : Entry). y.private_to.0) (only e j q) in
             let free = x.committed in
-            let l = s.txns-ok.above t i in omega arith
+            let l = s.txns_ok.above t i in omega arith
 
     pub agree_renew : Agree m.clock (renew_entries m f) m.txns m.next_entry (map turned ks) lists
     agree_renew =

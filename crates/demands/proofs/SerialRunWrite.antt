@@ -86,7 +86,7 @@ module _ {m : Model} (f : Frame) {ks : List Kept} {lists : ℕ → List Operatio
           ties_other = λ x i d. grown_all (Ties x (lists x.id.0)) (a.ties x i)
               (record {
                 held = λ _. takes_mentions m.next_entry (lists x.id.0) (unmentioned x.id.0)
-                    ∙ sym (ne_eqb 0 x.id.0 (λ z. let b = s.txns-ok.above x i in omega arith));
+                    ∙ sym (ne_eqb 0 x.id.0 (λ z. let b = s.txns_ok.above x i in omega arith));
                 holds = λ r. absurd (true≢false (sym r ∙ unmentioned x.id.0));
                 reads = λ b. absurd (true≢false (sym b ∙ bit_of_zero x.slot));
                 fitting = λ o j. fits_unfound m.next_entry (mark_of f.mask f.fields) o (unfound x.id.0 o j);
@@ -95,7 +95,7 @@ module _ {m : Model} (f : Frame) {ks : List Kept} {lists : ℕ → List Operatio
               λ x i q. grown_all (Ties x (lists x.id.0 ++ (added ∷ [])))
               (λ e j. ties_more added refl (a.ties x i e j))
               (record {
-                held = λ z. absurd (let b = s.txns-ok.above x i in omega arith);
+                held = λ z. absurd (let b = s.txns_ok.above x i in omega arith);
                 holds = λ _. inl (sym q);
                 reads = λ b. absurd (true≢false (sym b ∙ bit_of_zero x.slot));
                 fitting =

@@ -60,12 +60,12 @@ fixed = every_reply
 pub third_follows : ThirdFollows
 third_follows = every_serial
 
-pub consequences-follow : ConsequencesFollow
-consequences-follow = every_consequence
+pub consequences_follow : ConsequencesFollow
+consequences_follow = every_consequence
 
 pub consequences : Consequences the_space
 unfolding ConsequencesFollow
-consequences = consequences-follow the_space demand1 demand2
+consequences = consequences_follow the_space demand1 demand2
 
 -- and the waiting list is explained by its history
 pub waiting_list_follows : WaitingListFollows

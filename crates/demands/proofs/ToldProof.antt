@@ -195,7 +195,7 @@ module _ (m : Model) (r : Run) (s : Consistent m) (h : TracksIn m r) where
         let d = mem_filter (λ t. not (anyb (eqb t) (who_takes n r))) (who (reads_number n) r.pending) l in
         let f = any_mem (reads_number n) (listed r.pending x.id.0)
         (who_in (reads_number n) x.id.0 r.pending d.0) in
-        go (s.txns-ok.above x j) (not-true _ d.1)
+        go (s.txns_ok.above x j) (not-true _ d.1)
         ((h.agree.ties x j e i).holds (mem_any (mentions_it n) f.1 (mentioned f.0 f.2)))
       where
         mentioned : (o : Operation) → reads_number n o ≡ true → mentions_it n o ≡ true
@@ -273,9 +273,9 @@ module _ (m : Model) (r : Run) (s : Consistent m) (h : TracksIn m r) where
     private_told_lem = joined (map (private_told r) r.pending)
 
     -- a stored entry is told
-    stored-told : All (λ e. (x : Told) × Memᴰ x (told r) × AsTold m.txns e x) m.entries
+    stored_told : All (λ e. (x : Told) × Memᴰ x (told r) × AsTold m.txns e x) m.entries
     unfolding told committed_told
-    stored-told e i = ⊎_elim committed private (s.held e i).owner
+    stored_told e i = ⊎_elim committed private (s.held e i).owner
       where
         n : ℕ
         n = e.id.0
@@ -295,7 +295,7 @@ module _ (m : Model) (r : Run) (s : Consistent m) (h : TracksIn m r) where
             let none = not_taken y.0 y.1 (kept_of e) l in
             let a = ⊎_elim (λ j. absurd (mathlib.Core.List.Memᴰ.not-nil j)) (λ j. j) (after-added (listed ps t) [] (kept_of e) l) in
             let p = of_list t ps (adds (kept_of e)) a in
-            let z = s.txns-ok.above y.0 y.1 in
+            let z = s.txns_ok.above y.0 y.1 in
             let q = p.2 in
             let free = untaken-told n r p.0.txn (ap (λ v. anyb (takes_number n) (listed ps v)) q ∙ none) in
             let told-it = in_joined (private_told r) p.1 (private_in r p.0 (kept_of e) p.3 free) in
@@ -333,9 +333,9 @@ module _ (m : Model) (r : Run) (s : Consistent m) (h : TracksIn m r) where
         ((subst Q y.2 (h.agree.own y.0 y.1)).kept-stored k (added-after os [] k added
         (λ o j. not_so _ (λ c. eqb-false t t (none_mem (eqb t) n (taker (mem_any (takes_it k) j c))) refl))))
 
-    told-stored : All (λ x. (e : Entry) × Memᴰ e m.entries × AsTold m.txns e x) (told r)
+    told_stored : All (λ x. (e : Entry) × Memᴰ e m.entries × AsTold m.txns e x) (told r)
     unfolding told
-    told-stored =
+    told_stored =
         all_filter lasting-told (map (committed_told r) r.kept ++ private_told_lem)
         (all_append (map (committed_told r) r.kept) (all_map Storing (committed_told r) r.kept kept-stored)
         (joined-all Storing (private_told r) r.pending (λ p i. private_all Storing r p (private_stored p i))))
@@ -347,9 +347,9 @@ told_demand is =
     let s = consistent is in
     let h = (linked is).tracks in
     record {
-      stored-told = stored-told m r s h (lasting is);
-      told-stored = told-stored m r s h (lasting is);
+      stored_told = stored_told m r s h (lasting is);
+      told_stored = told_stored m r s h (lasting is);
       holders_live = λ e p i b. (s.held e i).readers p b;
       once = ascending-distinct _ s.ordered.entries;
-      own-slot = s.txns-ok.slot;
+      own_slot = s.txns_ok.slot;
     }

@@ -36,9 +36,9 @@ pub empty-bounded : Bounded empty
 empty-bounded =
     record {
       entries_fit = omega arith;
-      txns-fit = omega arith;
-      waits-fit = omega arith;
-      registrations-fit = omega arith;
+      txns_fit = omega arith;
+      waits_fit = omega arith;
+      registrations_fit = omega arith;
     }
 
 -- a run from any space

@@ -38,9 +38,9 @@ use Rattle.rules.proofs.ListLaws.{mem_filter, filter_mem, any_mem, mem_any, filt
 use Rattle.rules.proofs.ReaderLaws.{bit_of_zero, no_bits}
 use Rattle.rules.proofs.DistinctLaws.{distinct_filter}
 use Rattle.demands.specs.Book.{LiveTold}
-use Rattle.demands.specs.Said.{end_now, entries_left, in_vain, Own, writes, finds, finds-none, waits, creates}
+use Rattle.demands.specs.Said.{end_now, entries_left, in_vain, Own, writes, finds, finds_none, waits, creates}
 use Rattle.demands.specs.Said.{commits, aborts, renews, notifies, ticks, bell, bells, Serves, gone_through}
-use Rattle.demands.specs.Said.{is_found, waits_on, Service, follows, follows-not, exceptions, lapsed}
+use Rattle.demands.specs.Said.{is_found, waits_on, Service, follows, follows_not, exceptions, lapsed}
 use Rattle.demands.specs.Said.{given_nothing, nothings, Ends, in_order, Said, own_first, Oldest}
 use Rattle.sound.proofs.AllLaws.{all_filter, all_map, all_snoc}
 use Rattle.sound.proofs.HoldLaws.{equal_or, not_so}
@@ -592,9 +592,9 @@ service_twins {n = n} {founds} {left} t (follows s h) =
       follows s (subst (λ (k : Model). Serves n.txns n.entries k.waits founds left r.0) t.same r.1),
       r.2,
     )
-service_twins {f} {n = n} t (follows-not s) = (
+service_twins {f} {n = n} t (follows_not s) = (
   n.entries,
-  subst⁻¹ (λ (k : Model). Service f n [] k.waits n.entries) t.same (follows-not s),
+  subst⁻¹ (λ (k : Model). Service f n [] k.waits n.entries) t.same (follows_not s),
   t.entries,
 )
 
@@ -758,9 +758,9 @@ own_twins {f} {m} {n} t c d r r' (finds e l o) =
             (asks-same f t) (hand_out_like t.peers (look_up_of m f) x.2 t.entries);
       },
     )
-own_twins {f} {m} {n} t c d r r' (finds-none o u g) = (
+own_twins {f} {m} {n} t c d r r' (finds_none o u g) = (
   n,
-  renamed (ap nothing (asks-same f t)) (finds-none o (sym (some_same f t) ∙ u) (sym (vain_same f t) ∙ g)),
+  renamed (ap nothing (asks-same f t)) (finds_none o (sym (some_same f t) ∙ u) (sym (vain_same f t) ∙ g)),
   t,
 )
 own_twins {f} t c d r r' (waits o u g) = (

@@ -405,7 +405,7 @@ pub every_list : WaitingListFollows
 unfolding WaitingListFollows ConsequencesFollow
 every_list S d1 d2 =
     record {
-      none-available = λ log t made. ((every_consequence S d1 d2).settled log t made).none-available;
+      none_available = λ log t made. ((every_consequence S d1 d2).settled log t made).none_available;
       balances = λ log t made. (has log t made).balances;
       founds = λ log t made. (has log t made).founds;
       nothings = λ log t made. (has log t made).nothings;

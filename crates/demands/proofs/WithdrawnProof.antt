@@ -135,7 +135,7 @@ module _ (m : Model) (bs : List ℕ) (area : ℕ) where
         (λ t. ap (λ b. b && not (withdraws f v)) t) (bool_cases (eqb v.party f.party)))
 
     none_behind : first_row (behind6 m f) ≡ 0
-    none_behind = none_for m f (eqb-true f.op op_abort aborts) named s.txns-ok live
+    none_behind = none_for m f (eqb-true f.op op_abort aborts) named s.txns_ok live
 
     is_carried : refusal_before m bs area ≡ waiting_refused → refusal m bs area ≡ 0
     is_carried e =

@@ -166,13 +166,13 @@ words_of_lem m h =
     packed_back entry_of entry_words entry_width (λ e. refl) entries_at max_entries ws m.entries h.bounded.entries_fit
     (λ e i. entry_back e (h.entries e i)) refl in
     let t =
-    packed_back txn_of txn_words txn_width (λ t. refl) txns_at max_txns ws m.txns h.bounded.txns-fit
+    packed_back txn_of txn_words txn_width (λ t. refl) txns_at max_txns ws m.txns h.bounded.txns_fit
     (λ t i. txn_back t (h.txns t i)) e.1 in
     let w =
-    packed_back wait_of wait_words wait_width (λ w. refl) waits_at max_waits ws m.waits h.bounded.waits-fit
+    packed_back wait_of wait_words wait_width (λ w. refl) waits_at max_waits ws m.waits h.bounded.waits_fit
     (λ w i. wait_back w (h.waits w i)) t.1 in
     let g =
     packed_back registration_of registration_words registration_width (λ g. refl) registrations_at max_registrations ws
-    m.registrations h.bounded.registrations-fit (λ g i. registration_back g (h.registrations g i))
+    m.registrations h.bounded.registrations_fit (λ g i. registration_back g (h.registrations g i))
     (w.1 ∙ sym (append-nil _)) in
     (ws, rw (e.0, t.0, w.0, g.0))

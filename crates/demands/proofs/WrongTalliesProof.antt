@@ -26,7 +26,7 @@ unfolding all_rules was_refused last_of log_of records_of closed_as fates
 each_wrong =
     record {
       withdrawn_as_nothing = λ d. let q : ◌≡◌ {A = ℕ} 1 2 = after _ d escape in omega arith;
-      without-aborts = λ d. let q : ◌≡◌ {A = ℕ} 1 0 = after _ d escape in omega arith;
+      without_aborts = λ d. let q : ◌≡◌ {A = ℕ} 1 0 = after _ d escape in omega arith;
       -- nobody waits inside
       every_end = λ d. let q : ◌≡◌ {A = ℕ} 0 1 = after _ d (create_by 1 9 ∷ abort_by 1 1 ∷ []) in omega arith;
     }

@@ -33,7 +33,7 @@ pub record AnsweredNow (m : Model) (w : LookUp) (timeout : ℕ) (records : List 
 -- a permitted nothing, "read this way for the whole space" (document 02, T-07): no entry is available, and the deadline
 -- is reached (at once, with timeout 0), or the look-up is of an IfExists kind and no entry conflicts
 pub record Permitted (n : Model) (w : LookUp) : Type 0 where
-  pub none-available : some_available n.txns w n.entries ≡ false
+  pub none_available : some_available n.txns w n.entries ≡ false
   pub in_vain : (reached n.clock w.deadline ≡ true)
       ⊎ ((w.if_exists ≡ true) × (some_conflicts n.txns w n.entries ≡ false))
 
@@ -44,8 +44,8 @@ NothingLeft m records n = (w : LookUp) → Memᴰ w m.waits → Memᴰ (nothing 
 -- after each step no waiting look-up has an available entry, every deadline lies ahead, and each of an IfExists kind
 -- has a conflicting entry: so none waits in vain, FOREVER or not
 pub record Settled (m : Model) : Type 0 where
-  pub none-available : (w : LookUp) → Memᴰ w m.waits → some_available m.txns w m.entries ≡ false
-  pub not-reached : (w : LookUp) → Memᴰ w m.waits → reached m.clock w.deadline ≡ false
+  pub none_available : (w : LookUp) → Memᴰ w m.waits → some_available m.txns w m.entries ≡ false
+  pub not_reached : (w : LookUp) → Memᴰ w m.waits → reached m.clock w.deadline ≡ false
   pub not_in_vain : (w : LookUp) → Memᴰ w m.waits → w.if_exists ≡ true
       → some_conflicts m.txns w m.entries ≡ true
 

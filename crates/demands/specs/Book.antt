@@ -126,8 +126,8 @@ book_of log = keep_book log new_book
 pub record Booked (b : Book) (m : Model) : Type 0 where
   pub right : b.right ≡ true
   pub clock : b.clock ≡ m.clock
-  pub next-entry : b.next_entry ≡ m.next_entry
-  pub next-txn : b.next_txn ≡ m.next_txn
+  pub next_entry_lem : b.next_entry ≡ m.next_entry
+  pub next_txn_lem : b.next_txn ≡ m.next_txn
   pub writers : (e : Entry) → Memᴰ e m.entries → e.writer ≡ writer_of e.id.0 b.writers
   pub live : b.live ≡ map (λ (t : Txn). record { number = t.id.0; party = t.party; end = t.end }) m.txns
   pub waiting : b.waiting ≡ m.waits

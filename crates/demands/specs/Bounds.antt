@@ -63,7 +63,7 @@ pub record Bounds (S : Machine) : Type 0 where
   pub by_number : (log : List Logged) (t : S.State) → Made S log t → ByNumber (S.view t)
   pub timely : (log : List Logged) (t : S.State) → Made S log t → Timely (S.view t)
   pub read_by_live : (log : List Logged) (t : S.State) → Made S log t → ReadByLive (S.view t)
-  pub own-take_hold : (log : List Logged) (t : S.State) → Made S log t → OwnTakeHold (S.view t)
+  pub own_take_hold : (log : List Logged) (t : S.State) → Made S log t → OwnTakeHold (S.view t)
   -- where frames are bytes, every record of a history fits its 28 bytes
   pub in_range : (log : List Logged) (t : S.State) → Made S log t
       → ((l : Logged) → Memᴰ l log → AreBytes l.frame) → AllInRange (records_of log)

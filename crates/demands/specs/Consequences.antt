@@ -21,7 +21,7 @@ pub record Consequences (S : Machine) : Type 0 where
   pub found_exactly : EveryStep S (λ t h u a. CarriedOut S t h → is_look_up (frame_in h).op ≡ true
       → AnsweredNow (S.view t) (look_up_of (S.view t) (frame_in h)) (frame_in h).lease_or_timeout a.records (S.view u))
   -- what is given nothing, at once or later, has no available entry when the step is over
-  pub nothing-only : EveryStep S (λ t h u a. CarriedOut S t h
+  pub nothing_only : EveryStep S (λ t h u a. CarriedOut S t h
       → NothingLeft (asked (S.view t) (frame_in h)) a.records (S.view u))
   -- after as many carried-out ticks as its timeout a look-up has had its closing answer, FOREVER excepted
   pub in_time : EveryStep S (λ t h u a. (later : List Logged) (v : S.State) → History S u later v

@@ -25,7 +25,7 @@ pub record Demand1 (S : Machine) : Type 0 where
 
 -- Demand 2. "Every answer is one that the rules allow: found exactly when an entry is available, nothing only under the
 -- stated conditions, a closing answer by the deadline." What these words say follows from the clauses below, for any
--- space: `found_exactly`, `nothing-only` and `in_time` in `Consequences`.
+-- space: `found_exactly`, `nothing_only` and `in_time` in `Consequences`.
 pub record Demand2 (S : Machine) : Type 0 where
   -- a frame that is carried out says what document 01 says, record by record: its own record first, then exceptions,
   -- founds in the order served, nothings, those of kind 11

@@ -12,7 +12,7 @@ CarriedOut S t h = refusal (S.view t) h.frame (length h.area) ≡ 0
 
 pub record Judged (S : Machine) (t : S.State) (h : Handed) (u : S.State) (a : Answered) : Type 0 where
   -- the number is that of the first row of the table that applies, and 0 where none does
-  pub first-row : a.number ≡ refusal (S.view t) h.frame (length h.area)
+  pub first_row : a.number ≡ refusal (S.view t) h.frame (length h.area)
   -- a refused frame leaves the space and its clock as they were
   pub unchanged : (a.number ≡ 0 → ⊥) → u ≡ t
   -- it writes its one record; or none for number 1, which is given exactly when the area is under 700 bytes

@@ -493,46 +493,46 @@ pub record RuledOut : Type 0 where
   pub refuses_all_lem : Demand2 (space_of refuses_all) → ⊥
   pub same_record_lem : Demand2 (space_of same_record) → ⊥
   pub stores_nothing_lem : Demand2 (space_of stores_nothing) → ⊥
-  pub first-frame-only : Demand2 (space_of first_frame_only) → ⊥
+  pub first_frame_only_lem : Demand2 (space_of first_frame_only) → ⊥
   pub invented_count_lem : Demand2 invented_count → ⊥
   pub loses_commit_lem : Demand3 (space_of loses_commit) → ⊥
   pub puts_back_late_lem : Demand3 (space_of puts_back_late) → ⊥
-  pub own-read-bars : Demand2 (space_of own_read_bars) → ⊥
-  pub nothing-first : Demand2 (space_of nothing_first) → ⊥
+  pub own_read_bars_lem : Demand2 (space_of own_read_bars) → ⊥
+  pub nothing_first_lem : Demand2 (space_of nothing_first) → ⊥
   pub shows_private_lem : Demand3 (space_of shows_private) → ⊥
   pub ignores_writes_lem : Demand2 (space_of ignores_writes) → ⊥
   pub writes_twice_lem : Demand2 (space_of writes_twice) → ⊥
-  pub ticks-at-writes : Demand2 (space_of ticks_at_writes) → ⊥
+  pub ticks_at_writes_lem : Demand2 (space_of ticks_at_writes) → ⊥
   pub never_expires_lem : Demand2 (space_of never_expires) → ⊥
-  pub last-exception-first : Demand2 (space_of last_exception_first) → ⊥
-  pub last-served-first : Demand2 (space_of last_served_first) → ⊥
-  pub serves-ended : Demand2 (space_of serves_ended) → ⊥
+  pub last_exception_first_lem : Demand2 (space_of last_exception_first) → ⊥
+  pub last_served_first_lem : Demand2 (space_of last_served_first) → ⊥
+  pub serves_ended_lem : Demand2 (space_of serves_ended) → ⊥
   pub newest_first_lem : Demand2 (space_of newest_first) → ⊥
   pub newest_in_service_lem : Demand2 (space_of newest_in_service) → ⊥
-  pub takes-long-commits : Demand1 (space_of takes_long_commits) → ⊥
+  pub takes_long_commits_lem : Demand1 (space_of takes_long_commits) → ⊥
   pub gives_14 : Demand1 (space_of gives14) → ⊥
-  pub keeps-withdrawn : Demand2 (space_of keeps_withdrawn) → ⊥
+  pub keeps_withdrawn_lem : Demand2 (space_of keeps_withdrawn) → ⊥
   pub withdrawn_gets_nothing_lem : Demand2 (space_of withdrawn_gets_nothing) → ⊥
-  pub aborts-any : Demand1 (space_of aborts_any) → ⊥
+  pub aborts_any_lem : Demand1 (space_of aborts_any) → ⊥
   pub waits_in_vain_lem : Demand2 (space_of waits_in_vain) → ⊥
   pub gives_up_first_lem : Demand2 (space_of gives_up_first) → ⊥
   pub nothings_by_party_lem : Demand2 (space_of nothings_by_party) → ⊥
-  pub matches-blanks : Demand2 (space_of matches_blanks) → ⊥
+  pub matches_blanks_lem : Demand2 (space_of matches_blanks) → ⊥
   pub loses_blanks_lem : Demand3 (space_of loses_blanks) → ⊥
   pub leaves_byte_3 : Demand2 (space_of leaves_byte3) → ⊥
-  pub takes-filled-blanks : Demand1 (space_of takes_filled_blanks) → ⊥
+  pub takes_filled_blanks_lem : Demand1 (space_of takes_filled_blanks) → ⊥
   pub refuses_blanks_lem : Demand1 (space_of refuses_blanks) → ⊥
   pub renews_from_the_write_lem : Demand3 (space_of renews_from_the_write) → ⊥
-  pub renews-held : Demand1 (space_of renews_held) → ⊥
+  pub renews_held_lem : Demand1 (space_of renews_held) → ⊥
   pub renews_anothers_lem : Demand1 (space_of renews_anothers) → ⊥
-  pub leaves-lease_0 : Demand2 (space_of leaves_lease0) → ⊥
+  pub leaves_lease_0 : Demand2 (space_of leaves_lease0) → ⊥
   pub forgets_writer_lem : Demand2 (space_of forgets_writer) → ⊥
   pub rings_put_backs_lem : Demand2 (space_of rings_put_backs) → ⊥
   pub rings_for_each_lem : Demand2 (space_of rings_for_each) → ⊥
-  pub rings-first : Demand2 (space_of rings_first) → ⊥
+  pub rings_first_lem : Demand2 (space_of rings_first) → ⊥
   pub starts_over_lem : Demand2 (space_of starts_over) → ⊥
   pub rings_on_lem : Demand2 (space_of rings_on) → ⊥
   pub stops_at_twelve_lem : Demand2 (space_of stops_at_twelve) → ⊥
   pub arcs_match_blanks_lem : Demand2 (space_of arcs_match_blanks) → ⊥
   pub arcs_go_round_lem : Demand2 (space_of arcs_go_round) → ⊥
-  pub answers-none : Demand1 mute → ⊥
+  pub answers_none : Demand1 mute → ⊥

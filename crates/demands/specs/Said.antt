@@ -44,7 +44,7 @@ pub data Own (f : Frame) (m : Model) : Record → Model → Type 0 where
   finds : (e : Entry) → is_look_up f.op ≡ true
       → Oldest m.txns (look_up_of m f) m.entries e
       → Own f m (found (look_up_of m f) e) (with_entries (hand_out m.txns (look_up_of m f) e m.entries) m)
-  finds-none : is_look_up f.op ≡ true
+  finds_none : is_look_up f.op ≡ true
       → some_available m.txns (look_up_of m f) m.entries ≡ false
       → in_vain f m ≡ true
       → Own f m (nothing (look_up_of m f)) m
@@ -87,7 +87,7 @@ pub data Service (f : Frame) (m : Model) : List Record → List LookUp → List 
   follows : {founds : List Record} {left : List LookUp} {xs : List Entry} → is_served f ≡ true
       → Serves m.txns m.entries m.waits founds left xs
       → Service f m founds left xs
-  follows-not : is_served f ≡ false → Service f m [] m.waits m.entries
+  follows_not : is_served f ≡ false → Service f m [] m.waits m.entries
 
 -- In a tick: "transactions that end now are aborted, by number, each with an exception ..; stored entries that end now
 -- are removed, held or not"

@@ -59,10 +59,10 @@ pub record AsTold (ts : List Txn) (e : Entry) (x : Told) : Type 0 where
 
 -- the space stores what its answers tell, held as they tell
 pub record Explained (r : Run) (m : Model) : Type 0 where
-  pub stored-told : (e : Entry) → Memᴰ e m.entries → (x : Told) × Memᴰ x (told r) × AsTold m.txns e x
-  pub told-stored : (x : Told) → Memᴰ x (told r) → (e : Entry) × Memᴰ e m.entries × AsTold m.txns e x
+  pub stored_told : (e : Entry) → Memᴰ e m.entries → (x : Told) × Memᴰ x (told r) × AsTold m.txns e x
+  pub told_stored : (x : Told) → Memᴰ x (told r) → (e : Entry) × Memᴰ e m.entries × AsTold m.txns e x
   pub holders_live : (e : Entry) (p : ℕ) → Memᴰ e m.entries → bit p e.readers ≡ true
       → (t : Txn) × Memᴰ t m.txns × (t.slot ≡ p)
   -- each entry is stored once, and each live transaction has a slot of its own
   pub once : distinct (map (λ (e : Entry). e.id.0) m.entries) ≡ true
-  pub own-slot : (t u : Txn) → Memᴰ t m.txns → Memᴰ u m.txns → t.slot ≡ u.slot → t ≡ u
+  pub own_slot : (t u : Txn) → Memᴰ t m.txns → Memᴰ u m.txns → t.slot ≡ u.slot → t ≡ u

@@ -74,7 +74,7 @@ abbrev pub Balances : Tally → Model → Type 0
 Balances s m = s.asked ≡ s.found + s.nothing + s.closed + length m.waits
 
 pub record WaitingList (S : Machine) : Type 0 where
-  pub none-available : EveryState S (λ log t. (w : LookUp) → Memᴰ w (S.view t).waits
+  pub none_available : EveryState S (λ log t. (w : LookUp) → Memᴰ w (S.view t).waits
       → some_available (S.view t).txns w (S.view t).entries ≡ false)
   pub balances : EveryState S (λ log t. Balances (tally_of log) (S.view t))
   -- each found and each nothing closes one look-up: as many look-ups are closed by them as there are records
@@ -99,6 +99,6 @@ pub record WrongTallies : Type 0 where
   pub withdrawn_as_nothing : Explains (counting
       (λ log. said is_nothing_kind log + number (λ k. eqb k kind_aborted) (fates log)) (λ log. number by_txn (fates log))) → ⊥
   -- exceptions alone
-  pub without-aborts : Explains (counting (said is_nothing_kind) (λ log. number (λ k. eqb k kind_exception) (fates log))) → ⊥
+  pub without_aborts : Explains (counting (said is_nothing_kind) (λ log. number (λ k. eqb k kind_exception) (fates log))) → ⊥
   -- every exception and abort, whether a look-up waited inside or not
   pub every_end : Explains (counting (said is_nothing_kind) (said by_txn)) → ⊥

@@ -211,9 +211,9 @@ unfolding heard_of
 heard-fits es m b =
     record {
       entries_fit = b.entries_fit;
-      txns-fit = b.txns-fit;
-      waits-fit = b.waits-fit;
-      registrations-fit = omega (arith, b.registrations-fit, length-map m.registrations (hearing es));
+      txns_fit = b.txns_fit;
+      waits_fit = b.waits_fit;
+      registrations_fit = omega (arith, b.registrations_fit, length-map m.registrations (hearing es));
     }
 
 none_ring : (es : List Entry) (gs : List Registration) → gs ≡ [] → ringing es gs ≡ []

@@ -78,12 +78,12 @@ module _ (ws : List ℕ) (e : Ending) where
   pub few-ended : length (ended_by e (view ws)).records ≤ max_txns
   few-ended =
       cond_cases (λ (d : Done). length d.records ≤ max_txns) (in_tick e)
-      (λ t. omega (arith, exceptions (view ws), (view-bounded ws).txns-fit)) (λ t. omega arith)
+      (λ t. omega (arith, exceptions (view ws), (view-bounded ws).txns_fit)) (λ t. omega arith)
 
 -- a found for each look-up that waits no longer
 pub few-served : (ws : List ℕ) (k : ℕ)
     → length (service_from k (view ws)).records + length (service_from k (view ws)).model.waits ≤ max_waits
-few-served ws k = omega (arith, from_counts k (view ws), (view-bounded ws).waits-fit)
+few-served ws k = omega (arith, from_counts k (view ws), (view-bounded ws).waits_fit)
 
 pub finish_parts : {ws₁ ws₂ ws₃ a a₁ a₂ a₃ : List ℕ} {c c₁ c₂ c₃ first : ℕ} (ws : List ℕ) (e : Ending) (k : ℕ)
     → record_size * c ≤ length a → Does (ended_by e (view ws)) ws₁ a a₁ c c₁ → first ≡ first_free e k (c₁ - c)

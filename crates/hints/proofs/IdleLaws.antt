@@ -134,7 +134,7 @@ module _ {k : ℕ} {f : Frame} (acts : ActsUpTo k f) where
           → k < x.id.0 → Idle n x
       go x (inl j) l =
           stays-idle x acts l (h x j l)
-          (λ y i' d q. d (sym (ap (λ (z : Txn). z.id.0) (s.txns-ok.slot x y j i' q)))) e s
+          (λ y i' d q. d (sym (ap (λ (z : Txn). z.id.0) (s.txns_ok.slot x y j i' q)))) e s
       go x (inr (q, c, a)) l =
           subst⁻¹ (λ y. k < y.id.0 → Idle n y) q
           (λ l'. stays-idle (new_txn m f) acts l' (new_idle s a c) (new_slot s a c) e s) l

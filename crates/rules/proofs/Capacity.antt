@@ -34,9 +34,9 @@ unfolding entries_full txns_full registrations_full
 own-fits m bs area c s b =
     record {
       entries_fit = room (stores f) c.entry-room g.entries b.entries_fit;
-      txns-fit = room (is_create f.op) c.txn-room g.txns b.txns-fit;
-      waits-fit = wait (is_look_up f.op) refl g.waits;
-      registrations-fit = room (is_notify f.op) c.registration_room g.registrations b.registrations-fit;
+      txns_fit = room (is_create f.op) c.txn-room g.txns b.txns_fit;
+      waits_fit = wait (is_look_up f.op) refl g.waits;
+      registrations_fit = room (is_notify f.op) c.registration_room g.registrations b.registrations_fit;
     }
   where
     f : Frame
@@ -47,7 +47,7 @@ own-fits m bs area c s b =
 
     wait : (more : Bool) → is_look_up f.op ≡ more → {k : ℕ} → k ≤ length m.waits + one more → k ≤ max_waits
     wait true t h = omega (arith, room-left m f t c.party c.free s)
-    wait false t h = omega (arith, b.waits-fit)
+    wait false t h = omega (arith, b.waits_fit)
 
 -- the end of a step leaves no table larger
 paid_fits : {m : Model} {d : Done} → Paid m d → length d.model.registrations ≤ length m.registrations
@@ -55,9 +55,9 @@ paid_fits : {m : Model} {d : Done} → Paid m d → length d.model.registrations
 paid_fits p r b =
     record {
       entries_fit = omega (arith, p.entries, b.entries_fit);
-      txns-fit = omega (arith, p.txns, b.txns-fit);
-      waits-fit = omega (arith, p.waits, b.waits-fit);
-      registrations-fit = omega (arith, r, b.registrations-fit);
+      txns_fit = omega (arith, p.txns, b.txns_fit);
+      waits_fit = omega (arith, p.waits, b.waits_fit);
+      registrations_fit = omega (arith, r, b.registrations_fit);
     }
 
 -- the exceptions of a frame: none but in a tick; so there are at most 24 records behind a tick's own, else 16
@@ -68,8 +68,8 @@ finish-few : (f : Frame) (m : Model) → Bounded m → length (finish f m).recor
 finish-few f m b = go (is_tick f.op) refl
   where
     go : (t : Bool) → is_tick f.op ≡ t → length (finish f m).records ≤ cond t max_txns 0 + max_waits
-    go true t = omega (arith, (finish_paid f m).closed, b.txns-fit, b.waits-fit)
-    go false t = omega (arith, rw (finish-txns f m t) at (finish_paid f m).closed, b.waits-fit)
+    go true t = omega (arith, (finish_paid f m).closed, b.txns_fit, b.waits_fit)
+    go false t = omega (arith, rw (finish-txns f m t) at (finish_paid f m).closed, b.waits_fit)
 
 -- and at most 8 of kind 11, but none in a tick
 rings-fit : (m : Model) (f : Frame) → Bounded m
@@ -81,7 +81,7 @@ rings-fit m f b = go (is_tick f.op) refl
 
     go : (t : Bool) → is_tick f.op ≡ t → cond t max_txns 0 + n ≤ max_registrations
     go true t = rw (tick_public m f t, rings-none) (omega arith)
-    go false t = omega (arith, rings-length (made_public m f) m.registrations, b.registrations-fit)
+    go false t = omega (arith, rings-length (made_public m f) m.registrations, b.registrations_fit)
 
 -- capacities are kept, and a step writes at most 25 records
 pub step_fits : (m : Model) (bs : List ℕ) (area : ℕ) → Sound m → Bounded m

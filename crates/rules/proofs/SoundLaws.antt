@@ -85,8 +85,8 @@ few zero m s =
     omega (arith, ap length none)
 few (suc n) m s = let l = s.one_each (suc n) in omega (arith, few n m s, counted n m.waits)
 
-waits-fit : (m : Model) → Named m → length m.waits ≤ max_waits
-waits-fit m s =
+waits_fit : (m : Model) → Named m → length m.waits ≤ max_waits
+waits_fit m s =
     let all =
     filter_pass (λ w. leb w.party max_party) m.waits
     (λ w i. le-leb w.party max_party (s.parties w i).last) in
@@ -138,7 +138,7 @@ arrives m f l e free s =
 pub room-left : (m : Model) (f : Frame) → is_look_up f.op ≡ true → wrong_party f ≡ false → party_waits m f ≡ false
     → Sound m → length m.waits < max_waits
 room-left m f l e free s =
-    omega (arith, waits-fit _ (arrives m f l e free (named s)), length-append m.waits (look_up_of m f ∷ []))
+    omega (arith, waits_fit _ (arrives m f l e free (named s)), length-append m.waits (look_up_of m f ∷ []))
 
 -- ---- in the midst of a step that is no tick deadlines lie ahead, too
 answer-ahead : (m : Model) (f : Frame) → Ahead m → (o : Option Entry)

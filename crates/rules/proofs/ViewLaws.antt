@@ -22,7 +22,7 @@ unfolding view entries txns waits registrations
 view-bounded ws =
     record {
       entries_fit = capped _ (get_or ws entry_count_at 0) max_entries;
-      txns-fit = capped _ (get_or ws txn_count_at 0) max_txns;
-      waits-fit = capped _ (get_or ws wait_count_at 0) max_waits;
-      registrations-fit = capped _ (get_or ws registration_count_at 0) max_registrations;
+      txns_fit = capped _ (get_or ws txn_count_at 0) max_txns;
+      waits_fit = capped _ (get_or ws wait_count_at 0) max_waits;
+      registrations_fit = capped _ (get_or ws registration_count_at 0) max_registrations;
     }

@@ -182,7 +182,7 @@ numbers_of ks = map (λ (k : Kept). k.number) ks
 -- in numbers, fields, blanks and ends, each number once on either side
 pub record Serial (r : Run) (m : Model) : Type 0 where
   pub succeeds : r.succeeds ≡ true
-  pub taken-once : distinct r.taken ≡ true
-  pub left-once : distinct (numbers_of (left r)) ≡ true
-  pub committed-once : distinct (numbers_of (committed_in m)) ≡ true
+  pub taken_once : distinct r.taken ≡ true
+  pub left_once : distinct (numbers_of (left r)) ≡ true
+  pub committed_once : distinct (numbers_of (committed_in m)) ≡ true
   pub same : (k : Kept) → Memᴰ k (left r) ↔ Memᴰ k (committed_in m)

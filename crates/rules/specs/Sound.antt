@@ -89,7 +89,7 @@ pub record Consistent (m : Model) : Type 0 where
   pub ordered : ByNumber m
   pub below : All (λ e. e.id.0 < m.next_entry) m.entries
   pub held : All (EntryOk m.txns) m.entries
-  pub txns-ok : TxnsOk m.next_txn m.txns
+  pub txns_ok : TxnsOk m.next_txn m.txns
   pub positive : 0 < m.next_txn
   pub registered : All (λ g. g.id.0 < m.next_registration) m.registrations
   pub tallied : All (Tallied m) m.registrations

@@ -55,9 +55,9 @@ empty =
 -- T-03)
 pub record Bounded (m : Model) : Type 0 where
   pub entries_fit : length m.entries ≤ max_entries
-  pub txns-fit : length m.txns ≤ max_txns
-  pub waits-fit : length m.waits ≤ max_waits
-  pub registrations-fit : length m.registrations ≤ max_registrations
+  pub txns_fit : length m.txns ≤ max_txns
+  pub waits_fit : length m.waits ≤ max_waits
+  pub registrations_fit : length m.registrations ≤ max_registrations
 
 -- the model with one table or number replaced
 abbrev model : ℕ → ℕ → ℕ → ℕ → List Entry → List Txn → List LookUp → List Registration → Model

@@ -267,11 +267,11 @@ unfolding was_refused
 refused_none [] s e = refl
 refused_none (a ∷ rs) s e = absurd (omega (arith, s.counts))
 
-pub refused-first : {area : List ℕ} {n : ℕ} {own : Record} (rs : List Record) → Stand area n rs → (n ≡ 0 → ⊥)
+pub refused_first : {area : List ℕ} {n : ℕ} {own : Record} (rs : List Record) → Stand area n rs → (n ≡ 0 → ⊥)
     → own ≡ record_at area 0 → eqb own.kind kind_refused ≡ was_refused rs
 unfolding was_refused
-refused-first [] s d e = absurd (d s.counts)
-refused-first {n = n} (a ∷ rs) s d e =
+refused_first [] s d e = absurd (d s.counts)
+refused_first {n = n} (a ∷ rs) s d e =
     let more : 0 < n = omega (arith, s.counts) in ap (λ (x : Record). eqb x.kind kind_refused) (e ∙ s.each 0 more)
 
 -- ---- a frame's look-up

@@ -46,11 +46,11 @@ unfolding all-trays was_refused log_from records_of sitting waits waited waits_o
 wrong_reports =
     record {
       -- waiting; ticked, nothing
-      without-closing = λ keeps.
+      without_closing_lem = λ keeps.
           let z : ◌≡◌ {A = ℕ} 0 1 = same_word without_closing keeps (tray_of (read_by 1 0 1 7 ∷ a_tick ∷ [])) longest in
           omega (arith, z);
       -- nothing
-      answered-at-once = λ keeps.
+      answered_at_once_lem = λ keeps.
           let z : ◌≡◌ {A = ℕ} 1 0 = same_word answered_at_once keeps (tray_of (read_by 1 0 0 7 ∷ [])) count in
           omega (arith, z);
       -- waiting; nothing, to party 2; ticked; ticked, nothing
@@ -73,7 +73,7 @@ wrong_reports =
       zero_unseen_lem = λ keeps.
           let z : ◌≡◌ {A = ℕ} 0 1 = same_word zero_unseen keeps (tray_of (read_by 1 0 1 7 ∷ [])) count in
           omega (arith, z);
-      refused-counted = λ keeps.
+      refused_counted_lem = λ keeps.
           let z : ◌≡◌ {A = ℕ} 1 0 = same_word refused_counted keeps bad_tray asked in omega (arith, z);
       -- two ticks, then one
       last_wait_lem = λ keeps.
@@ -81,8 +81,8 @@ wrong_reports =
           let z : ◌≡◌ {A = ℕ} 1 2 = same_word last_wait keeps (tray_of fs) longest in omega (arith, z);
       refused_unseen_lem = λ keeps. let z : ◌≡◌ {A = ℕ} 0 1 = same_word refused_unseen keeps bad_tray 0 in omega (arith, z);
       one_too_many = λ tray after a. omega (arith, (a.full (omega arith)).0);
-      refused-first = λ after a. omega (arith, (a.full (omega arith)).0);
-      full-and_changed = λ tray a.
+      refused_first = λ after a. omega (arith, (a.full (omega arith)).0);
+      full_and_changed = λ tray a.
           let z : ◌≡◌ {A = ℕ} 65 64 = ap (λ l. get_or l 0 0) (a.full (omega arith)).1 in omega (arith, z);
       one_too_few = λ after a. omega (arith, a.number (omega arith));
     }

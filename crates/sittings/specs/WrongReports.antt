@@ -94,18 +94,18 @@ unfoldable pub handed_in : ℕ → List ℕ
 handed_in n = n ∷ 0 ∷ joined (map (λ p. 0 ∷ 0 ∷ 0 ∷ 0 ∷ 0 ∷ []) parties)
 
 pub record WrongReports : Type 0 where
-  pub without-closing : Keeps without_closing → ⊥
-  pub answered-at-once : Keeps answered_at_once → ⊥
+  pub without_closing_lem : Keeps without_closing → ⊥
+  pub answered_at_once_lem : Keeps answered_at_once → ⊥
   pub of_another_lem : Keeps of_another → ⊥
   pub exception_unseen : Keeps (end_unseen kind_exception) → ⊥
   pub abort_unseen : Keeps (end_unseen kind_aborted) → ⊥
   pub open_unseen_lem : Keeps open_unseen → ⊥
   pub zero_unseen_lem : Keeps zero_unseen → ⊥
-  pub refused-counted : Keeps refused_counted → ⊥
+  pub refused_counted_lem : Keeps refused_counted → ⊥
   pub refused_unseen_lem : Keeps refused_unseen → ⊥
   pub last_wait_lem : Keeps last_wait → ⊥
   -- the 65th tray is taken up, is refused for itself, or changes the report; the 64th is refused
   pub one_too_many : (tray after : List ℕ) → Added (handed_in 64) tray 0 after → ⊥
-  pub refused-first : (after : List ℕ) → Added (handed_in 64) [] (65536 * tray_refused) after → ⊥
-  pub full-and_changed : (tray : List ℕ) → Added (handed_in 64) tray (65536 * sittings_refused) (handed_in 65) → ⊥
+  pub refused_first : (after : List ℕ) → Added (handed_in 64) [] (65536 * tray_refused) after → ⊥
+  pub full_and_changed : (tray : List ℕ) → Added (handed_in 64) tray (65536 * sittings_refused) (handed_in 65) → ⊥
   pub one_too_few : (after : List ℕ) → Added (handed_in 63) (four_bytes 0) (65536 * sittings_refused) after → ⊥

@@ -230,7 +230,7 @@ module _ (m : Model) (f : Frame) (s : Sound m) where
       go (some x) q = λ w i t.
           let v = look_up_of m f in
           let r = find_some (available m.txns v) m.entries q in
-          hand_out-conflicts m.txns v w x r.1 s.consistent.txns-ok m.entries
+          hand_out-conflicts m.txns v w x r.1 s.consistent.txns_ok m.entries
           (λ y j e. unique-entry s.consistent j r.0 e) r.0 (λ y. outside (removes_why m.txns v x y).0)
           (s.hopeful w i t)
       go none q =
@@ -244,7 +244,7 @@ module _ (m : Model) (f : Frame) (s : Sound m) where
   unfolding service write_frame write heard_of stored new_entry
   service-hopeful z w i t =
       let n = stored m f in
-      serve-conflicts n.next_entry m.txns s.consistent.txns-ok w n.entries m.waits
+      serve-conflicts n.next_entry m.txns s.consistent.txns_ok w n.entries m.waits
       (stored-order m f (s.consistent.ordered.entries, s.consistent.below))
       (λ v j. eqb_cases (λ (l : List Entry). Committed m.txns l v) f.lease_or_timeout 0 (λ _. none v j)
       (λ _. all_snoc m.entries (none v j) (λ _. z)))

@@ -32,11 +32,11 @@ unique-entry s i j q = ascend_unique (λ (e : Entry). e.id.0) s.ordered.entries 
 
 -- the number of a live transaction is above 0 and below the next
 pub live-above : {m : Model} → Consistent m → {t : ℕ} → Live t m.txns → 0 < t
-live-above s l = let b = s.txns-ok.above l.0 l.1 in let q = l.2 in omega arith
+live-above s l = let b = s.txns_ok.above l.0 l.1 in let q = l.2 in omega arith
 
 pub ok-below : {m : Model} → Consistent m → {t : ℕ} → Ok t m.txns → t < m.next_txn
 ok-below s (inl z) = let p = s.positive in omega arith
-ok-below s (inr l) = let b = s.txns-ok.below l.0 l.1 in let q = l.2 in omega arith
+ok-below s (inr l) = let b = s.txns_ok.below l.0 l.1 in let q = l.2 in omega arith
 
 -- who waits inside a live transaction is its owner
 pub owner_inside : {m : Model} → Consistent m → {t party : ℕ} → LiveOf t party m.txns
@@ -44,7 +44,7 @@ pub owner_inside : {m : Model} → Consistent m → {t party : ℕ} → LiveOf t
 owner_inside s y w i q =
     ⊎_elim (λ n. let z = live-above s (y.0, y.1, y.2) in omega arith)
     (λ x. sym x.3 ∙ ap (λ (v : Txn). v.party)
-    (s.txns-ok.unique x.0 y.0 x.1 y.1 (x.2 ∙ q ∙ sym y.2)) ∙ y.3) (s.owned w i)
+    (s.txns_ok.unique x.0 y.0 x.1 y.1 (x.2 ∙ q ∙ sym y.2)) ∙ y.3) (s.owned w i)
 
 -- nobody waits inside the transaction of a frame that is not refused, unless it is an abort
 pub not_inside : {m : Model} {f : Frame} → Consistent m → Admitted f m → is_abort f.op ≡ false

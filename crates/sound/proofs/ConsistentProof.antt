@@ -174,7 +174,7 @@ entry-ok {m = m} s (is_freed t e i) =
       own = ⊎_elim (λ q. inl (free e.private_to q)) (λ q. inr (free e.taken_by q.0, none q.1)) h.own;
       owner = ok e.private_to h.owner;
       taker = ok e.taken_by h.taker;
-      readers = λ p b. freed_at s.txns-ok t e.readers p (h.readers p) b;
+      readers = λ p b. freed_at s.txns_ok t e.readers p (h.readers p) b;
       unread = ⊎_elim (λ q. inl (free e.taken_by q)) (λ q. inr (none q)) h.unread;
     }
 
@@ -268,13 +268,13 @@ pub consistent_event : {f : Frame} {m n : Model} {hs : List Heard} → Event f m
 unfolding look_up_of
 consistent_event {f} e s =
     let entries = numbered e (s.ordered.entries, s.below) in
-    let txns = living e (s.ordered.txns, s.txns-ok, s.positive) in
+    let txns = living e (s.ordered.txns, s.txns_ok, s.positive) in
     let registrations = registered e (s.ordered.registrations, s.registered) in
     record {
       ordered = record { entries = entries.0; txns = txns.0; registrations = registrations.0 };
       below = entries.1;
       held = λ x i. entry-ok s (becomes e s.ordered x i);
-      txns-ok = txns.1;
+      txns_ok = txns.1;
       positive = txns.2;
       registered = registrations.1;
       tallied = tallied e s;
@@ -291,7 +291,7 @@ consistent-empty =
       ordered = record { entries = tt; txns = tt; registrations = tt };
       below = all_none _;
       held = all_none _;
-      txns-ok = record {
+      txns_ok = record {
         unique = λ a b i. absurd (Memᴰ.not-nil i);
         slot = λ a b i. absurd (Memᴰ.not-nil i);
         above = all_none _;

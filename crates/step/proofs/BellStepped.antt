@@ -51,7 +51,7 @@ live ws bs area h d e s =
     (subst⁻¹ (λ g. Admitted g (view ws)) (asked-frame d)
     (admitted (view ws) bs (length area) (clear (view ws) bs (length area)
     (asked (view ws) bs (length area) h d ∙ e)) s.lasting)).ends refl in
-    omega (arith, s.consistent.txns-ok.above x.0 x.1, x.2)
+    omega (arith, s.consistent.txns_ok.above x.0 x.1, x.2)
 
 -- service and bells of a write, by the rules
 rung-write : (m : Model) (w : WriteRequest) (k : ℕ) → w.txn.0 ≡ 0 → (w.lease ≡ 0 → ⊥) → Sound m

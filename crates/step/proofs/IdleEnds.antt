@@ -97,7 +97,7 @@ module _ (m : Model) (s : Sound m) (x : Txn) (i : Memᴰ x m.txns) (idle : Idle 
   after = ended x.id.0 m
 
   live : live_txn x.id.0 m.txns ≡ some x
-  live = live-found s.consistent.txns-ok x i x.id.0 refl
+  live = live-found s.consistent.txns_ok x i x.id.0 refl
 
   untouched : All (λ e. released m.txns x.id.0 e ≡ e) m.entries
   unfolding released drop_reader

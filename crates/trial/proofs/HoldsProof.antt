@@ -47,4 +47,4 @@ all_trials = tt
 
 pub hold_table : HoldTable
 unfolding all_trials after writes_in
-hold_table = record { every_hold = every; by_own-frame = refl; by_others_frame = refl; by_tick = refl }
+hold_table = record { every_hold = every; by_own_frame = refl; by_others_frame = refl; by_tick = refl }

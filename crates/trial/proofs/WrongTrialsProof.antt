@@ -41,12 +41,12 @@ wrong_trials =
           same_count (counts_by (round_with tick_counting)) keeps (lasting 6 (tick_found 2)) (room_for 2) refl 3 in
           omega (arith, one);
       -- it starts over after the first exception, and gets a second
-      after-exceptions = λ keeps.
+      after_exceptions = λ keeps.
           let one : ◌≡◌ {A = ℕ} 1 2 =
           same_count (counts_by (round_with tick_unheard)) keeps short_lease (room_for 1) refl 1 in
           omega (arith, one);
       -- found in the middle of round 4: it commits in round 6, not in round 5
-      served-sends = λ keeps.
+      served_sends = λ keeps.
           let one : ◌≡◌ {A = ℕ} 1 0 =
           same_count (counts_by round_served) keeps (lasting 5 (others_found 0)) (room_for 2) refl 3 in
           omega (arith, one);
@@ -55,16 +55,16 @@ wrong_trials =
           let none : ◌≡◌ {A = ℕ} 0 1 =
           same_count counts_turned keeps (lasting 4 (others_found 0)) (room_for 2) refl 0 in
           omega (arith, none);
-      none-accepted = λ after t. omega (arith, t.number);
-      five-accepted = λ after t. omega (arith, t.number);
+      none_accepted = λ after t. omega (arith, t.number);
+      five_accepted = λ after t. omega (arith, t.number);
       nine_accepted = λ after t. omega (arith, t.number);
       short_accepted = λ after t. omega (arith, t.number);
       crowded_accepted = λ after t. omega (arith, t.number);
-      long-accepted = λ after t. omega (arith, t.number);
+      long_accepted = λ after t. omega (arith, t.number);
       most_refused = λ after t. omega (arith, t.number);
       longest_refused = λ after t. omega (arith, t.number);
-      rounds-first = λ after t. omega (arith, t.number);
-      refused-and_changed = λ t.
+      rounds_first = λ after t. omega (arith, t.number);
+      refused_and_changed = λ t.
           let kept : ◌≡◌ {A = ℕ} 0 9 = ap (λ l. get_or l 0 0) (t.refused (λ e. omega (arith, e))) in omega (arith, kept);
       word_behind = λ t. let kept : ◌≡◌ {A = ℕ} 0 9 = ap (λ l. get_or l 3 0) (t.counted refl) in omega (arith, kept);
     }

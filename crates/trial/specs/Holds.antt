@@ -60,7 +60,7 @@ pub record HoldTable : Type 0 where
   -- whatever the hold: the write is sent once so many ticks have come, and nothing before, unless a record comes first
   pub every_hold : (p : Pane) (party : ℕ) (t : TxnId) (hold n : ℕ)
       → sends p party (after_ticks n (Holds t hold)) ≡ cond (leb hold n) (sends p party (Holds t 0)) none
-  pub by_own-frame : map (λ h. writes_in (own_found h) 1 6) (0 ∷ 1 ∷ 2 ∷ 3 ∷ [])
+  pub by_own_frame : map (λ h. writes_in (own_found h) 1 6) (0 ∷ 1 ∷ 2 ∷ 3 ∷ [])
       ≡ (3 ∷ []) ∷ (3 ∷ []) ∷ (4 ∷ []) ∷ (5 ∷ []) ∷ []
   pub by_others_frame : map (λ h. writes_in (others_found h) 2 7) (0 ∷ 1 ∷ 2 ∷ 3 ∷ [])
       ≡ (5 ∷ []) ∷ (5 ∷ []) ∷ (6 ∷ []) ∷ (7 ∷ []) ∷ []

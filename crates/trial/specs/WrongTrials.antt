@@ -75,22 +75,22 @@ room_for panes = joined (places (λ _. 9 ∷ 9 ∷ 9 ∷ []) panes)
 
 pub record WrongTrials : Type 0 where
   pub serving_tick : Keeps (counts_by (round_with tick_counting)) → ⊥
-  pub after-exceptions : Keeps (counts_by (round_with tick_unheard)) → ⊥
-  pub served-sends : Keeps (counts_by round_served) → ⊥
+  pub after_exceptions : Keeps (counts_by (round_with tick_unheard)) → ⊥
+  pub served_sends : Keeps (counts_by round_served) → ⊥
   pub others_counts : Keeps counts_turned → ⊥
   -- what is to be refused is accepted: no pane, five; nine starting entries; a word too few; counts for one pane of
   -- two; 1,001 rounds
-  pub none-accepted : (after : List ℕ) → Tried (setup_of 2 0 0) (room_for 5) 0 after → ⊥
-  pub five-accepted : (after : List ℕ) → Tried (setup_of 2 5 0) (room_for 5) 0 after → ⊥
+  pub none_accepted : (after : List ℕ) → Tried (setup_of 2 0 0) (room_for 5) 0 after → ⊥
+  pub five_accepted : (after : List ℕ) → Tried (setup_of 2 5 0) (room_for 5) 0 after → ⊥
   pub nine_accepted : (after : List ℕ) → Tried (setup_of 2 1 9) (room_for 5) 0 after → ⊥
   pub short_accepted : (after : List ℕ) → Tried (take 8 (setup_of 2 1 0)) (room_for 5) 0 after → ⊥
   pub crowded_accepted : (after : List ℕ) → Tried (setup_of 2 2 0) (room_for 1) 0 after → ⊥
-  pub long-accepted : (after : List ℕ) → Tried (setup_of 1001 1 0) (room_for 5) 0 after → ⊥
+  pub long_accepted : (after : List ℕ) → Tried (setup_of 1001 1 0) (room_for 5) 0 after → ⊥
   -- what is to be accepted is refused: four panes, eight starting entries and 1,000 rounds are not too many
   pub most_refused : (after : List ℕ) → Tried (setup_of 1000 4 8) (room_for 4) (65536 * panes_refused) after → ⊥
   pub longest_refused : (after : List ℕ) → Tried (setup_of 1000 4 8) (room_for 4) (65536 * rounds_refused) after → ⊥
   -- "24 .. after 23"
-  pub rounds-first : (after : List ℕ) → Tried (setup_of 1001 0 0) (room_for 5) (65536 * rounds_refused) after → ⊥
+  pub rounds_first : (after : List ℕ) → Tried (setup_of 1001 0 0) (room_for 5) (65536 * rounds_refused) after → ⊥
   -- counts that a refusal changes; a word behind those of the panes
-  pub refused-and_changed : Tried (setup_of 2 0 0) (room_for 1) (65536 * panes_refused) (0 ∷ 0 ∷ 0 ∷ []) → ⊥
+  pub refused_and_changed : Tried (setup_of 2 0 0) (room_for 1) (65536 * panes_refused) (0 ∷ 0 ∷ 0 ∷ []) → ⊥
   pub word_behind : Tried (setup_of 2 1 0) (9 ∷ 9 ∷ 9 ∷ 9 ∷ []) 0 (0 ∷ 0 ∷ 1 ∷ 0 ∷ []) → ⊥

@@ -33,10 +33,9 @@ decreases-loop tray len count free₀ counts₀ i₀ free counts i = count - i
 loop-holds : tie.Need-loop-i-init invariant-loop decreases-loop
 loop-holds c =
     let n = c.pair_count-count.ensures in
-    let start = c in
-    let few = few-frames _ start.requires in (
+    let few = few-frames _ c.requires in (
       judging_none _ (omega (arith, n, c.pairs_end-free.ensures)),
-      counted_none start.args.tray.now,
+      counted_none c.args.tray.now,
       refl,
       n,
       omega (arith, n, few),
@@ -50,11 +49,9 @@ pair-at-requires c κs =
 
 returns : tie.Need-returns-then-is_misplaced invariant-loop decreases-loop
 returns c =
-    let pair = c in
-    let loop = pair in
-    let l = loop.loop-i in
-    by_16 _ loop.requires
-    (out_of_place l.invariant.0 (omega (arith, l.invariant.3)) pair.pair_at-pair.ensures l.invariant.2
+    let l = c.loop-i in
+    by_16 _ c.requires
+    (out_of_place l.invariant.0 (omega (arith, l.invariant.3)) c.pair_at-pair.ensures l.invariant.2
     (sym c.is_misplaced.ensures ∙ c.if-is_misplaced.true))
 
 first-byte-requires : tie.Need-first_byte-requires invariant-loop decreases-loop
@@ -70,18 +67,17 @@ count-frame-requires c κs =
 
 loop-again : tie.Need-loop-i-preserved invariant-loop decreases-loop
 loop-again c =
-    let pair = c in
-    let l = pair.loop-i in
-    let a = pair.args in
-    let more : l.i < frame_count a.tray.now = omega (arith, l.invariant.3, pair.loop-i-test.true) in (
-      judging_more l.invariant.0 more pair.pair_at-pair.ensures l.invariant.2
+    let l = c.loop-i in
+    let a = c.args in
+    let more : l.i < frame_count a.tray.now = omega (arith, l.invariant.3, c.loop-i-test.true) in (
+      judging_more l.invariant.0 more c.pair_at-pair.ensures l.invariant.2
           (sym c.is_misplaced.ensures ∙ c.if-is_misplaced.false),
       c.count_frame-counts.ensures ∙ counted_more a.tray.now more l.invariant.1
-          (c.first_byte.ensures ∙ ap (λ f. byte_at f 0) (part_is_frame _ pair.pair_at-pair.ensures)),
+          (c.first_byte.ensures ∙ ap (λ f. byte_at f 0) (part_is_frame _ c.pair_at-pair.ensures)),
       l.invariant.2,
       l.invariant.3,
       l.invariant.4,
-      omega (arith, pair.loop-i-test.true),
+      omega (arith, c.loop-i-test.true),
     )
 
 packed-requires : tie.Need-packed-requires invariant-loop decreases-loop
@@ -89,14 +85,12 @@ packed-requires c κs = let l = c.loop-i in few-counted _ l.i l.invariant.1 (ome
 
 returns-2 : tie.Need-returns invariant-loop decreases-loop
 returns-2 c =
-    let loop = c in
-    let l = loop.loop-i in
-    let start = loop in
-    let tray = start.args.tray.now in
+    let l = c.loop-i in
+    let tray = c.args.tray.now in
     let all = l.invariant.1 ∙ counted-all tray l.i (omega (arith, l.invariant.3, c.loop-i-test.false)) in
     c.packed.ensures
     ∙ ap (λ (k : Counts). lesser max_entries k.writes + 65536 * k.records) all
-    ∙ by_counts tray start.requires (judging_all l.invariant.0 (omega (arith, l.invariant.3, c.loop-i-test.false)))
+    ∙ by_counts tray c.requires (judging_all l.invariant.0 (omega (arith, l.invariant.3, c.loop-i-test.false)))
 
 pub count_frames_spec : {M : Type 1} → statement M
 count_frames_spec =

@@ -12,40 +12,31 @@ use Rattle.finish.proofs.finish_tick.Tie as tie
 
 serve-ended-requires : tie.Need-serve_ended-served-requires
 serve-ended-requires c κs =
-    let lapsed = c in
-    let start = lapsed in
     omega (
       arith,
-      start.requires,
-      lapsed.lapse-ended.ensures.adds.counts,
-      few-ended start.args.space.now Tick,
-      lapsed.lapse-ended.auto.answers,
+      c.requires,
+      c.lapse-ended.ensures.adds.counts,
+      few-ended c.args.space.now Tick,
+      c.lapse-ended.auto.answers,
     )
 
 close-waits-requires : tie.Need-close_waits-requires
 close-waits-requires c κs =
-    let served = c in
-    let lapsed = served in
-    let start = lapsed in
-    let s = served.serve_ended-served.ensures in
+    let s = c.serve_ended-served.ensures in
     omega (
       arith,
-      start.requires,
-      lapsed.lapse-ended.ensures.adds.counts,
-      few-ended start.args.space.now Tick,
+      c.requires,
+      c.lapse-ended.ensures.adds.counts,
+      few-ended c.args.space.now Tick,
       s.adds.counts,
       ap (λ (m : Model). length m.waits) s.model,
-      few-served lapsed.lapse-ended.new.space (first_free Tick 0 (lapsed.lapse-ended.result - start.args.count)),
+      few-served c.lapse-ended.new.space (first_free Tick 0 (c.lapse-ended.result - c.args.count)),
     )
 
 returns : tie.Need-returns
 returns c =
-    let closed = c in
-    let served = closed in
-    let lapsed = served in
-    let start = lapsed in
-    finish_parts start.args.space.now Tick 0 (omega (arith, start.requires)) lapsed.lapse-ended.ensures refl
-    served.serve_ended-served.ensures closed.close_waits.ensures
+    finish_parts c.args.space.now Tick 0 (omega (arith, c.requires)) c.lapse-ended.ensures refl
+    c.serve_ended-served.ensures c.close_waits.ensures
 
 pub finish_tick_spec : {M : Type 1} → statement M
 finish_tick_spec =

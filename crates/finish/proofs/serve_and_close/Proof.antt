@@ -12,25 +12,20 @@ use Rattle.finish.proofs.serve_and_close.Tie as tie
 
 close-in-vain-requires : tie.Need-close_in_vain-requires
 close-in-vain-requires c κs =
-    let served = c in
-    let start = served in
-    let s = served.serve-served.ensures in
+    let s = c.serve-served.ensures in
     omega (
       arith,
-      start.requires,
+      c.requires,
       s.adds.counts,
       ap (λ (m : Model). length m.waits) s.model,
-      few-served start.args.space.now start.args.from,
+      few-served c.args.space.now c.args.from,
     )
 
 returns : tie.Need-returns
 returns c =
-    let closed = c in
-    let served = closed in
-    let start = served in
-    finish_parts start.args.space.now Both start.args.from (omega (arith, start.requires)) (does-nothing _ _ _)
+    finish_parts c.args.space.now Both c.args.from (omega (arith, c.requires)) (does-nothing _ _ _)
     refl
-    served.serve-served.ensures closed.close_in_vain.ensures
+    c.serve-served.ensures c.close_in_vain.ensures
 
 pub serve_and_close_spec : {M : Type 1} → statement M
 serve_and_close_spec =

@@ -18,8 +18,7 @@ returns c =
 
 returns-2 : tie.Need-returns
 returns-2 c =
-    let test = c in
-    rw (ne_eqb test.args.ended 0 test.if-ended-eq0.false) c.serve.ensures
+    rw (ne_eqb c.args.ended 0 c.if-ended-eq0.false) c.serve.ensures
 
 pub serve_ended_spec : {M : Type 1} → statement M
 serve_ended_spec = tie.close (tie.spec returns (λ c κs. search rules) (λ c. search rules) returns-2)

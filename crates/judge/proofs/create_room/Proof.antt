@@ -26,8 +26,7 @@ returns-2 c = rw (ne_eqb _ _ c.if-lease-eq0.false, sym c.too_late.ensures ∙ c.
 returns-3 : tie.Need-returns-then-txn_count-ge-MAX_TXNS
 unfolding no_lease too_late entries_full txns_full layout_of
 returns-3 c =
-    let late = c in
-    rw (ne_eqb _ _ late.if-lease-eq0.false, sym late.too_late.ensures ∙ c.if-too_late.false)
+    rw (ne_eqb _ _ c.if-lease-eq0.false, sym c.too_late.ensures ∙ c.if-too_late.false)
     (rw (length-txns, sym c.txn_count.ensures.0, le-leb _ _ c.if-txn_count-ge-MAX_TXNS.true))
 
 -- 13 is left
@@ -37,12 +36,10 @@ last : (c : tie.After-next_txn)
     ≡ room_refusal (view a.space.now) (frame_of (Create a.party a.lease))
 unfolding no_lease too_late entries_full txns_full registrations_full no_number layout_of
 last c =
-    let counted = c in
-    let late = counted in
-    rw (ne_eqb _ _ late.if-lease-eq0.false, sym late.too_late.ensures ∙ counted.if-too_late.false)
+    rw (ne_eqb _ _ c.if-lease-eq0.false, sym c.too_late.ensures ∙ c.if-too_late.false)
     (rw (
       length-txns,
-      sym counted.txn_count.ensures.0,
+      sym c.txn_count.ensures.0,
       lt-leb _ _ c.if-txn_count-ge-MAX_TXNS.false,
       or-false,
       c.next_txn.ensures,

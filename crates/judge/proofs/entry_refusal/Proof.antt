@@ -24,10 +24,9 @@ own : (c : tie.After-too_late)
     entry_refusal a.party a.e (view a.space.now).clock a.lease ≡ cond c.too_late.result clock_refused 0
 unfolding entry_refusal
 own c =
-    let free = c in
     rw (
-      eq-eqb _ _ free.if-e-party.false,
-      sym free.is_free.ensures ∙ c.if-not-is_free.false,
+      eq-eqb _ _ c.if-e-party.false,
+      sym c.is_free.ensures ∙ c.if-not-is_free.false,
       sym c.too_late.ensures,
     )
 

@@ -15,16 +15,14 @@ returns c =
 
 returns-2 : tie.Need-returns-then-too_late
 returns-2 c =
-    let party = c in
-    let l = party.args.l in
-    by_room _ _ (party.party_refusal-n.ensures ∙ admission_parts _ _ _ _ (find_names l) (find_inside l) (find_leaves l))
+    let l = c.args.l in
+    by_room _ _ (c.party_refusal-n.ensures ∙ admission_parts _ _ _ _ (find_names l) (find_inside l) (find_leaves l))
     c.if-n-ne0.false (rw (find_room _ l, sym c.too_late.ensures ∙ c.if-too_late.true))
 
 returns-3 : tie.Need-returns-else-too_late
 returns-3 c =
-    let party = c in
-    let l = party.args.l in
-    by_room _ _ (party.party_refusal-n.ensures ∙ admission_parts _ _ _ _ (find_names l) (find_inside l) (find_leaves l))
+    let l = c.args.l in
+    by_room _ _ (c.party_refusal-n.ensures ∙ admission_parts _ _ _ _ (find_names l) (find_inside l) (find_leaves l))
     c.if-n-ne0.false (rw (find_room _ l, sym c.too_late.ensures ∙ c.if-too_late.false))
 
 pub find_refusal_spec : {M : Type 1} → statement M

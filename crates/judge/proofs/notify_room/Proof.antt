@@ -26,8 +26,7 @@ returns-2 c = rw (ne_eqb _ _ c.if-q-eq0.false, sym c.too_late.ensures ∙ c.if-t
 returns-3 : tie.Need-returns-then-registration_count-ge-MAX_REGISTRATIONS
 unfolding no_lease too_late entries_full txns_full registrations_full layout_of
 returns-3 c =
-    let late = c in
-    rw (ne_eqb _ _ late.if-q-eq0.false, sym late.too_late.ensures ∙ c.if-too_late.false)
+    rw (ne_eqb _ _ c.if-q-eq0.false, sym c.too_late.ensures ∙ c.if-too_late.false)
     (rw (length-registrations, sym c.registration_count.ensures.0, le-leb _ _ c.if-registration_count-ge-MAX_REGISTRATIONS.true))
 
 -- 13 is left
@@ -37,12 +36,10 @@ last : (c : tie.After-next_registration)
     ≡ room_refusal (view a.space.now) (frame_of (Notify a.q))
 unfolding no_lease too_late entries_full txns_full registrations_full no_number layout_of
 last c =
-    let counted = c in
-    let late = counted in
-    rw (ne_eqb _ _ late.if-q-eq0.false, sym late.too_late.ensures ∙ counted.if-too_late.false)
+    rw (ne_eqb _ _ c.if-q-eq0.false, sym c.too_late.ensures ∙ c.if-too_late.false)
     (rw (
       length-registrations,
-      sym counted.registration_count.ensures.0,
+      sym c.registration_count.ensures.0,
       lt-leb _ _ c.if-registration_count-ge-MAX_REGISTRATIONS.false,
       c.next_registration.ensures,
     ))

@@ -20,8 +20,7 @@ returns c = rw c.if-not-inside.true
 returns-2 : tie.Need-returns-then-id-eq0
 unfolding txn_refusal
 returns-2 c =
-    let test = c in
-    rw (test.if-not-inside.false, eq-eqb _ _ c.if-id-eq0.true)
+    rw (c.if-not-inside.false, eq-eqb _ _ c.if-id-eq0.true)
 
 -- what is found decides, where the frame is in a transaction that it names
 found : (c : tie.After-find_txn) {n : ℕ}
@@ -29,13 +28,11 @@ found : (c : tie.After-find_txn) {n : ℕ}
     (eqb a.id.0 0 ≡ false → n ≡ txn_refusal true a.party a.id.0 (view a.space.now).txns)
     → n ≡ txn_refusal a.inside a.party a.id.0 (view a.space.now).txns
 found c e =
-    let test = c in
-    rw test.if-not-inside.false (e (ne_eqb _ _ c.if-id-eq0.false))
+    rw c.if-not-inside.false (e (ne_eqb _ _ c.if-id-eq0.false))
 
 returns-3 : tie.Need-returns-in_default
 returns-3 c =
-    let find = c in
-    found find.before (λ z. live-none _ _ _ z (sym find.find_txn.ensures.live ∙ ap live_of c.in_default.is))
+    found c.before (λ z. live-none _ _ _ z (sym c.find_txn.ensures.live ∙ ap live_of c.in_default.is))
 
 -- 8, by the live transaction's party
 owned : (c : tie.In-At)
@@ -43,8 +40,7 @@ owned : (c : tie.In-At)
     cond (not (eqb c.in-At.t.party a.party)) not_own_refused 0
     ≡ txn_refusal a.inside a.party a.id.0 (view a.space.now).txns
 owned c =
-    let find = c in
-    found find.before (λ z. live_some _ _ _ z _ (sym find.find_txn.ensures.live ∙ ap live_of c.in-At.is))
+    found c.before (λ z. live_some _ _ _ z _ (sym c.find_txn.ensures.live ∙ ap live_of c.in-At.is))
 
 returns-4 : tie.Need-returns-then-t-party
 returns-4 c = rw (eq-eqb _ _ c.if-t-party.true) at (owned c.before.before)

@@ -19,8 +19,7 @@ decreases-loop space hints party leaving n i₀ i = n - i
 
 returns : tie.Need-returns-then-not-may_wait invariant-loop decreases-loop
 returns c =
-    let start = c in
-    sym (unflagged_waits start.args.party start.args.leaving.0 start.requires
+    sym (unflagged_waits c.args.party c.args.leaving.0 c.requires
     (c.may_wait.ensures (c.if-not-may_wait.true)))
 
 loop-holds : tie.Need-loop-i-init invariant-loop decreases-loop
@@ -28,8 +27,7 @@ loop-holds c = (omega arith, search_start)
 
 returns-2 : tie.Need-returns-then-is_barring invariant-loop decreases-loop
 returns-2 c =
-    let loop = c in
-    sym (search_any (waits-read loop.args.space.now) loop.loop-i.invariant.1
+    sym (search_any (waits-read c.args.space.now) c.loop-i.invariant.1
     (omega arith)
     c.wait_at-w.ensures (sym c.is_barring.ensures ∙ c.if-is_barring.true))
 

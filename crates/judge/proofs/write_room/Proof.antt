@@ -21,8 +21,7 @@ returns c = rw (sym c.too_late.ensures ∙ c.if-too_late.true)
 returns-2 : tie.Need-returns-then-lacks_room
 unfolding no_lease too_late entries_full layout_of
 returns-2 c =
-    let late = c in
-    rw (sym late.too_late.ensures ∙ late.if-too_late.false, sym c.lacks_room.ensures ∙ c.if-lacks_room.true)
+    rw (sym c.too_late.ensures ∙ c.if-too_late.false, sym c.lacks_room.ensures ∙ c.if-lacks_room.true)
 
 -- 13 is left
 last : (c : tie.After-next_entry)
@@ -31,9 +30,7 @@ last : (c : tie.After-next_entry)
     ≡ room_refusal (view a.space.now) (frame_of (Write a.w))
 unfolding no_lease too_late entries_full txns_full registrations_full no_number layout_of
 last c =
-    let room = c in
-    let late = room in
-    rw (sym late.too_late.ensures ∙ late.if-too_late.false, sym room.lacks_room.ensures ∙ c.if-lacks_room.false)
+    rw (sym c.too_late.ensures ∙ c.if-too_late.false, sym c.lacks_room.ensures ∙ c.if-lacks_room.false)
     (rw (or-false, or-false, c.next_entry.ensures))
 
 returns-3 : tie.Need-returns-then-next_entry-ge-FOREVER

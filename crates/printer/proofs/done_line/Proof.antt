@@ -17,10 +17,9 @@ returns c = front-none _ _ _ (lt-leb _ _ c.if-out-lt-LINE_SIZE.true)
 returns-2 : tie.Need-returns
 unfolding done_line
 returns-2 c =
-    let d = c in
-    let room = d.if-out-lt-LINE_SIZE.false in
-    let done : Puts (100 ∷ 111 ∷ 110 ∷ 101 ∷ 32 ∷ []) _ d.put_done.new.out 0 5 =
-    record { bytes = d.put_done.ensures; end = refl; room = omega (arith, room) } in
+    let room = c.if-out-lt-LINE_SIZE.false in
+    let done : Puts (100 ∷ 111 ∷ 110 ∷ 101 ∷ 32 ∷ []) _ c.put_done.new.out 0 5 =
+    record { bytes = c.put_done.ensures; end = refl; room = omega (arith, room) } in
     prints-all _ _ _ _ _ (le-leb _ _ room) (puts_then _ _ _ _ _ 0 5 _ done c.put_line.ensures)
 
 pub done_line_spec : {M : Type 1} → statement M

@@ -21,47 +21,35 @@ loop-holds c = let p = c.requires in (omega arith, lining_none _ _ _ p.0 (omega 
 -- room for a number and what stands behind it
 room : (c : tie.In-loop-i invariant-loop decreases-loop) → c.loop-i.next + 11 ≤ length c.loop-i.out
 room c =
-    let s = c in
-    lining_room _ _ _ _ _ _ c.loop-i.invariant.1 c.loop-i-test.true s.requires.1
+    lining_room _ _ _ _ _ _ c.loop-i.invariant.1 c.loop-i-test.true c.requires.1
 
 mul_put_decimal : tie.Need-offset_bounds-numbers-i invariant-loop decreases-loop
 mul_put_decimal c =
-    let s = c in
-    omega (arith, c.loop-i-test.true, s.requires.1, s.well_formed.0.0)
+    omega (arith, c.loop-i-test.true, c.requires.1, c.well_formed.0.0)
 
 put-decimal-requires : tie.Need-put_decimal-next-requires invariant-loop decreases-loop
 put-decimal-requires c κs =
-    let l = c in
-    let s = l in
-    omega (arith, room c.before.before, digits-length 10 (get_or s.args.numbers.now l.loop-i.i 0))
+    omega (arith, room c.before.before, digits-length 10 (get_or c.args.numbers.now c.loop-i.i 0))
 
 -- the digits end within the buffer
 within : (c : tie.After-put_decimal-next invariant-loop decreases-loop)
     → c.put_decimal-next.result < length c.loop-i.out
 within c =
-    let l = c in
-    let s = l in
-    let few = digits-length 10 (get_or s.args.numbers.now l.loop-i.i 0) in
+    let few = digits-length 10 (get_or c.args.numbers.now c.loop-i.i 0) in
     omega (arith, room c.before.before.before, c.put_decimal-next.ensures.end)
 
 slice_write_out : tie.Need-bounds-out-next invariant-loop decreases-loop
-slice_write_out c = let d = c in omega (arith, within d.before.before.before, d.put_decimal-next.auto.out)
+slice_write_out c = omega (arith, within c.before.before.before, c.put_decimal-next.auto.out)
 
 add-next : tie.Need-overflow_add-next invariant-loop decreases-loop
 add-next c =
-    let d = c in
-    let l = d in
-    let s = l in
-    omega (arith, within d.before.before.before, lining_length _ _ _ _ _ _ l.loop-i.invariant.1, s.well_formed.0.0)
+    omega (arith, within c.before.before.before, lining_length _ _ _ _ _ _ c.loop-i.invariant.1, c.well_formed.0.0)
 
 loop-again : tie.Need-loop-i-preserved invariant-loop decreases-loop
 loop-again c =
-    let d = c in
-    let t = d in
-    let l = t in
-    let s = l in (
+    (
       omega arith,
-      lining_next _ _ _ _ _ _ l.loop-i.invariant.1 t.loop-i-test.true s.requires.1 _ _ _ d.put_decimal-next.ensures
+      lining_next _ _ _ _ _ _ c.loop-i.invariant.1 c.loop-i-test.true c.requires.1 _ _ _ c.put_decimal-next.ensures
           c.after.ensures,
     )
 

@@ -19,9 +19,7 @@ returns-2 c = front-none _ _ _ (rw (lt-leb _ _ c.if-out-lt-LINE_SIZE.true, and-f
 returns-3 : tie.Need-returns
 unfolding record_text record_line
 returns-3 c =
-    let r = c in
-    let room = r in
-    rw (sym r.record_at-r.ensures, le-leb _ _ room.if-bytes-lt-RECORD_SIZE.false, le-leb _ _ room.if-out-lt-LINE_SIZE.false)
+    rw (sym c.record_at-r.ensures, le-leb _ _ c.if-bytes-lt-RECORD_SIZE.false, le-leb _ _ c.if-out-lt-LINE_SIZE.false)
     (prints-all _ _ _ _ _ refl c.put_line.ensures)
 
 pub record_line_spec : {M : Type 1} → statement M

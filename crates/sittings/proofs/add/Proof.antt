@@ -11,22 +11,18 @@ returns c =
 
 returns-2 : tie.Need-returns-then-number-ne0
 returns-2 c =
-    let judged = c in
-    let test = judged in
-    let a = test.args in
+    let a = c.args in
     let ws = a.report.now in
-    added-refused ws a.tray.now judged.refusal-number.result (get_or ws 0 0 + 1) test.whole.ensures
-    (omega (arith, test.if-report-ge-MAX_SITTINGS.false)) refl judged.refusal-number.ensures c.if-number-ne0.true
+    added-refused ws a.tray.now c.refusal-number.result (get_or ws 0 0 + 1) c.whole.ensures
+    (omega (arith, c.if-report-ge-MAX_SITTINGS.false)) refl c.refusal-number.ensures c.if-number-ne0.true
     c.wrapping_add_u32.ensures
 
 returns-3 : tie.Need-returns
 returns-3 c =
-    let judged = c in
-    let test = judged in
-    let a = test.args in
+    let a = c.args in
     let ws = a.report.now in
-    added-sitting ws a.tray.now judged.refusal-number.result (get_or ws 0 0 + 1) test.whole.ensures
-    (omega (arith, test.if-report-ge-MAX_SITTINGS.false)) refl judged.refusal-number.ensures c.if-number-ne0.false
+    added-sitting ws a.tray.now c.refusal-number.result (get_or ws 0 0 + 1) c.whole.ensures
+    (omega (arith, c.if-report-ge-MAX_SITTINGS.false)) refl c.refusal-number.ensures c.if-number-ne0.false
     c.whole-2.ensures c.add_sitting.ensures
 
 pub add_spec : {M : Type 1} → statement M

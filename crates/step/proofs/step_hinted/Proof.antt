@@ -10,19 +10,13 @@ returns c = (stepped_short c.if-answers-lt-STEP_AREA.true refl refl refl, λ _. 
 
 take-up-requires : tie.Need-take_up-requires
 take-up-requires c κs =
-    let asked = c in
-    let decoded = asked in
-    let start = decoded in
-    (rw asked.in-Asks.is at decoded.decode-asked.ensures, decoded.if-answers-lt-STEP_AREA.false, start.requires)
+    (rw c.in-Asks.is at c.decode-asked.ensures, c.if-answers-lt-STEP_AREA.false, c.requires)
 
 returns-3 : tie.Need-returns-in-Refused
 returns-3 c =
-    let asked = c in
-    let decoded = asked in
-    let start = decoded in
-    let long = decoded.if-answers-lt-STEP_AREA.false in
-    let d = form_refused _ _ _ long (rw asked.in-Refused.is at decoded.decode-asked.ensures) in
-    (stepped-refused long d.0 d.1 refl c.refuse.ensures, λ _. start.requires)
+    let long = c.if-answers-lt-STEP_AREA.false in
+    let d = form_refused _ _ _ long (rw c.in-Refused.is at c.decode-asked.ensures) in
+    (stepped-refused long d.0 d.1 refl c.refuse.ensures, λ _. c.requires)
 
 pub step_hinted_spec : {M : Type 1} → statement M
 step_hinted_spec =

@@ -17,8 +17,7 @@ returns c =
 
 returns-2 : tie.Need-returns
 returns-2 c =
-    let test = c in
-    let none = sym test.refusal-number.ensures ∙ test.if-number-ne0.false in
+    let none = sym c.refusal-number.ensures ∙ c.if-number-ne0.false in
     record {
       number = omega (arith, none);
       refused = λ some. absurd (some none);

@@ -28,21 +28,18 @@ loop-holds c =
 
 returns : tie.Need-returns-then-is_conflicting invariant-loop decreases-loop
 returns c =
-    let l = c in
     let test = sym c.is_conflicting.ensures ∙ c.if-is_conflicting.true in
-    sym (search_any (entries-read l.args.space.now) l.loop-i.invariant (omega arith)
+    sym (search_any (entries-read c.args.space.now) c.loop-i.invariant (omega arith)
     c.entry_at-e.ensures test)
 
 loop-again : tie.Need-loop-i-preserved invariant-loop decreases-loop
 loop-again c =
-    let seen = c in
-    let l = seen in
-    let a = l.args in
-    let test = sym seen.is_conflicting.ensures ∙ c.if-is_conflicting.false in
-    search_past _ a.w.mask a.w.fields l.asked_of-asked.ensures
+    let a = c.args in
+    let test = sym c.is_conflicting.ensures ∙ c.if-is_conflicting.false in
+    search_past _ a.w.mask a.w.fields c.asked_of-asked.ensures
     (conflicts (view a.space.now).txns a.w) (only_conflicting (view a.space.now).txns a.w)
-    l.loop-i.invariant
-    (ap (conflicts (view a.space.now).txns a.w) (sym seen.entry_at-e.ensures) ∙ test)
+    c.loop-i.invariant
+    (ap (conflicts (view a.space.now).txns a.w) (sym c.entry_at-e.ensures) ∙ test)
     c.next_row-i-in-loop-i.ensures.1
 
 loop-less : tie.Need-loop-i-smaller invariant-loop decreases-loop
@@ -50,8 +47,7 @@ loop-less c = omega (arith, c.next_row-i-in-loop-i.ensures.0)
 
 returns-2 : tie.Need-returns invariant-loop decreases-loop
 returns-2 c =
-    let l = c in
-    sym (search_no (entries-read l.args.space.now) l.loop-i.invariant (omega arith))
+    sym (search_no (entries-read c.args.space.now) c.loop-i.invariant (omega arith))
 
 pub any_conflict_spec : {M : Type 1} → statement M
 any_conflict_spec =

@@ -28,11 +28,10 @@ loop-holds c =
 
 returns : tie.Need-returns-then-is_available invariant-loop decreases-loop
 returns c =
-    let l = c in
     let test = sym c.is_available.ensures ∙ c.if-is_available.true in
     let is = c.entry_at-e.ensures in
-    let count = l.entry_count-n.ensures.0 in (
-      sym (search_found (entries-read l.args.space.now) l.loop-i.invariant
+    let count = c.entry_count-n.ensures.0 in (
+      sym (search_found (entries-read c.args.space.now) c.loop-i.invariant
           (omega arith) is
           test),
       (omega (arith, count), is),
@@ -40,13 +39,11 @@ returns c =
 
 loop-again : tie.Need-loop-i-preserved invariant-loop decreases-loop
 loop-again c =
-    let seen = c in
-    let l = seen in
-    let a = l.args in
-    let test = sym seen.is_available.ensures ∙ c.if-is_available.false in
-    search_past _ a.w.mask a.w.fields l.asked_of-asked.ensures
-    (available (view a.space.now).txns a.w) (only-available (view a.space.now).txns a.w) l.loop-i.invariant
-    (ap (available (view a.space.now).txns a.w) (sym seen.entry_at-e.ensures) ∙ test)
+    let a = c.args in
+    let test = sym c.is_available.ensures ∙ c.if-is_available.false in
+    search_past _ a.w.mask a.w.fields c.asked_of-asked.ensures
+    (available (view a.space.now).txns a.w) (only-available (view a.space.now).txns a.w) c.loop-i.invariant
+    (ap (available (view a.space.now).txns a.w) (sym c.entry_at-e.ensures) ∙ test)
     c.next_row-i-in-loop-i.ensures.1
 
 loop-less : tie.Need-loop-i-smaller invariant-loop decreases-loop
@@ -54,8 +51,8 @@ loop-less c = omega (arith, c.next_row-i-in-loop-i.ensures.0)
 
 returns-2 : tie.Need-returns invariant-loop decreases-loop
 returns-2 c =
-    let l = c in (
-      sym (search_none (entries-read l.args.space.now) l.loop-i.invariant
+    (
+      sym (search_none (entries-read c.args.space.now) c.loop-i.invariant
           (omega arith)),
       tt,
     )

@@ -23,25 +23,20 @@ over_as m {row = row} e t r q k =
 
 returns : tie.Need-returns-then-reached_at
 returns c =
-    let read = c in
-    sym (over_as (view read.args.space.now) read.wait_at-w.ensures c.clock.ensures
+    sym (over_as (view c.args.space.now) c.wait_at-w.ensures c.clock.ensures
     c.reached_at.ensures c.if-reached_at.true refl)
 
 returns-2 : tie.Need-returns-then-w
 returns-2 c =
-    let test = c in
-    let read = test in
-    let m = view read.args.space.now in
+    let m = view c.args.space.now in
     c.lacks_conflict.ensures
-    ∙ sym (over_as m read.wait_at-w.ensures test.clock.ensures test.reached_at.ensures
-    test.if-reached_at.false c.if-w.true)
+    ∙ sym (over_as m c.wait_at-w.ensures c.clock.ensures c.reached_at.ensures
+    c.if-reached_at.false c.if-w.true)
 
 returns-3 : tie.Need-returns-else-w
 returns-3 c =
-    let test = c in
-    let read = test in
-    sym (over_as (view read.args.space.now) read.wait_at-w.ensures test.clock.ensures
-    test.reached_at.ensures test.if-reached_at.false c.if-w.false)
+    sym (over_as (view c.args.space.now) c.wait_at-w.ensures c.clock.ensures
+    c.reached_at.ensures c.if-reached_at.false c.if-w.false)
 
 pub is_over_spec : {M : Type 1} → statement M
 is_over_spec =

@@ -9,9 +9,8 @@ use Rattle.available.proofs.find.lacks_conflict.Tie as tie
 
 returns : tie.Need-returns
 returns c =
-    let read = c in
-    let m = view read.args.space.now in
-    ap not (c.any_conflict.ensures ∙ ap (λ w. some_conflicts m.txns w m.entries) read.wait_at-w.ensures)
+    let m = view c.args.space.now in
+    ap not (c.any_conflict.ensures ∙ ap (λ w. some_conflicts m.txns w m.entries) c.wait_at-w.ensures)
 
 pub lacks_conflict_spec : {M : Type 1} → statement M
 lacks_conflict_spec =

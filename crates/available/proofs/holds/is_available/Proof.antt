@@ -8,15 +8,13 @@ use Rattle.available.proofs.holds.is_available.Tie as tie
 returns : tie.Need-returns-then-is_visible
 unfolding available visible read_by_other
 returns c =
-    let b = c in
-    let fits = sym b.fields_match.ensures ∙ b.if-fields_match.true in
+    let fits = sym c.fields_match.ensures ∙ c.if-fields_match.true in
     rw (fits, sym c.is_visible.ensures ∙ c.if-is_visible.true, c.is_barred.ensures)
 
 returns-2 : tie.Need-returns-else-is_visible
 unfolding available visible
 returns-2 c =
-    let b = c in
-    rw (sym b.fields_match.ensures ∙ b.if-fields_match.true, sym c.is_visible.ensures ∙ c.if-is_visible.false)
+    rw (sym c.fields_match.ensures ∙ c.if-fields_match.true, sym c.is_visible.ensures ∙ c.if-is_visible.false)
 
 returns-3 : tie.Need-returns-else-fields_match
 unfolding available

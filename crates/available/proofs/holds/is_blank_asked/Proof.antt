@@ -5,18 +5,15 @@ use Rattle.available.proofs.holds.is_blank_asked.Tie as tie
 
 returns : tie.Need-returns
 returns c =
-    let place = c in
-    let image = place in
-    let side = image in
     rw (
       c.has_bit-8.ensures,
-      place.has_bit-7.ensures,
-      place.has_bit-6.ensures,
-      image.has_bit-5.ensures,
-      image.has_bit-4.ensures,
-      side.has_bit-3.ensures,
-      side.has_bit-2.ensures,
-      side.has_bit.ensures,
+      c.has_bit-7.ensures,
+      c.has_bit-6.ensures,
+      c.has_bit-5.ensures,
+      c.has_bit-4.ensures,
+      c.has_bit-3.ensures,
+      c.has_bit-2.ensures,
+      c.has_bit.ensures,
     )
 
 pub is_blank_asked_spec : {M : Type 1} → statement M

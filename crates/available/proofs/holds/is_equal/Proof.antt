@@ -14,17 +14,16 @@ returns c =
 
 -- no blank is asked for: the four tests tell
 tested : (s : tie.After-field_agrees-d)
-    → let b = s in let a = b.args in
+    → let a = s.args in
     asked_equal a.mask a.want a.have
-    ≡ (b.field_agrees-a.result && s.field_agrees-b.result && s.field_agrees-c.result
+    ≡ (s.field_agrees-a.result && s.field_agrees-b.result && s.field_agrees-c.result
     && s.field_agrees-d.result)
 tested s =
-    let b = s in
-    let a = b.args in
+    let a = s.args in
     rw (
       match_is a.mask a.want a.have,
-      sym b.is_blank_asked.ensures ∙ b.if-is_blank_asked.false,
-      sym b.field_agrees-a.ensures,
+      sym s.is_blank_asked.ensures ∙ s.if-is_blank_asked.false,
+      sym s.field_agrees-a.ensures,
       sym s.field_agrees-b.ensures,
       sym s.field_agrees-c.ensures,
       sym s.field_agrees-d.ensures,

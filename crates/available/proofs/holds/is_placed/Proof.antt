@@ -9,17 +9,15 @@ returns c = rw (sym c.asks_arc.ensures ∙ c.if-not-asks_arc.true)
 
 returns-2 : tie.Need-returns-then-has_bit
 returns-2 c =
-    let asked = c in
     rw (
-      sym asked.asks_arc.ensures ∙ asked.if-not-asks_arc.false,
+      sym c.asks_arc.ensures ∙ c.if-not-asks_arc.false,
       sym c.has_bit.ensures ∙ c.if-has_bit.true,
     )
 
 returns-3 : tie.Need-returns
 returns-3 c =
-    let asked = c in
     rw (
-      sym asked.asks_arc.ensures ∙ asked.if-not-asks_arc.false,
+      sym c.asks_arc.ensures ∙ c.if-not-asks_arc.false,
       sym c.has_bit.ensures ∙ c.if-has_bit.false,
       c.in_arc.ensures,
     )

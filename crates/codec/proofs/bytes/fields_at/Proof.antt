@@ -5,10 +5,7 @@ use Rattle.codec.proofs.bytes.fields_at.Tie as tie
 
 returns : tie.Need-returns
 returns c =
-    let image = c in
-    let side = image in
-    let kind = side in
-    rw (kind.number_at.ensures, side.number_at-2.ensures, image.number_at-3.ensures, c.number_at-4.ensures)
+    rw (c.number_at.ensures, c.number_at-2.ensures, c.number_at-3.ensures, c.number_at-4.ensures)
 
 pub fields_at_spec : {M : Type 1} → statement M
 fields_at_spec =

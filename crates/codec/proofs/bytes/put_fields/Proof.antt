@@ -6,12 +6,9 @@ use Rattle.codec.proofs.bytes.put_fields.Tie as tie
 
 returns : tie.Need-returns
 returns c =
-    let c4 = c in
-    let c3 = c4 in
-    let c2 = c3 in
-    let e1 = c2.put_number.ensures in
-    let e2 = over-next _ _ _ _ _ _ e1 c2.put_number-2.ensures in
-    over-next _ _ _ _ _ _ (over-next _ _ _ _ _ _ e2 c3.put_number-3.ensures) c4.put_number-4.ensures
+    let e1 = c.put_number.ensures in
+    let e2 = over-next _ _ _ _ _ _ e1 c.put_number-2.ensures in
+    over-next _ _ _ _ _ _ (over-next _ _ _ _ _ _ e2 c.put_number-3.ensures) c.put_number-4.ensures
 
 pub put_fields_spec : {M : Type 1} → statement M
 put_fields_spec =

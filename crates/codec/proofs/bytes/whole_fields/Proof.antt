@@ -4,13 +4,11 @@ use Rattle.codec.proofs.bytes.whole_fields.Statement.{statement}
 use Rattle.codec.proofs.bytes.whole_fields.Tie as tie
 
 returns : tie.Need-returns
-returns c = let image = c in
-    let side = image in
-    let kind = side in
+returns c = 
     rw (
-      kind.whole_number.ensures,
-      side.whole_number-2.ensures,
-      image.whole_number-3.ensures,
+      c.whole_number.ensures,
+      c.whole_number-2.ensures,
+      c.whole_number-3.ensures,
       c.whole_number-4.ensures,
     )
 

@@ -42,9 +42,7 @@ all c k new q e =
 
 returns-2 : tie.Need-returns-then-n-lt-LEASE_AT
 returns-2 c =
-    let c1 = c in
-    let r = c1 in
-    all r.before.before.before.before.before 4 _ ((end r.before.before.before.before.before.before).head c.if-n-lt-LEASE_AT.true) c1.put_four.ensures
+    all c.before.before.before.before.before 4 _ ((end c.before.before.before.before.before.before).head c.if-n-lt-LEASE_AT.true) c.put_four.ensures
 
 two : (c : tie.After-put_number)
     → Front c.before.before.before.before.before.before.before.before.before.before 8
@@ -53,29 +51,22 @@ two c = over-next _ _ _ _ _ 0 c.put_four.ensures c.put_number.ensures
 
 returns-3 : tie.Need-returns-then-n-lt-FIELDS_AT
 returns-3 c =
-    let c2 = c in
-    let r = c2 in
-    all r.before.before.before.before.before.before.before.before.before.before 8 _ ((end r.before.before.before.before.before.before.before.before.before.before.before).txn c2.if-n-lt-LEASE_AT.false c.if-n-lt-FIELDS_AT.true) (two c2.before.before.before)
+    all c.before.before.before.before.before.before.before.before.before.before 8 _ ((end c.before.before.before.before.before.before.before.before.before.before.before).txn c.if-n-lt-LEASE_AT.false c.if-n-lt-FIELDS_AT.true) (two c.before.before.before)
 
 three : (c : tie.After-put_number-2)
-    → let t = c in
-    Front t.before.before.before.before.before.before.before.before.before.before.before.before.before.before.before 12
+    → 
+    Front c.before.before.before.before.before.before.before.before.before.before.before.before.before.before.before 12
     c.put_number-2.new.out
 three c = over-next _ _ _ _ _ 0 (two c.before.before.before.before.before) c.put_number-2.ensures
 
 returns-4 : tie.Need-returns-then-n-lt-FIELDS_END
 returns-4 c =
-    let c3 = c in
-    let r = c3 in
-    all r.before.before.before.before.before.before.before.before.before.before.before.before.before.before.before 12 _ ((end r.before.before.before.before.before.before.before.before.before.before.before.before.before.before.before.before).lease c3.if-n-lt-FIELDS_AT.false c.if-n-lt-FIELDS_END.true) (three c3.before.before.before)
+    all c.before.before.before.before.before.before.before.before.before.before.before.before.before.before.before 12 _ ((end c.before.before.before.before.before.before.before.before.before.before.before.before.before.before.before.before).lease c.if-n-lt-FIELDS_AT.false c.if-n-lt-FIELDS_END.true) (three c.before.before.before)
 
 returns-5 : tie.Need-returns
 returns-5 c =
-    let c4 = c in
-    let c3 = c4 in
-    let r = c3 in
-    all r.before.before.before.before.before.before.before.before.before.before.before.before.before.before.before.before.before.before.before 28 _ (omega (arith, (end r.before.before.before.before.before.before.before.before.before.before.before.before.before.before.before.before.before.before.before.before).fields, c4.if-n-lt-FIELDS_END.false))
-    (over-next _ _ _ _ _ 0 (three c3.before.before.before.before.before.before.before) c4.put_fields.ensures)
+    all c.before.before.before.before.before.before.before.before.before.before.before.before.before.before.before.before.before.before.before 28 _ (omega (arith, (end c.before.before.before.before.before.before.before.before.before.before.before.before.before.before.before.before.before.before.before.before).fields, c.if-n-lt-FIELDS_END.false))
+    (over-next _ _ _ _ _ 0 (three c.before.before.before.before.before.before.before) c.put_fields.ensures)
 
 pub put_numbers_spec : {M : Type 1} → statement M
 put_numbers_spec =

@@ -19,23 +19,20 @@ returns c =
 returns-2 : tie.Need-returns-then-n-ne0
 unfolding layout_of
 returns-2 c =
-    let n = c in
-    let e = n.requires in
+    let e = c.requires in
     refused _ _ (c.head_refusal-n.ensures ∙ rw c.whole_number.ensures
     (sym (create_head _ op_create (sym e, refl) refl
-    (n.if-frame-length_of.false ∙ n.length_of.ensures))))
+    (c.if-frame-length_of.false ∙ c.length_of.ensures))))
     c.if-n-ne0.true
 
 returns-3 : tie.Need-returns
 unfolding layout_of
 returns-3 c =
-    let head = c in
-    let n = head in
-    let e = n.requires in
+    let e = c.requires in
     rw c.whole_number-2.ensures
     (create-asks _ (create_head _ op_create (sym e, refl) refl
-    (n.if-frame-length_of.false ∙ n.length_of.ensures)
-    ∙ sym (rw head.whole_number.ensures at head.head_refusal-n.ensures)
+    (c.if-frame-length_of.false ∙ c.length_of.ensures)
+    ∙ sym (rw c.whole_number.ensures at c.head_refusal-n.ensures)
     ∙ c.if-n-ne0.false) e)
 
 pub decode_create_spec : {M : Type 1} → statement M

@@ -16,32 +16,27 @@ returns c =
 
 returns-2 : tie.Need-returns-then-n-ne0
 returns-2 c =
-    let n = c in
-    let p = n.requires in
+    let p = c.requires in
     refused _ _ (c.head_refusal-n.ensures
     ∙ sym (ending_head _ _ (p.0, ends-one _ p.1 p.2) p.1 p.2
-    (n.if-frame-length_of.false ∙ n.length_of.ensures ∙ sym (ending-length _ p.1 p.2)))) c.if-n-ne0.true
+    (c.if-frame-length_of.false ∙ c.length_of.ensures ∙ sym (ending-length _ p.1 p.2)))) c.if-n-ne0.true
 
 returns-3 : tie.Need-returns-then-op-eq-OP_COMMIT
 returns-3 c =
-    let head = c in
-    let n = head in
-    let p = n.requires in
+    let p = c.requires in
     rw c.whole_number.ensures
     (commit-asks _ (ending_head _ _ (p.0, ends-one _ p.1 p.2) p.1 p.2
-    (n.if-frame-length_of.false ∙ n.length_of.ensures ∙ sym (ending-length _ p.1 p.2))
-    ∙ sym head.head_refusal-n.ensures ∙ c.if-n-ne0.false) (sym p.0 ∙ c.if-op-eq-OP_COMMIT.true))
+    (c.if-frame-length_of.false ∙ c.length_of.ensures ∙ sym (ending-length _ p.1 p.2))
+    ∙ sym c.head_refusal-n.ensures ∙ c.if-n-ne0.false) (sym p.0 ∙ c.if-op-eq-OP_COMMIT.true))
 
 returns-4 : tie.Need-returns-else-op-eq-OP_COMMIT
 returns-4 c =
-    let head = c in
-    let n = head in
-    let p = n.requires in
+    let p = c.requires in
     let other = c.if-op-eq-OP_COMMIT.false in
     rw c.whole_number.ensures
     (abort-asks _ (ending_head _ _ (p.0, ends-one _ p.1 p.2) p.1 p.2
-    (n.if-frame-length_of.false ∙ n.length_of.ensures ∙ sym (ending-length _ p.1 p.2))
-    ∙ sym head.head_refusal-n.ensures ∙ c.if-n-ne0.false) (omega (arith, p, other)))
+    (c.if-frame-length_of.false ∙ c.length_of.ensures ∙ sym (ending-length _ p.1 p.2))
+    ∙ sym c.head_refusal-n.ensures ∙ c.if-n-ne0.false) (omega (arith, p, other)))
 
 pub decode_ending_spec : {M : Type 1} → statement M
 unfolding frame_length layout_of

@@ -16,23 +16,20 @@ returns c =
 
 returns-2 : tie.Need-returns-then-n-ne0
 returns-2 c =
-    let n = c in
-    let p = n.requires in
+    let p = c.requires in
     refused _ _ (c.template_refusal-n.ensures
     ∙ rw c.whole_fields-fields.ensures
     (sym (find_head _ _ (p.0, looks_up _ p.1 p.2) p.1 p.2
-    (n.if-frame-length_of.false ∙ n.length_of.ensures ∙ sym (find_length _ p.1 p.2))))) c.if-n-ne0.true
+    (c.if-frame-length_of.false ∙ c.length_of.ensures ∙ sym (find_length _ p.1 p.2))))) c.if-n-ne0.true
 
 returns-3 : tie.Need-returns
 returns-3 c =
-    let head = c in
-    let n = head in
-    let p = n.requires in
-    let fields = head.whole_fields-fields.ensures in
+    let p = c.requires in
+    let fields = c.whole_fields-fields.ensures in
     rw (c.whole_number.ensures, c.whole_number-2.ensures, fields)
     (find_asks _ (find_head _ _ (p.0, looks_up _ p.1 p.2) p.1 p.2
-    (n.if-frame-length_of.false ∙ n.length_of.ensures ∙ sym (find_length _ p.1 p.2))
-    ∙ sym (rw (fields) at head.template_refusal-n.ensures)
+    (c.if-frame-length_of.false ∙ c.length_of.ensures ∙ sym (find_length _ p.1 p.2))
+    ∙ sym (rw (fields) at c.template_refusal-n.ensures)
     ∙ c.if-n-ne0.false) _ p.0 p.1 p.2)
 
 pub decode_find_spec : {M : Type 1} → statement M

@@ -19,25 +19,21 @@ returns c =
 returns-2 : tie.Need-returns-then-n-ne0
 unfolding layout_of
 returns-2 c =
-    let fields = c in
-    let n = fields in
-    let e = n.requires in
+    let e = c.requires in
     refused _ _ (c.template_refusal-n.ensures
-    ∙ rw (c.whole_number.ensures, fields.whole_fields-fields.ensures)
-    (sym (notify_head _ op_notify (sym e, refl) refl (n.if-frame-length_of.false ∙ n.length_of.ensures))))
+    ∙ rw (c.whole_number.ensures, c.whole_fields-fields.ensures)
+    (sym (notify_head _ op_notify (sym e, refl) refl (c.if-frame-length_of.false ∙ c.length_of.ensures))))
     c.if-n-ne0.true
 
 returns-3 : tie.Need-returns
 unfolding layout_of
 returns-3 c =
-    let head = c in
-    let txn = head.whole_number.ensures in
-    let fields = head.whole_fields-fields.ensures in
-    let n = head in
-    let e = n.requires in
+    let txn = c.whole_number.ensures in
+    let fields = c.whole_fields-fields.ensures in
+    let e = c.requires in
     rw (c.whole_number-2.ensures, fields)
-    (notify-asks _ (notify_head _ op_notify (sym e, refl) refl (n.if-frame-length_of.false ∙ n.length_of.ensures)
-    ∙ sym (rw (txn, fields) at head.template_refusal-n.ensures)
+    (notify-asks _ (notify_head _ op_notify (sym e, refl) refl (c.if-frame-length_of.false ∙ c.length_of.ensures)
+    ∙ sym (rw (txn, fields) at c.template_refusal-n.ensures)
     ∙ c.if-n-ne0.false) e)
 
 pub decode_notify_spec : {M : Type 1} → statement M

@@ -19,18 +19,16 @@ returns c =
 returns-2 : tie.Need-returns-then-n-ne0
 unfolding layout_of
 returns-2 c =
-    let n = c in
-    let e = n.requires in
+    let e = c.requires in
     refused _ _ (c.head_refusal-n.ensures ∙ sym (plain_head _ op_tick (sym e, refl) refl refl refl
-    (n.if-frame-length_of.false ∙ n.length_of.ensures))) c.if-n-ne0.true
+    (c.if-frame-length_of.false ∙ c.length_of.ensures))) c.if-n-ne0.true
 
 returns-3 : tie.Need-returns
 unfolding layout_of
 returns-3 c =
-    let n = c in
-    let e = n.requires in
+    let e = c.requires in
     tick-asks _ (plain_head _ op_tick (sym e, refl) refl refl refl
-    (n.if-frame-length_of.false ∙ n.length_of.ensures) ∙ sym c.head_refusal-n.ensures ∙ c.if-n-ne0.false) e
+    (c.if-frame-length_of.false ∙ c.length_of.ensures) ∙ sym c.head_refusal-n.ensures ∙ c.if-n-ne0.false) e
 
 pub decode_tick_spec : {M : Type 1} → statement M
 unfolding frame_length layout_of

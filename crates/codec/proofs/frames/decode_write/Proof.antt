@@ -19,26 +19,22 @@ returns c =
 returns-2 : tie.Need-returns-then-n-ne0
 unfolding layout_of
 returns-2 c =
-    let n = c in
-    let e = n.requires in
+    let e = c.requires in
     refused _ _ (c.head_refusal-n.ensures
     ∙ rw (c.is_bad_blanks.ensures, c.whole_fields-fields.ensures)
     (sym (write_head _ op_write (sym e, refl) refl
-    (n.if-frame-length_of.false ∙ n.length_of.ensures)))) c.if-n-ne0.true
+    (c.if-frame-length_of.false ∙ c.length_of.ensures)))) c.if-n-ne0.true
 
 returns-3 : tie.Need-returns
 unfolding layout_of
 returns-3 c =
-    let txn = c in
-    let head = txn in
-    let fields = head.whole_fields-fields.ensures in
-    let n = head in
-    let e = n.requires in
-    rw (txn.whole_number.ensures, c.whole_number-2.ensures, fields)
+    let fields = c.whole_fields-fields.ensures in
+    let e = c.requires in
+    rw (c.whole_number.ensures, c.whole_number-2.ensures, fields)
     (write-asks _ (write_head _ op_write (sym e, refl) refl
-    (n.if-frame-length_of.false ∙ n.length_of.ensures)
-    ∙ sym (rw (head.is_bad_blanks.ensures, fields) at head.head_refusal-n.ensures)
-    ∙ txn.if-n-ne0.false) e)
+    (c.if-frame-length_of.false ∙ c.length_of.ensures)
+    ∙ sym (rw (c.is_bad_blanks.ensures, fields) at c.head_refusal-n.ensures)
+    ∙ c.if-n-ne0.false) e)
 
 pub decode_write_spec : {M : Type 1} → statement M
 unfolding frame_length layout_of

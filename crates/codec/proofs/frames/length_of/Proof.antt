@@ -17,14 +17,12 @@ returns-3 c =
 
 returns-4 : tie.Need-returns-then-op-le-OP_ABORT
 returns-4 c =
-    let n = c in
-    length_is _ n.if-op.false n.if-op-2.false c.if-op-3.false
+    length_is _ c.if-op.false c.if-op-2.false c.if-op-3.false
     (le-leb _ _ c.if-op-le-OP_ABORT.true)
 
 returns-5 : tie.Need-returns
 returns-5 c =
-    let n = c in
-    length_is _ n.if-op.false n.if-op-2.false c.if-op-3.false
+    length_is _ c.if-op.false c.if-op-2.false c.if-op-3.false
     (lt-leb _ _ c.if-op-le-OP_ABORT.false)
 
 pub length_of_spec : {M : Type 1} → statement M

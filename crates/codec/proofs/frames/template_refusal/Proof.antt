@@ -19,10 +19,9 @@ arc_decides : (c : tie.After-is_bad_arc)
     → let a = c.args in
     cond c.is_bad_arc.result place_refused 0 ≡ template_refusal a.frame.now a.op a.fields a.bad
 arc_decides c =
-    let head = c in
-    let a = head.args in
+    let a = c.args in
     arc_last a.frame.now a.op a.fields a.bad
-    (rw head.is_bad_template.ensures at head.head_refusal-n.ensures) c.if-n-ne0.false
+    (rw c.is_bad_template.ensures at c.head_refusal-n.ensures) c.if-n-ne0.false
     c.is_bad_arc.ensures
 
 returns-2 : tie.Need-returns-then-is_bad_arc

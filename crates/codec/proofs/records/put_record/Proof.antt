@@ -15,14 +15,10 @@ returns c = rw (lt-ltb _ _ c.if-out-lt-RECORD_SIZE.true)
 returns-2 : tie.Need-returns
 unfolding record_bytes
 returns-2 c =
-    let c4 = c in
-    let c3 = c4 in
-    let c2 = c3 in
-    let c1 = c2 in
-    let e2 = over-next _ _ _ _ _ 0 c1.put_four.ensures c2.put_number.ensures in
-    let e3 = over-next _ _ _ _ _ 0 e2 c3.put_number-2.ensures in
-    let e4 = over-next _ _ _ _ _ 0 e3 c4.put_fields.ensures in
-    rw c4.bare_fields.ensures at e4 ∙ sym (put_over _ _ c1.if-out-lt-RECORD_SIZE.false)
+    let e2 = over-next _ _ _ _ _ 0 c.put_four.ensures c.put_number.ensures in
+    let e3 = over-next _ _ _ _ _ 0 e2 c.put_number-2.ensures in
+    let e4 = over-next _ _ _ _ _ 0 e3 c.put_fields.ensures in
+    rw c.bare_fields.ensures at e4 ∙ sym (put_over _ _ c.if-out-lt-RECORD_SIZE.false)
 
 pub put_record_spec : {M : Type 1} → statement M
 put_record_spec =

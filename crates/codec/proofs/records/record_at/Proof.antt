@@ -12,20 +12,15 @@ returns c = c.plain_record.ensures ∙ sym (record_past _ _ c.if-bytes-at.true)
 returns-2 : tie.Need-returns
 unfolding record_at
 returns-2 c =
-    let party = c in
-    let kind = party in
-    let fields = kind in
-    let blanks = fields in
-    let entry = blanks in
     rw (
-      kind.byte_at-2.ensures,
-      party.byte_at-3.ensures,
+      c.byte_at-2.ensures,
+      c.byte_at-3.ensures,
       c.byte_at-4.ensures,
-      entry.number_at.ensures,
-      entry.number_at-2.ensures,
-      kind.mark_of-fields.ensures,
-      fields.fields_at.ensures,
-      blanks.byte_at.ensures,
+      c.number_at.ensures,
+      c.number_at-2.ensures,
+      c.mark_of-fields.ensures,
+      c.fields_at.ensures,
+      c.byte_at.ensures,
     )
 
 pub record_at_spec : {M : Type 1} → statement M

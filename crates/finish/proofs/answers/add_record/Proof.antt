@@ -15,10 +15,9 @@ use Rattle.finish.proofs.answers.add_record.Tie as tie
 
 returns : tie.Need-returns
 returns c =
-    let start = c in
-    let r = start.args.r in
-    let a = start.args.answers.now in
-    let at = record_size * start.args.count in
+    let r = c.args.r in
+    let a = c.args.answers.now in
+    let at = record_size * c.args.count in
     record {
       counts = refl;
       bytes =
@@ -26,7 +25,7 @@ returns c =
           ∙ ap (λ x. take at a ++ x)
           (c.put_record.ensures
           ∙ ap (record_put r) (part_from a at)
-          ∙ put_fits r (drop at a) (rw length-drop (omega (arith, start.requires)))
+          ∙ put_fits r (drop at a) (rw length-drop (omega (arith, c.requires)))
           ∙ area-one r (drop at a));
     }
 

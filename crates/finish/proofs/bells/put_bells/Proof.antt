@@ -42,48 +42,38 @@ decreases-loop space answers₀ count counts n done₀ i₀ answers done i = n -
 
 loop-again : tie.Need-loop-i-preserved-then-k-eq0 invariant-loop decreases-loop
 loop-again c =
-    let loop = c in
-    let read = c in
-    let cs = loop.args.counts.now in (
+    let cs = c.args.counts.now in (
       omega arith,
-      answered_passed loop.loop-i.invariant.1 (beside-row cs loop.loop-i.i read.registration_at-g.ensures)
+      answered_passed c.loop-i.invariant.1 (beside-row cs c.loop-i.i c.registration_at-g.ensures)
           (ap not (eq-eqb _ _ c.if-k-eq0.true)),
     )
 
 add-record-requires : tie.Need-add_record-done-requires invariant-loop decreases-loop
 add-record-requires c κs =
-    let loop = c in
-    let n = loop.registration_count-n.ensures.0 in
-    answered-room loop.loop-i.invariant.1 (omega (arith, n, loop.requires.0))
+    let n = c.registration_count-n.ensures.0 in
+    answered-room c.loop-i.invariant.1 (omega (arith, n, c.requires.0))
 
 loop-again-2 : tie.Need-loop-i-preserved invariant-loop decreases-loop
 loop-again-2 c =
-    let made = c in
-    let read = made in
-    let loop = read in
-    let start = loop in
-    let x = beside-row start.args.counts.now loop.loop-i.i read.registration_at-g.ensures in (
+    let x = beside-row c.args.counts.now c.loop-i.i c.registration_at-g.ensures in (
       omega arith,
-      answered_more loop.loop-i.invariant.1 x (ap not (ne_eqb _ _ made.if-k-eq0.false)) made.rung_record-r.ensures
-          (omega (arith, start.requires.0)) c.add_record-done.ensures,
+      answered_more c.loop-i.invariant.1 x (ap not (ne_eqb _ _ c.if-k-eq0.false)) c.rung_record-r.ensures
+          (omega (arith, c.requires.0)) c.add_record-done.ensures,
     )
 
 same_length : tie.Need-shape_of-answers invariant-loop decreases-loop
 same_length c =
-    let loop = c in
-    let n = loop.registration_count-n.ensures.0 in
-    answered-length loop.loop-i.invariant.1 (omega (arith, n, loop.loop-i.invariant.0, loop.requires.0))
+    let n = c.registration_count-n.ensures.0 in
+    answered-length c.loop-i.invariant.1 (omega (arith, n, c.loop-i.invariant.0, c.requires.0))
 
 returns : tie.Need-returns invariant-loop decreases-loop
 unfolding rung_by
 returns c =
-    let loop = c in
-    let start = loop in
-    let n = loop.registration_count-n.ensures.0 in
+    let n = c.registration_count-n.ensures.0 in
     answered-all
-    (counted-rows start.args.counts.now (omega (arith, start.requires.1))
-    (registrations-read start.args.space.now))
-    (omega (arith, n, loop.loop-i.invariant.0, c.loop-i-test.false)) loop.loop-i.invariant.1
+    (counted-rows c.args.counts.now (omega (arith, c.requires.1))
+    (registrations-read c.args.space.now))
+    (omega (arith, n, c.loop-i.invariant.0, c.loop-i-test.false)) c.loop-i.invariant.1
 
 pub put_bells_spec : {M : Type 1} → statement M
 put_bells_spec =

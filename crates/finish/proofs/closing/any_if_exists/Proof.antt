@@ -18,8 +18,7 @@ decreases-loop space n i₀ i = n - i
 
 returns : tie.Need-returns-then-w invariant-loop decreases-loop
 returns c =
-    let loop = c in
-    sym (search_any (waits-read loop.args.space.now) loop.loop-i.invariant.1 (omega arith)
+    sym (search_any (waits-read c.args.space.now) c.loop-i.invariant.1 (omega arith)
     c.wait_at-w.ensures c.if-w.true)
 
 loop-again : tie.Need-loop-i-preserved invariant-loop decreases-loop

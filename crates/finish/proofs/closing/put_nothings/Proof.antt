@@ -29,20 +29,16 @@ loop-again c =
 
 add-record-requires : tie.Need-add_record-done-requires invariant-loop decreases-loop
 add-record-requires c κs =
-    let loop = c in
-    answered-room loop.loop-i.invariant.1 (omega (arith, length-waits loop.args.space.now))
+    answered-room c.loop-i.invariant.1 (omega (arith, length-waits c.args.space.now))
 
 loop-again-2 : tie.Need-loop-i-preserved invariant-loop decreases-loop
 unfolding nothing
 loop-again-2 c =
-    let made = c in
-    let read = made in
-    let l = read in
-    let m = view l.args.space.now in
-    let test = sym read.is_over-over.ensures ∙ made.if-not-over.false in
-    let over = ap (is_over m) read.wait_at-w.ensures ∙ test in (
+    let m = view c.args.space.now in
+    let test = sym c.is_over-over.ensures ∙ c.if-not-over.false in
+    let over = ap (is_over m) c.wait_at-w.ensures ∙ test in (
       omega arith,
-      answered_more l.loop-i.invariant.1 read.wait_at-w.ensures over made.plain_record-r.ensures (omega arith)
+      answered_more c.loop-i.invariant.1 c.wait_at-w.ensures over c.plain_record-r.ensures (omega arith)
           c.add_record-done.ensures,
     )
 

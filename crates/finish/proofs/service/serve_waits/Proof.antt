@@ -65,48 +65,37 @@ room c = turn_room (turns c) c.requires.0 (omega (arith, this_turn c))
 
 hand-out-requires : tie.Need-hand_out-requires invariant-loop decreases-loop invariant-waiting decreases-waiting
 hand-out-requires c κs =
-    let loop = c in
-    (omega (arith, loop.loop-j.invariant.all), c.entry_at-e.ensures)
+    (omega (arith, c.loop-j.invariant.all), c.entry_at-e.ensures)
 
 waiting-again : tie.Need-waiting-preserved-then-is_available invariant-loop decreases-loop invariant-waiting decreases-waiting
 waiting-again c =
-    let found = c in
-    let test = found in
-    let seen = test in
-    let wait = seen in
-    let loop = wait in
     let e =
-    looking_found loop.loop-j.invariant wait.wait_at-w.ensures seen.entry_at-e.ensures
-    seen.is_available.ensures test.if-is_available.true wait.loop-j-test.true in (
-      omega (arith, in_turn loop.before.before.before.before.before.before.before.before.before.before.before.before),
-      turn_found (turns loop.before.before.before.before.before.before.before.before.before.before.before.before) (this_turn loop.before.before.before.before.before.before.before.before.before.before.before.before) wait.wait_at-w.ensures e found.hand_out.ensures
-          found.found_record-r.ensures (omega (arith, loop.requires.0))
+    looking_found c.loop-j.invariant c.wait_at-w.ensures c.entry_at-e.ensures
+    c.is_available.ensures c.if-is_available.true c.loop-j-test.true in (
+      omega (arith, in_turn c.before.before.before.before.before.before.before.before.before.before.before.before),
+      turn_found (turns c.before.before.before.before.before.before.before.before.before.before.before.before) (this_turn c.before.before.before.before.before.before.before.before.before.before.before.before) c.wait_at-w.ensures e c.hand_out.ensures
+          c.found_record-r.ensures (omega (arith, c.requires.0))
           c.add_record-done.ensures,
     )
 
 loop-again : tie.Need-loop-j-preserved invariant-loop decreases-loop invariant-waiting decreases-waiting
 loop-again c =
-    let seen = c in
-    let wait = seen in
-    looking_more wait.loop-j.invariant wait.wait_at-w.ensures
-    seen.entry_at-e.ensures seen.is_available.ensures c.if-is_available.false
+    looking_more c.loop-j.invariant c.wait_at-w.ensures
+    c.entry_at-e.ensures c.is_available.ensures c.if-is_available.false
     c.next_row-j-in-loop-j.ensures
 
 move-wait-requires : tie.Need-move_wait-requires invariant-loop decreases-loop invariant-waiting decreases-waiting
 move-wait-requires c κs =
-    let loop = c in
-    (omega (arith, this_turn loop.before.before), omega (arith, (turns loop.before.before).serving.low))
+    (omega (arith, this_turn c.before.before), omega (arith, (turns c.before.before).serving.low))
 
 waiting-again-2 : tie.Need-waiting-preserved invariant-loop decreases-loop invariant-waiting decreases-waiting
 waiting-again-2 c =
-    let loop = c in
-    let none = looking_none loop.loop-j.invariant (omega (arith, c.loop-j-test.false)) in
-    (omega (arith, in_turn loop.before.before.before), turn_waits (turns loop.before.before.before) (this_turn loop.before.before.before) refl none c.move_wait.ensures)
+    let none = looking_none c.loop-j.invariant (omega (arith, c.loop-j-test.false)) in
+    (omega (arith, in_turn c.before.before.before), turn_waits (turns c.before.before.before) (this_turn c.before.before.before) refl none c.move_wait.ensures)
 
 same_length : tie.Need-shape_of-answers invariant-loop decreases-loop invariant-waiting decreases-waiting
 same_length c =
-    let loop = c in
-    turn_length loop.waiting.invariant.1 loop.requires.0 (omega arith)
+    turn_length c.waiting.invariant.1 c.requires.0 (omega arith)
 
 returns : tie.Need-returns invariant-loop decreases-loop invariant-waiting decreases-waiting
 returns c = turns-done c.waiting.invariant.1 (omega arith) c.set_wait_count.ensures

@@ -20,19 +20,16 @@ loop-holds c = record { rest = refl }
 
 returns : tie.Need-returns-in_default invariant-loop decreases-loop
 returns c =
-    let first = c in
-    aborting_done first.loop-t.invariant
-    (sym first.first_ended.ensures ∙ ap live_of c.in_default.is)
+    aborting_done c.loop-t.invariant
+    (sym c.first_ended.ensures ∙ ap live_of c.in_default.is)
 
 -- one is aborted: fewer live, and the rest is still to be done
 turn : (c : tie.After-abort_txn invariant-loop decreases-loop)
-    → let loop = c in
+    → 
     let m = view c.abort_txn.new.space in
-    Aborting (view loop.args.space.now) m × (length m.txns < length (view loop.loop-t.space).txns)
+    Aborting (view c.args.space.now) m × (length m.txns < length (view c.loop-t.space).txns)
 turn c =
-    let t = c in
-    let first = t in
-    aborting_more first.loop-t.invariant (sym first.first_ended.ensures ∙ ap live_of t.in-At.is)
+    aborting_more c.loop-t.invariant (sym c.first_ended.ensures ∙ ap live_of c.in-At.is)
     c.abort_txn.ensures.0
 
 pub abort_ended_spec : {M : Type 1} → statement M

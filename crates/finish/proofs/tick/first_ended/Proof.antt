@@ -21,10 +21,9 @@ loop-holds c = (omega arith, search_start, c.clock-now.ensures)
 
 returns : tie.Need-returns-then-reached_at invariant-loop decreases-loop
 returns c =
-    let loop = c in
-    let s = loop.args.space.now in
-    rw (sym loop.loop-i.invariant.2)
-    (sym (search_found (txns-read s) loop.loop-i.invariant.1 (omega arith) c.txn_at-t.ensures
+    let s = c.args.space.now in
+    rw (sym c.loop-i.invariant.2)
+    (sym (search_found (txns-read s) c.loop-i.invariant.1 (omega arith) c.txn_at-t.ensures
     (sym c.reached_at.ensures ∙ c.if-reached_at.true)))
 
 loop-again : tie.Need-loop-i-preserved invariant-loop decreases-loop

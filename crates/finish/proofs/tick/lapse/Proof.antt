@@ -8,10 +8,9 @@ use Rattle.finish.proofs.tick.lapse.Tie as tie
 returns : tie.Need-returns
 unfolding lapsed
 returns c =
-    let aborted = c in
     record {
-      model = c.drop_ended.ensures ∙ ap drop_ended aborted.abort_ended.ensures;
-      adds = aborted.put_exceptions-done.ensures;
+      model = c.drop_ended.ensures ∙ ap drop_ended c.abort_ended.ensures;
+      adds = c.put_exceptions-done.ensures;
     }
 
 pub lapse_spec : {M : Type 1} → statement M

@@ -44,12 +44,10 @@ add-record-requires c κs = answered-room c.loop-i.invariant.1 (omega arith)
 loop-again-2 : tie.Need-loop-i-preserved invariant-loop decreases-loop
 unfolding exception
 loop-again-2 c =
-    let made = c in
-    let test = made in
-    let l = test.loop-i in
-    let ends_now = sym test.reached_at.ensures ∙ made.if-not-reached_at.false in (
+    let l = c.loop-i in
+    let ends_now = sym c.reached_at.ensures ∙ c.if-not-reached_at.false in (
       omega arith,
-      answered_more l.invariant.1 test.txn_at-t.ensures ends_now made.plain_record-r.ensures
+      answered_more l.invariant.1 c.txn_at-t.ensures ends_now c.plain_record-r.ensures
           (omega arith) c.add_record-done.ensures,
       l.invariant.2,
     )

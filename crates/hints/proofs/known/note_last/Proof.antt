@@ -24,16 +24,15 @@ returns-2 c =
     let f = c.flag_party.ensures in
     let l = c.lower.ensures in
     let s = c.wait_end.ensures in
-    let at = c in
-    let start = at in (
+    (
       weaker-then l.0 f.0,
       λ vs w e.
-          let r = row_last (waits-read start.args.space.now) vs w e in
+          let r = row_last (waits-read c.args.space.now) vs w e in
           let hs = c.flag_party.new.hints in
           let q =
           r.1
-          ∙ ap (wait_row start.args.space.now) (omega (arith, at.wait_count-n.ensures))
-          ∙ sym at.wait_at-w.ensures in
+          ∙ ap (wait_row c.args.space.now) (omega (arith, c.wait_count-n.ensures))
+          ∙ sym c.wait_at-w.ensures in
           subst⁻¹ (λ (v : LookUp). NotBefore (least hs) v.deadline × Flagged hs v) q (
             word-not_before _ (omega (
               arith,
@@ -41,7 +40,7 @@ returns-2 c =
               l.1,
               s,
               ap (λ (v : LookUp). until_word v.deadline)
-                  at.wait_at-w.ensures,
+                  c.wait_at-w.ensures,
             )),
             f.1,
           ),

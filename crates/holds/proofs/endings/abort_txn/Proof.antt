@@ -11,14 +11,13 @@ use Rattle.holds.proofs.endings.abort_txn.Tie as tie
 
 returns : tie.Need-returns
 returns c =
-    let b = c in
-    let a = b.args in
+    let a = c.args in
     let left = c.leave_waits.ensures in
     let done =
-    aborted-model a.space.now a.id _ b.slot_of-p.ensures.0 _ _ _ b.pass_over-first.ensures.0
+    aborted-model a.space.now a.id _ c.slot_of-p.ensures.0 _ _ _ c.pass_over-first.ensures.0
     left c.remove_txn.ensures in
-    let front : Model → List Entry = λ m. take b.pass_over-first.result m.entries in
-    (done, ap front c.remove_txn.ensures ∙ ap front left ∙ b.pass_over-first.ensures.2)
+    let front : Model → List Entry = λ m. take c.pass_over-first.result m.entries in
+    (done, ap front c.remove_txn.ensures ∙ ap front left ∙ c.pass_over-first.ensures.2)
 
 pub abort_txn_spec : {M : Type 1} → statement M
 abort_txn_spec =

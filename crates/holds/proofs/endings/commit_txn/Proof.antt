@@ -9,13 +9,12 @@ use Rattle.holds.proofs.endings.commit_txn.Tie as tie
 
 returns : tie.Need-returns
 returns c =
-    let b = c in
-    let a = b.args in
+    let a = c.args in
     let done =
-    committed-model a.space.now a.id _ b.slot_of-p.ensures.0 _ _ b.pass_over-first.ensures.0
+    committed-model a.space.now a.id _ c.slot_of-p.ensures.0 _ _ c.pass_over-first.ensures.0
     c.remove_txn.ensures in
-    let same = ap (λ (m : Model). take b.pass_over-first.result m.entries) c.remove_txn.ensures in
-    (done, same ∙ b.pass_over-first.ensures.2)
+    let same = ap (λ (m : Model). take c.pass_over-first.result m.entries) c.remove_txn.ensures in
+    (done, same ∙ c.pass_over-first.ensures.2)
 
 pub commit_txn_spec : {M : Type 1} → statement M
 commit_txn_spec =

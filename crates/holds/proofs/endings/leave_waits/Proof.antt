@@ -32,20 +32,17 @@ leaves-same Over {ws₀} {ws} c k w = ap (λ m. is_over m w) (view-waits ws ws�
 
 loop-again : tie.Need-loop-i-preserved-then-is_leaving invariant-loop decreases-loop
 loop-again c =
-    let loop = c in
-    let i = loop.loop-i.invariant in
-    let same = leaves-same loop.args.l i.1 (omega arith) _ in
+    let i = c.loop-i.invariant in
+    let same = leaves-same c.args.l i.1 (omega arith) _ in
     let test = ap not (sym same ∙ sym c.is_leaving.ensures ∙ c.if-is_leaving.true) in
     (omega arith, compact_passed i.1 refl test)
 
 loop-again-2 : tie.Need-loop-i-preserved invariant-loop decreases-loop
 loop-again-2 c =
-    let b = c in
-    let loop = b in
-    let i = loop.loop-i.invariant in
-    let long = loop.wait_count-count.ensures.1 in
-    let same = leaves-same loop.args.l i.1 (omega arith) _ in
-    let test = ap not (sym same ∙ sym b.is_leaving.ensures ∙ b.if-is_leaving.false) in
+    let i = c.loop-i.invariant in
+    let long = c.wait_count-count.ensures.1 in
+    let same = leaves-same c.args.l i.1 (omega arith) _ in
+    let test = ap not (sym same ∙ sym c.is_leaving.ensures ∙ c.if-is_leaving.false) in
     (omega arith, compact_moved i.1 refl test (omega arith) (omega (arith, long)) c.move_wait.ensures refl)
 
 returns : tie.Need-returns invariant-loop decreases-loop

@@ -22,11 +22,9 @@ found s = entry_in s.args.space.now s.args.row s.args.e s.requires.0 ∙ sym s.r
 returns : tie.Need-returns-then-is_removed
 unfolding removes
 returns c =
-    let b = c in
-    let s = b in
-    let a = s.args in
+    let a = c.args in
     let ws = a.space.now in
-    let t = sym b.is_removed.ensures ∙ b.if-is_removed.true in (
+    let t = sym c.is_removed.ensures ∙ c.if-is_removed.true in (
       c.remove_entry.ensures.0 ∙ handed_removed a.w a.e a.row (view ws) t,
       c.remove_entry.ensures.1,
     )
@@ -34,41 +32,34 @@ returns c =
 returns-2 : tie.Need-returns-then-is_marked
 unfolding removes
 returns-2 c =
-    let slot = c in
-    let b = slot in
-    let s = b in
-    let a = s.args in
+    let a = c.args in
     let ws = a.space.now in
-    let t = sym b.is_removed.ensures ∙ b.if-is_removed.false in (
+    let t = sym c.is_removed.ensures ∙ c.if-is_removed.false in (
       c.set_entry.ensures.0
           ∙ ap (λ x. with_entries (set (view ws).entries a.row x) (view ws)) c.mark-x.ensures
-          ∙ handed-marked ws a.w _ slot.slot_of-p.ensures.0 a.e t a.row,
+          ∙ handed-marked ws a.w _ c.slot_of-p.ensures.0 a.e t a.row,
       c.set_entry.ensures.1,
     )
 
 returns-3 : tie.Need-returns
 unfolding removes
 returns-3 c =
-    let slot = c in
-    let b = slot in
-    let s = b in
-    let a = s.args in
-    let p = slot.slot_of-p.result in
+    let a = c.args in
+    let p = c.slot_of-p.result in
     let no = not (eqb p no_slot) in
     let u = sym c.is_marked.ensures ∙ c.if-is_marked.false in
     let z = eqb-true p no_slot (not-false (eqb p no_slot) (or_right a.w.takes no u)) in
-    let t = sym b.is_removed.ensures ∙ b.if-is_removed.false in (
-      handed_unmarked a.space.now a.w p slot.slot_of-p.ensures.0 a.e t a.row (found s.before.before.before.before.before.before.before.before) z
+    let t = sym c.is_removed.ensures ∙ c.if-is_removed.false in (
+      handed_unmarked a.space.now a.w p c.slot_of-p.ensures.0 a.e t a.row (found c.before.before.before.before.before.before.before.before) z
           (or_left a.w.takes no u),
       c.whole.ensures,
     )
 
 set-entry-requires : tie.Need-set_entry-requires
 set-entry-requires c κs =
-    let s = c in
-    let a = s.args in (
-      s.requires.0,
-      rw (c.mark-x.ensures, s.requires.1)
+    let a = c.args in (
+      c.requires.0,
+      rw (c.mark-x.ensures, c.requires.1)
           (marked-fits a.w.takes a.w.txn _ (row entries_at entry_width a.space.now a.row)),
     )
 

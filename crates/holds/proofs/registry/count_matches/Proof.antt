@@ -6,13 +6,11 @@ use Rattle.holds.proofs.registry.count_matches.Statement.{statement}
 
 returns : tie.Need-returns-then-fields_match
 returns c =
-    let told = c in
-    rw (told.in-Written.is, sym c.fields_match.ensures ∙ c.if-fields_match.true)
+    rw (c.in-Written.is, sym c.fields_match.ensures ∙ c.if-fields_match.true)
 
 returns-2 : tie.Need-returns-else-fields_match
 returns-2 c =
-    let told = c in
-    rw (told.in-Written.is, sym c.fields_match.ensures ∙ c.if-fields_match.false)
+    rw (c.in-Written.is, sym c.fields_match.ensures ∙ c.if-fields_match.false)
 
 returns-3 : tie.Need-returns-in-Committed
 returns-3 c = rw (c.in-Committed.is, c.count_own.ensures)

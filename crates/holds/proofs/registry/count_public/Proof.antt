@@ -23,13 +23,11 @@ decreases-loop space p counts₀ n i₀ counts i = n - i
 
 loop-again : tie.Need-loop-i-preserved invariant-loop decreases-loop
 loop-again c =
-    let read = c in
-    let loop = read in
-    let i = loop.loop-i.invariant in
-    let n = loop.registration_count-n.ensures.0 in (
+    let i = c.loop-i.invariant in
+    let n = c.registration_count-n.ensures.0 in (
       omega arith,
-      length-set loop.loop-i.counts loop.loop-i.i c.count_matches.result ∙ i.1,
-      filled_more i.2 (omega (arith, i.1, n)) read.registration_at-g.ensures c.count_matches.ensures,
+      length-set c.loop-i.counts c.loop-i.i c.count_matches.result ∙ i.1,
+      filled_more i.2 (omega (arith, i.1, n)) c.registration_at-g.ensures c.count_matches.ensures,
     )
 
 returns : tie.Need-returns invariant-loop decreases-loop

@@ -25,24 +25,19 @@ decreases-loop space₀ now count i₀ n₀ space i n = count - i
 
 loop-again : tie.Need-loop-i-preserved-then-reached_at invariant-loop decreases-loop
 loop-again c =
-    let read = c in
-    let loop = read in
-    let now = loop.clock-now.ensures in
-    let test = ap (λ t. lasts t read.registration_at-g.result) (sym now)
+    let now = c.clock-now.ensures in
+    let test = ap (λ t. lasts t c.registration_at-g.result) (sym now)
     ∙ ap not (sym c.reached_at.ensures ∙ c.if-reached_at.true) in
-    (omega arith, compact_passed loop.loop-i.invariant.1 read.registration_at-g.ensures test)
+    (omega arith, compact_passed c.loop-i.invariant.1 c.registration_at-g.ensures test)
 
 loop-again-2 : tie.Need-loop-i-preserved invariant-loop decreases-loop
 loop-again-2 c =
-    let b = c in
-    let read = b in
-    let loop = read in
-    let now = loop.clock-now.ensures in
-    let long = loop.registration_count-count.ensures.1 in
-    let test = ap (λ t. lasts t read.registration_at-g.result) (sym now)
-    ∙ ap not (sym b.reached_at.ensures ∙ b.if-reached_at.false) in (
+    let now = c.clock-now.ensures in
+    let long = c.registration_count-count.ensures.1 in
+    let test = ap (λ t. lasts t c.registration_at-g.result) (sym now)
+    ∙ ap not (sym c.reached_at.ensures ∙ c.if-reached_at.false) in (
       omega arith,
-      compact_moved loop.loop-i.invariant.1 read.registration_at-g.ensures test (omega arith) (omega (arith, long))
+      compact_moved c.loop-i.invariant.1 c.registration_at-g.ensures test (omega arith) (omega (arith, long))
           c.move_registration.ensures refl,
     )
 

@@ -28,47 +28,42 @@ begun c = (omega arith, refl)
 
 set-registration-requires : tie.Need-set_registration-requires invariant-loop decreases-loop
 set-registration-requires c κs =
-    let read = c in
-    let loop = read in
-    let row = read.registration_at-g.ensures in
+    let row = c.registration_at-g.ensures in
     let made = c.hear_once-x.ensures in
-    let cs = loop.args.counts.now in (
+    let cs = c.args.counts.now in (
       omega (
         arith,
-        heard-count _ _ cs loop.loop-i.i loop.loop-i.invariant.1,
-        loop.registration_count-n.ensures.0,
-        read.loop-i-test.true,
+        heard-count _ _ cs c.loop-i.i c.loop-i.invariant.1,
+        c.registration_count-n.ensures.0,
+        c.loop-i-test.true,
       ),
       subst⁻¹ (λ (x : Registration). FitsWord x.end) (made ∙ ap (heard_once _ _) row) (end-registered _ _),
     )
 
 loop-again : tie.Need-loop-i-preserved invariant-loop decreases-loop
 loop-again c =
-    let read = c in
-    let loop = read in
-    let n = loop.registration_count-n.ensures.0 in
-    let limit = loop.next_entry-limit.ensures in
-    let whole = loop.whole.ensures in (
+    let n = c.registration_count-n.ensures.0 in
+    let limit = c.next_entry-limit.ensures in
+    let whole = c.whole.ensures in (
       omega arith,
-      heard-row _ _ _ _ loop.loop-i.invariant.1 _ limit (omega (arith, n)) (omega (arith, whole))
-          read.registration_at-g.ensures
+      heard-row _ _ _ _ c.loop-i.invariant.1 _ limit (omega (arith, n)) (omega (arith, whole))
+          c.registration_at-g.ensures
           c.hear_once-x.ensures c.set_registration.ensures.0,
     )
 
 returns : tie.Need-returns invariant-loop decreases-loop
 returns c =
-    let loop = c in
-    let ws = loop.args.space.now in
-    let cs = loop.args.counts.now in
-    let all : loop.loop-i.i ≡ length (view ws).registrations =
+    let ws = c.args.space.now in
+    let cs = c.args.counts.now in
+    let all : c.loop-i.i ≡ length (view ws).registrations =
     omega (
       arith,
       length-registrations ws,
       c.loop-i-test.false,
-      loop.loop-i.invariant.0,
-      loop.registration_count-n.ensures.0,
+      c.loop-i.invariant.0,
+      c.registration_count-n.ensures.0,
     ) in
-    loop.loop-i.invariant.1
+    c.loop-i.invariant.1
     ∙ ap (λ gs. with_registrations gs (view ws))
     (ap (λ k. heard_by (view ws).next_entry (take k cs) (view ws).registrations) all
     ∙ heard_all _ cs (view ws).registrations)

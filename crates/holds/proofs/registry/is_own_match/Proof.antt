@@ -6,8 +6,7 @@ use Rattle.holds.proofs.registry.is_own_match.Statement.{statement}
 
 returns : tie.Need-returns-then-is_own
 returns c =
-    let b = c in
-    rw (sym b.is_own.ensures ∙ b.if-is_own.true, c.fields_match.ensures)
+    rw (sym c.is_own.ensures ∙ c.if-is_own.true, c.fields_match.ensures)
 
 returns-2 : tie.Need-returns-else-is_own
 returns-2 c = rw (sym c.is_own.ensures ∙ c.if-is_own.false)

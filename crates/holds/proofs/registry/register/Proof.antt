@@ -8,16 +8,14 @@ use Rattle.holds.proofs.registry.register.Statement.{statement}
 
 end-of-requires : tie.Need-end_of-end-requires
 end-of-requires c κs =
-    let s = c in
-    subst (λ t. InTime t s.args.q.lease) (sym c.clock-now.ensures) s.requires.in_time
+    subst (λ t. InTime t c.args.q.lease) (sym c.clock-now.ensures) c.requires.in_time
 
 returns : tie.Need-returns
 unfolding notify new_registration
 returns c =
-    let b = c in
-    let end = b.end_of-end.ensures.0 in
-    let n = b.next_registration-n.ensures in
-    let now = b.clock-now.ensures in
+    let end = c.end_of-end.ensures.0 in
+    let n = c.next_registration-n.ensures in
+    let now = c.clock-now.ensures in
     (rw (c.set_next_registration.ensures, c.add_registration.ensures, end, n, now), n)
 
 pub register_spec : {M : Type 1} → statement M

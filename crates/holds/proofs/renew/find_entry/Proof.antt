@@ -21,22 +21,19 @@ decreases-loop space id n i₀ i = n - i
 returns : tie.Need-returns-then-entry_number-id invariant-loop decreases-loop
 unfolding stored_entry
 returns c =
-    let seen = c in
-    let l = seen in
-    let ws = l.args.space.now in
+    let ws = c.args.space.now in
     let is = c.entry_at.ensures in
-    let its = ap (λ (e : Entry). e.id.0) is ∙ sym seen.entry_number.ensures ∙ c.if-entry_number-id.true in
-    let count = l.entry_count-n.ensures.0 in (
-      sym (search_found (entries-read ws) l.loop-i.invariant.1 (omega arith) is (eq-eqb _ _ its)),
+    let its = ap (λ (e : Entry). e.id.0) is ∙ sym c.entry_number.ensures ∙ c.if-entry_number-id.true in
+    let count = c.entry_count-n.ensures.0 in (
+      sym (search_found (entries-read ws) c.loop-i.invariant.1 (omega arith) is (eq-eqb _ _ its)),
       (omega (arith, count), is),
     )
 
 loop-again : tie.Need-loop-i-preserved invariant-loop decreases-loop
 loop-again c =
-    let seen = c in
-    let l = seen.loop-i in (
+    let l = c.loop-i in (
       omega arith,
-      search_more l.invariant.1 refl (ne_eqb _ _ (λ q. c.if-entry_number-id.false (seen.entry_number.ensures ∙ q))),
+      search_more l.invariant.1 refl (ne_eqb _ _ (λ q. c.if-entry_number-id.false (c.entry_number.ensures ∙ q))),
     )
 
 returns-2 : tie.Need-returns invariant-loop decreases-loop

@@ -20,21 +20,17 @@ end-of-requires c κs = rw c.clock.ensures c.requires.2
 
 set-entry-requires : tie.Need-set_entry-requires
 set-entry-requires c κs =
-    let ended = c in
-    (ended.requires.0, rw c.ending_at-x.ensures ended.end_of.ensures.1)
+    (c.requires.0, rw c.ending_at-x.ensures c.end_of.ensures.1)
 
 returns-2 : tie.Need-returns
 unfolding renewed_at
 returns-2 c =
-    let ending = c in
-    let timed = ending in
-    let start = timed in
-    let m = view start.args.space.now in
+    let m = view c.args.space.now in
     let end =
-    ending.end_of.ensures.0 ∙ ap (λ k. until k start.args.lease) timed.clock.ensures in
-    rw (ne_eqb _ _ timed.if-lease-eq0.false)
-    (c.set_entry.ensures.0 ∙ ap (λ x. with_entries (set m.entries start.args.row x) m)
-    (ending.ending_at-x.ensures ∙ ap (λ u. ending_at u start.args.e) end))
+    c.end_of.ensures.0 ∙ ap (λ k. until k c.args.lease) c.clock.ensures in
+    rw (ne_eqb _ _ c.if-lease-eq0.false)
+    (c.set_entry.ensures.0 ∙ ap (λ x. with_entries (set m.entries c.args.row x) m)
+    (c.ending_at-x.ensures ∙ ap (λ u. ending_at u c.args.e) end))
 
 pub renew_entry_spec : {M : Type 1} → statement M
 renew_entry_spec =

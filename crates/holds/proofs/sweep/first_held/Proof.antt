@@ -27,10 +27,9 @@ one_more ws t p i h x k l = go (dec_lt k i)
 
 loop-again : tie.Need-loop-i-preserved invariant-loop decreases-loop
 loop-again c =
-    let s = c in
     let row = c.entry_at-e.ensures in (
       omega arith,
-      one_more _ _ _ _ s.loop-i.invariant.1
+      one_more _ _ _ _ c.loop-i.invariant.1
           (subst (FreeOf _ _) row (c.is_free_of.ensures (c.if-not-is_free_of.false))),
     )
 

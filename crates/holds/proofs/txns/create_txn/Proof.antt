@@ -9,27 +9,23 @@ use Rattle.holds.proofs.txns.create_txn.Tie as tie
 
 end-of-requires : tie.Need-end_of-end-requires
 end-of-requires c κs =
-    let s = c in
-    subst (λ t. InTime t s.args.lease) (sym c.clock-now.ensures) s.requires.in_time
+    subst (λ t. InTime t c.args.lease) (sym c.clock-now.ensures) c.requires.in_time
 
 add-txn-requires : tie.Need-add_txn-requires
 add-txn-requires c κs =
-    let s = c in
-    (s.requires.room, c.free_slot-slot.ensures.1, c.end_of-end.ensures.1)
+    (c.requires.room, c.free_slot-slot.ensures.1, c.end_of-end.ensures.1)
 
 add-set-next-txn : tie.Need-overflow_add-n
 add-set-next-txn c =
-    let n = c in
-    record { fits = omega (arith, n.next_txn-n.ensures, n.requires.number) }
+    record { fits = omega (arith, c.next_txn-n.ensures, c.requires.number) }
 
 returns : tie.Need-returns
 unfolding create
 returns c =
-    let b = c in
-    let slot = b.free_slot-slot.ensures.0 in
-    let end = b.end_of-end.ensures.0 in
-    let n = b.next_txn-n.ensures in
-    let now = b.clock-now.ensures in
+    let slot = c.free_slot-slot.ensures.0 in
+    let end = c.end_of-end.ensures.0 in
+    let n = c.next_txn-n.ensures in
+    let now = c.clock-now.ensures in
     (rw (c.set_next_txn.ensures, c.add_txn.ensures, slot, end, n, now), n)
 
 pub create_txn_spec : {M : Type 1} → statement M

@@ -30,11 +30,10 @@ loop-again c =
 
 loop-again-2 : tie.Need-loop-i-preserved invariant-loop decreases-loop
 loop-again-2 c =
-    let b = c in
-    let l = b.loop-i in
-    let long = b.txn_count-count.ensures.1 in
-    let test = ap not (ne_eqb _ _ b.if-t-id.false) in
-    let r = b.txn_at-t.ensures in
+    let l = c.loop-i in
+    let long = c.txn_count-count.ensures.1 in
+    let test = ap not (ne_eqb _ _ c.if-t-id.false) in
+    let r = c.txn_at-t.ensures in
     (omega arith, compact_moved l.invariant.1 r test (omega arith) (omega (arith, long)) c.move_txn.ensures refl)
 
 returns : tie.Need-returns invariant-loop decreases-loop

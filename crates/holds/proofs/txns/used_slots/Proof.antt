@@ -38,8 +38,7 @@ loop-again c =
 
 returns : tie.Need-returns invariant-loop decreases-loop
 returns c =
-    let start = c in
-    used_all (txns-read start.args.space.now) c.loop-i.invariant.1
+    used_all (txns-read c.args.space.now) c.loop-i.invariant.1
     (omega (arith, c.loop-i-test.false, c.loop-i.invariant.0, c.txn_count-n.ensures.0))
 
 pub used_slots_spec : {M : Type 1} → statement M

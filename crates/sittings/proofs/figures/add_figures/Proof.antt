@@ -6,12 +6,9 @@ use Rattle.sittings.proofs.figures.add_figures.Tie as tie
 
 returns : tie.Need-returns
 returns c =
-    let second = c in
-    let read = second in
-    let start = read in
-    stored_one start.args.report.now start.args.party start.args.more read.figures_at-old.result
-    read.whole.ensures start.requires read.figures_at-old.ensures
-    second.wrapping_add_u32.ensures second.wrapping_add_u32-2.ensures
+    stored_one c.args.report.now c.args.party c.args.more c.figures_at-old.result
+    c.whole.ensures c.requires c.figures_at-old.ensures
+    c.wrapping_add_u32.ensures c.wrapping_add_u32-2.ensures
     c.greater_of.ensures c.wrapping_add_u32-3.ensures c.wrapping_add_u32-4.ensures
 
 pub add_figures_spec : {M : Type 1} → statement M

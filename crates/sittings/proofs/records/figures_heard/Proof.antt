@@ -6,19 +6,17 @@ use Rattle.sittings.proofs.records.figures_heard.Tie as tie
 
 returns : tie.Need-returns-then-is_closed_by
 returns c =
-    let closed = c in
-    let a = closed.args in
+    let a = c.args in
     c.with_wait.ensures
-    ∙ own-waited a.w a.a a.clock c.ticks_between.ensures closed.one_if-founds.ensures.0
-    (sym closed.is_closed_by.ensures ∙ c.if-is_closed_by.true)
+    ∙ own-waited a.w a.a a.clock c.ticks_between.ensures c.one_if-founds.ensures.0
+    (sym c.is_closed_by.ensures ∙ c.if-is_closed_by.true)
 
 returns-2 : tie.Need-returns-else-is_closed_by
 returns-2 c =
-    let closed = c in
-    let a = closed.args in
+    let a = c.args in
     c.without_wait.ensures
-    ∙ own-heard a.w a.a a.clock {b = false} closed.one_if-founds.ensures.0
-    (sym closed.is_closed_by.ensures ∙ c.if-is_closed_by.false)
+    ∙ own-heard a.w a.a a.clock {b = false} c.one_if-founds.ensures.0
+    (sym c.is_closed_by.ensures ∙ c.if-is_closed_by.false)
 
 pub figures_heard_spec : {M : Type 1} → statement M
 figures_heard_spec =

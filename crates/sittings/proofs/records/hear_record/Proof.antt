@@ -5,23 +5,20 @@ use Rattle.sittings.proofs.records.hear_record.Statement.{statement}
 use Rattle.sittings.proofs.records.hear_record.Tie as tie
 
 wait-at-requires : tie.Need-wait_at-w-requires
-wait-at-requires c κs = let test = c in (is_in_lem _ (sym test.is_party.ensures ∙ test.if-is_party.true)).last
+wait-at-requires c κs = (is_in_lem _ (sym c.is_party.ensures ∙ c.if-is_party.true)).last
 
 add-figures-requires : tie.Need-add_figures-requires
 add-figures-requires c κs =
-    let test = c in is_in_lem _ (sym test.is_party.ensures ∙ test.if-is_party.true)
+    is_in_lem _ (sym c.is_party.ensures ∙ c.if-is_party.true)
 
 set-wait-requires : tie.Need-set_wait-requires
 set-wait-requires c κs =
-    let test = c in
-    (is_in_lem _ (sym test.is_party.ensures ∙ test.if-is_party.true)).last
+    (is_in_lem _ (sym c.is_party.ensures ∙ c.if-is_party.true)).last
 
 returns : tie.Need-returns-then-is_party
 returns c =
-    let added = c in
-    let read = added in
-    heard-own read.args.a read.wait_at-w.ensures
-    added.figures_heard.ensures c.wait_left.ensures added.add_figures.ensures
+    heard-own c.args.a c.wait_at-w.ensures
+    c.figures_heard.ensures c.wait_left.ensures c.add_figures.ensures
     c.set_wait.ensures
 
 returns-2 : tie.Need-returns-else-is_party

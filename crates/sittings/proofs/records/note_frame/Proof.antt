@@ -6,12 +6,10 @@ use Rattle.sittings.proofs.records.note_frame.Tie as tie
 
 returns : tie.Need-returns
 returns c =
-    let heard = c in
-    let counted = heard in
-    let clock = counted.args.clock in (
-      λ rs s. noted (ap (λ n. clock + n) (counted.count_of.ensures.0 rs s)) (heard.hear_records.ensures rs s)
+    let clock = c.args.clock in (
+      λ rs s. noted (ap (λ n. clock + n) (c.count_of.ensures.0 rs s)) (c.hear_records.ensures rs s)
           (c.note_look_up.ensures rs s),
-      omega (arith, counted.count_of.ensures.1),
+      omega (arith, c.count_of.ensures.1),
     )
 
 pub note_frame_spec : {M : Type 1} → statement M

@@ -21,11 +21,9 @@ decreases-loop report₀ tray count space₀ hints₀ answers₀ waits₀ clock�
 
 loop-holds : tie.Need-loop-i-init invariant-loop decreases-loop
 loop-holds c =
-    let counted = c in
-    let start = counted in
-    let count = counted.pair_count-count.ensures in
-    let few = few-frames _ (passes start.args.tray.now start.requires).0 in (
-      watching_none start.args.report.now (λ j. omega (arith, counted.shared_slice_known-1.given j))
+    let count = c.pair_count-count.ensures in
+    let few = few-frames _ (passes c.args.tray.now c.requires).0 in (
+      watching_none c.args.report.now (λ j. omega (arith, c.shared_slice_known-1.given j))
           c.set_empty.ensures.0 c.know_empty.ensures,
       count,
       omega (arith, count, few),
@@ -35,9 +33,7 @@ loop-holds c =
 
 pair-at-requires : tie.Need-pair_at-pair-requires invariant-loop decreases-loop
 pair-at-requires c κs =
-    let loop = c in
-    let start = loop in
-    pair_there _ _ (passes start.args.tray.now start.requires).0 (omega (arith, loop.loop-i.invariant.1))
+    pair_there _ _ (passes c.args.tray.now c.requires).0 (omega (arith, c.loop-i.invariant.1))
 
 part_step_hinted_end : tie.Need-slice_bounds-step_hinted-end invariant-loop decreases-loop
 part_step_hinted_end c =
@@ -68,12 +64,10 @@ note-frame-requires c κs =
 loop-again : tie.Need-loop-i-preserved invariant-loop decreases-loop
 loop-again c =
     let step = c.step_hinted-answer.ensures in
-    let pair = c in
-    let loop = pair in
-    let l = loop.loop-i in
-    let tray = loop.args.tray.now in
+    let l = c.loop-i in
+    let tray = c.args.tray.now in
     let t = told l.invariant.0.sound l.invariant.4 step.0 in (
-      watching_more l.invariant.0 (omega (arith, l.invariant.1)) (part_is_frame tray pair.pair_at-pair.ensures) t step.1
+      watching_more l.invariant.0 (omega (arith, l.invariant.1)) (part_is_frame tray c.pair_at-pair.ensures) t step.1
           c.note_frame-clock.ensures.0 c.note_frame-clock.ensures.1,
       l.invariant.1,
       l.invariant.2,

@@ -6,9 +6,8 @@ use Rattle.sittings.proofs.sitting.end_wait.Tie as tie
 
 returns : tie.Need-returns-then-w
 returns c =
-    let test = c in
-    let a = test.args in
-    left_open a.clock a.party a.waits.now test.wait_at-w.ensures test.if-w.true
+    let a = c.args in
+    left_open a.clock a.party a.waits.now c.wait_at-w.ensures c.if-w.true
     c.with_wait.ensures c.ticks_between.ensures c.add_figures.ensures
 
 returns-2 : tie.Need-returns-else-w

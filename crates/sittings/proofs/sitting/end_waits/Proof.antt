@@ -22,9 +22,8 @@ end-wait-requires c κs = record { first = omega arith; last = omega arith }
 
 loop-again : tie.Need-loop-party-preserved invariant-loop decreases-loop
 loop-again c =
-    let loop = c in
-    let l = loop.loop-party in
-    let a = loop.args in
+    let l = c.loop-party in
+    let a = c.args in
     (ended-next a.clock a.waits.now l.party l.invariant.0 c.end_wait.ensures, omega arith, omega arith)
 
 returns : tie.Need-returns invariant-loop decreases-loop

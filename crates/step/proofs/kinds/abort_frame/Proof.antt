@@ -9,11 +9,9 @@ use Rattle.step.proofs.kinds.abort_frame.Statement.{statement}
 
 returns : tie.Need-returns
 returns c =
-    let taken = c in
-    let start = taken in
-    let q = Abort start.args.party start.args.id in (
-      taken.take_abort.ensures,
-      stays-reliable start.requires.0 taken.take_abort.ensures start.requires.2
+    let q = Abort c.args.party c.args.id in (
+      c.take_abort.ensures,
+      stays-reliable c.requires.0 c.take_abort.ensures c.requires.2
           (follows_same (frame_of q) refl refl refl refl),
     )
 

@@ -9,11 +9,9 @@ use Rattle.step.proofs.kinds.commit_frame.Statement.{statement}
 
 returns : tie.Need-returns
 returns c =
-    let taken = c in
-    let start = taken in
-    let q = Commit start.args.party start.args.id in (
-      taken.take_commit.ensures,
-      stays-reliable start.requires.0 taken.take_commit.ensures start.requires.2
+    let q = Commit c.args.party c.args.id in (
+      c.take_commit.ensures,
+      stays-reliable c.requires.0 c.take_commit.ensures c.requires.2
           (follows_same (frame_of q) refl refl refl refl),
     )
 

@@ -7,19 +7,15 @@ use Rattle.step.proofs.kinds.create_frame.Tie as tie
 
 take-create-requires : tie.Need-take_create-requires
 take-create-requires c κs =
-    let lease = c in
-    let start = lease in
-    (start.requires.0, start.requires.1, weaker-reliable lease.note_lease.ensures.0 start.requires.2)
+    (c.requires.0, c.requires.1, weaker-reliable c.note_lease.ensures.0 c.requires.2)
 
 returns : tie.Need-returns
 returns c =
-    let taken = c in
-    let lease = taken in
-    let start = lease in (
-      taken.take_create.ensures,
-      stays-reliable start.requires.0 taken.take_create.ensures start.requires.2
-          (follows-create start.args.party start.args.lease lease.clock.ensures
-          lease.note_lease.ensures),
+    (
+      c.take_create.ensures,
+      stays-reliable c.requires.0 c.take_create.ensures c.requires.2
+          (follows-create c.args.party c.args.lease c.clock.ensures
+          c.note_lease.ensures),
     )
 
 pub create_frame_spec : {M : Type 1} → statement M

@@ -7,18 +7,14 @@ use Rattle.step.proofs.kinds.find_frame.Tie as tie
 
 take-find-requires : tie.Need-take_find-r-requires
 take-find-requires c κs =
-    let acted = c in
-    let start = acted in
-    (start.requires.0, start.requires.1, weaker-reliable acted.note_acted.ensures.0 start.requires.2)
+    (c.requires.0, c.requires.1, weaker-reliable c.note_acted.ensures.0 c.requires.2)
 
 returns : tie.Need-returns
 returns c =
-    let taken = c in
-    let acted = taken in
-    let start = acted in (
-      taken.take_find-r.ensures,
-      stays-reliable start.requires.0 taken.take_find-r.ensures start.requires.2
-          (follows_find start.args.l acted.note_acted.ensures c.note_last.ensures),
+    (
+      c.take_find-r.ensures,
+      stays-reliable c.requires.0 c.take_find-r.ensures c.requires.2
+          (follows_find c.args.l c.note_acted.ensures c.note_last.ensures),
     )
 
 pub find_frame_spec : {M : Type 1} → statement M

@@ -7,19 +7,15 @@ use Rattle.step.proofs.kinds.notify_frame.Statement.{statement}
 
 take-notify-requires : tie.Need-take_notify-requires
 take-notify-requires c κs =
-    let lease = c in
-    let start = lease in
-    (start.requires.0, start.requires.1, weaker-reliable lease.note_lease.ensures.0 start.requires.2)
+    (c.requires.0, c.requires.1, weaker-reliable c.note_lease.ensures.0 c.requires.2)
 
 returns : tie.Need-returns
 returns c =
-    let taken = c in
-    let lease = taken in
-    let start = lease in (
-      taken.take_notify.ensures,
-      stays-reliable start.requires.0 taken.take_notify.ensures start.requires.2
-          (follows-notify start.args.q lease.clock.ensures
-          lease.note_lease.ensures),
+    (
+      c.take_notify.ensures,
+      stays-reliable c.requires.0 c.take_notify.ensures c.requires.2
+          (follows-notify c.args.q c.clock.ensures
+          c.note_lease.ensures),
     )
 
 pub notify_frame_spec : {M : Type 1} → statement M

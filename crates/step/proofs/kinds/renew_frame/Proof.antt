@@ -7,19 +7,15 @@ use Rattle.step.proofs.kinds.renew_frame.Tie as tie
 
 take-renew-requires : tie.Need-take_renew-requires
 take-renew-requires c κs =
-    let lease = c in
-    let start = lease in
-    (start.requires.0, start.requires.1, weaker-reliable lease.note_stored.ensures.0 start.requires.2)
+    (c.requires.0, c.requires.1, weaker-reliable c.note_stored.ensures.0 c.requires.2)
 
 returns : tie.Need-returns
 returns c =
-    let taken = c in
-    let lease = taken in
-    let start = lease in (
-      taken.take_renew.ensures,
-      stays-reliable start.requires.0 taken.take_renew.ensures start.requires.2
-          (follows-renew start.args.party start.args.id start.args.lease lease.clock.ensures
-          lease.note_stored.ensures),
+    (
+      c.take_renew.ensures,
+      stays-reliable c.requires.0 c.take_renew.ensures c.requires.2
+          (follows-renew c.args.party c.args.id c.args.lease c.clock.ensures
+          c.note_stored.ensures),
     )
 
 pub renew_frame_spec : {M : Type 1} → statement M

@@ -5,43 +5,43 @@ use Rattle.step.proofs.kinds.take_up.Statement.{statement}
 
 write-frame-requires : tie.Need-write_frame-requires
 write-frame-requires c κs =
-    let told = c in rw told.in-Write.is at
-    told.requires
+    rw c.in-Write.is at
+    c.requires
 
 find-frame-requires : tie.Need-find_frame-requires
 find-frame-requires c κs =
-    let told = c in rw told.in-Find.is at
-    told.requires
+    rw c.in-Find.is at
+    c.requires
 
 create-frame-requires : tie.Need-create_frame-requires
 create-frame-requires c κs =
-    let told = c in rw told.in-Create.is at
-    told.requires
+    rw c.in-Create.is at
+    c.requires
 
 commit-frame-requires : tie.Need-commit_frame-requires
 commit-frame-requires c κs =
-    let told = c in rw told.in-Commit.is at
-    told.requires
+    rw c.in-Commit.is at
+    c.requires
 
 abort-frame-requires : tie.Need-abort_frame-requires
 abort-frame-requires c κs =
-    let told = c in rw told.in-Abort.is at
-    told.requires
+    rw c.in-Abort.is at
+    c.requires
 
 renew-frame-requires : tie.Need-renew_frame-requires
 renew-frame-requires c κs =
-    let told = c in rw told.in-Renew.is at
-    told.requires
+    rw c.in-Renew.is at
+    c.requires
 
 notify-frame-requires : tie.Need-notify_frame-requires
 notify-frame-requires c κs =
-    let told = c in rw told.in-Notify.is at
-    told.requires
+    rw c.in-Notify.is at
+    c.requires
 
 tick-frame-requires : tie.Need-tick_frame-requires
 tick-frame-requires c κs =
-    let told = c in rw told.in-Tick.is at
-    told.requires
+    rw c.in-Tick.is at
+    c.requires
 
 pub take_up_spec : {M : Type 1} → statement M
 take_up_spec =

@@ -10,12 +10,10 @@ use Rattle.step.proofs.kinds.tick_frame.Statement.{statement}
 
 returns : tie.Need-returns
 returns c =
-    let taken = c in
-    let start = taken in
     let stays =
-    stays-reliable start.requires.0 taken.take_tick-r.ensures start.requires.2
+    stays-reliable c.requires.0 c.take_tick-r.ensures c.requires.2
     (follows_same (frame_of Tick) refl refl refl refl) in
-    (taken.take_tick-r.ensures, λ s. renewed-reliable c.renew_reached.ensures (stays s))
+    (c.take_tick-r.ensures, λ s. renewed-reliable c.renew_reached.ensures (stays s))
 
 pub tick_frame_spec : {M : Type 1} → statement M
 tick_frame_spec = tie.close (tie.spec (λ c κs. search rules) (λ c κs. search rules) (λ c. search rules) returns)

@@ -8,22 +8,16 @@ use Rattle.step.proofs.kinds.write_frame.Tie as tie
 
 take-write-requires : tie.Need-take_write-requires
 take-write-requires c κs =
-    let acted = c in
-    let stored = acted in
-    let start = stored in
-    let weaker = weaker-then stored.note_stored.ensures.0 acted.note_acted.ensures.0 in
-    (start.requires.0, start.requires.1, weaker-reliable weaker start.requires.2)
+    let weaker = weaker-then c.note_stored.ensures.0 c.note_acted.ensures.0 in
+    (c.requires.0, c.requires.1, weaker-reliable weaker c.requires.2)
 
 returns : tie.Need-returns
 returns c =
-    let taken = c in
-    let acted = taken in
-    let stored = acted in
-    let start = stored in (
-      taken.take_write.ensures,
-      stays-reliable start.requires.0 taken.take_write.ensures start.requires.2
-          (follows-write start.args.w stored.clock.ensures stored.note_stored.ensures
-          acted.note_acted.ensures),
+    (
+      c.take_write.ensures,
+      stays-reliable c.requires.0 c.take_write.ensures c.requires.2
+          (follows-write c.args.w c.clock.ensures c.note_stored.ensures
+          c.note_acted.ensures),
     )
 
 pub write_frame_spec : {M : Type 1} → statement M

@@ -23,11 +23,9 @@ look-up-of-requires c κs = find_in_time (view c.args.space.now) c.args.l c.requ
 
 returns : tie.Need-returns-in_default
 returns c ready =
-    let search = c in
-    let asked = search in
-    let l = asked.args.l in
-    let n = sym search.find_available.ensures.0 ∙ ap match_of c.in_default.is in
-    none_found _ _ (frame_of (Find l)) _ asked.look_up_of-w.ensures.0 n (c.wait_or_nothing.ensures ready.room)
+    let l = c.args.l in
+    let n = sym c.find_available.ensures.0 ∙ ap match_of c.in_default.is in
+    none_found _ _ (frame_of (Find l)) _ c.look_up_of-w.ensures.0 n (c.wait_or_nothing.ensures ready.room)
 
 -- the entry that is found stands in its row
 in_row : (c : tie.In-At)
@@ -40,17 +38,13 @@ in_row c =
 returns-2 : tie.Need-returns
 unfolding answer_found handed_at
 returns-2 c ready =
-    let told = c in
-    let found = told in
-    let search = found in
-    let asked = search in
-    let a = asked.args in
+    let a = c.args in
     let ws = a.space.now in
-    let n = sym search.find_available.ensures.0 ∙ ap match_of found.in-At.is in
-    let r = in_row told.before.before.before in
+    let n = sym c.find_available.ensures.0 ∙ ap match_of c.in-At.is in
+    let r = in_row c.before.before.before in
     let by = by_row (view ws).txns _ _ (view ws).entries _ (omega (arith, r.0, length-entries ws))
     (entry_in ws _ _ r.0 ∙ sym r.1) ready.numbered in
-    one_found _ _ (frame_of (Find a.l)) _ asked.look_up_of-w.ensures.0 n
+    one_found _ _ (frame_of (Find a.l)) _ c.look_up_of-w.ensures.0 n
     (c.hand_out.ensures.0 ∙ ap (λ es. with_entries es (view ws)) by) c.found_record.ensures
 
 pub find_spec : {M : Type 1} → statement M

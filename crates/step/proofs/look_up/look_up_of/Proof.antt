@@ -11,10 +11,9 @@ end-of-requires c κs = rw c.clock.ensures c.requires
 returns : tie.Need-returns
 unfolding look_up_of
 returns c =
-    let ended = c in
-    let l = ended.args.l in
+    let l = c.args.l in
     let k = kind_back l.takes l.if_exists in
-    (rw (k.0, k.1, ended.end_of-deadline.ensures.0, ended.clock.ensures), ended.end_of-deadline.ensures.1)
+    (rw (k.0, k.1, c.end_of-deadline.ensures.0, c.clock.ensures), c.end_of-deadline.ensures.1)
 
 pub look_up_of_spec : {M : Type 1} → statement M
 look_up_of_spec = tie.close (tie.spec (λ c κs. search rules) end-of-requires returns)

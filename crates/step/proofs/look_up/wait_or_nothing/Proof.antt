@@ -9,17 +9,15 @@ use Rattle.step.proofs.look_up.wait_or_nothing.Tie as tie
 returns : tie.Need-returns-then-gives_nothing
 unfolding nothing
 returns c _ =
-    let asked = c in
-    let a = asked.args in
-    gets_nothing _ _ a.w a.timeout (sym asked.gives_nothing.ensures ∙ c.if-gives_nothing.true) refl
+    let a = c.args in
+    gets_nothing _ _ a.w a.timeout (sym c.gives_nothing.ensures ∙ c.if-gives_nothing.true) refl
     c.plain_record.ensures
 
 returns-2 : tie.Need-returns
 unfolding waiting
 returns-2 c free =
-    let asked = c in
-    let a = asked.args in
-    waits_on _ _ a.w a.timeout (sym asked.gives_nothing.ensures ∙ c.if-gives_nothing.false)
+    let a = c.args in
+    waits_on _ _ a.w a.timeout (sym c.gives_nothing.ensures ∙ c.if-gives_nothing.false)
     (c.add_wait.ensures free) c.plain_record-2.ensures
 
 pub wait_or_nothing_spec : {M : Type 1} → statement M

@@ -11,9 +11,8 @@ use Rattle.step.proofs.own.advance.Statement.{statement}
 returns : tie.Need-returns
 unfolding ticked
 returns c =
-    let clock = c in
-    let m = view clock.args.space.now in
-    (c.set_clock.ensures ∙ ap (λ t. with_clock (t + 1) m) clock.clock-t.ensures, c.plain_record.ensures)
+    let m = view c.args.space.now in
+    (c.set_clock.ensures ∙ ap (λ t. with_clock (t + 1) m) c.clock-t.ensures, c.plain_record.ensures)
 
 pub advance_spec : {M : Type 1} → statement M
 advance_spec =

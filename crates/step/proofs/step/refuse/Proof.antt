@@ -9,10 +9,9 @@ use Rattle.step.proofs.step.refuse.Tie as tie
 returns : tie.Need-returns
 returns c =
     let added = c.add_record in
-    let made = c in
-    let area = made.args.answers.now in (
+    let area = c.args.answers.now in (
       refl,
-      subst (λ r. Adds (r ∷ []) area added.new.answers 0 1) made.refused_record-r.ensures
+      subst (λ r. Adds (r ∷ []) area added.new.answers 0 1) c.refused_record-r.ensures
           (record { counts = refl; bytes = added.ensures.bytes }),
     )
 

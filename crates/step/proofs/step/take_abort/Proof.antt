@@ -11,32 +11,21 @@ use Rattle.step.proofs.step.take_abort.Statement.{statement}
 
 returns : tie.Need-returns-then-n-ne0
 returns c =
-    let test = c in
-    let start = test in
-    stepped-judged start.requires.1 start.requires.0 test.abort_refusal-n.ensures test.if-n-ne0.true refl
+    stepped-judged c.requires.1 c.requires.0 c.abort_refusal-n.ensures c.if-n-ne0.true refl
     c.refuse.ensures
 
 returns-2 : tie.Need-returns-then-is_idle
 returns-2 c =
-    let own = c in
-    let carried = own in
-    let idle = carried in
-    let test = idle in
-    let start = test in
-    stepped-abort start.args.space.now start.args.answers.now start.requires.1 start.requires.2
-    (idle.is_idle.ensures idle.if-is_idle.true) carried.abort_idle-answer.ensures.0 start.requires.0
-    (sym test.abort_refusal-n.ensures ∙ test.if-n-ne0.false) carried.abort_idle-answer.ensures.1
-    own.add_record.ensures
+    stepped-abort c.args.space.now c.args.answers.now c.requires.1 c.requires.2
+    (c.is_idle.ensures c.if-is_idle.true) c.abort_idle-answer.ensures.0 c.requires.0
+    (sym c.abort_refusal-n.ensures ∙ c.if-n-ne0.false) c.abort_idle-answer.ensures.1
+    c.add_record.ensures
 
 returns-3 : tie.Need-returns
 unfolding own_part
 returns-3 c =
-    let own = c in
-    let carried = own in
-    let test = carried in
-    let start = test in
-    stepped-done start.requires.1 start.requires.0 _ (sym test.abort_refusal-n.ensures ∙ test.if-n-ne0.false)
-    (λ _. carried.abort-own.ensures.0, carried.abort-own.ensures.1) own.add_record-count.ensures _ (abort-ends _ _)
+    stepped-done c.requires.1 c.requires.0 _ (sym c.abort_refusal-n.ensures ∙ c.if-n-ne0.false)
+    (λ _. c.abort-own.ensures.0, c.abort-own.ensures.1) c.add_record-count.ensures _ (abort-ends _ _)
     (λ _. none-rung _ _ refl refl)
     c.serve_and_close.ensures
 

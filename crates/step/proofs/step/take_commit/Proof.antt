@@ -14,84 +14,63 @@ use Rattle.step.proofs.step.take_commit.Statement.{statement}
 
 returns : tie.Need-returns-then-n-ne0
 returns c =
-    let test = c in
-    let start = test in
-    stepped-judged start.requires.1 start.requires.0 test.commit_refusal-n.ensures test.if-n-ne0.true refl
+    stepped-judged c.requires.1 c.requires.0 c.commit_refusal-n.ensures c.if-n-ne0.true refl
     c.refuse.ensures
 
 returns-2 : tie.Need-returns-then-is_idle
 returns-2 c =
-    let own = c in
-    let carried = own in
-    let idle = carried in
-    let test = idle in
-    let start = test in
-    stepped-commit start.args.space.now start.args.answers.now start.requires.1 start.requires.2
-    (idle.is_idle.ensures idle.if-is_idle.true) carried.commit_idle-answer.ensures.0 start.requires.0
-    (sym test.commit_refusal-n.ensures ∙ test.if-n-ne0.false) carried.commit_idle-answer.ensures.1
-    own.add_record.ensures
+    stepped-commit c.args.space.now c.args.answers.now c.requires.1 c.requires.2
+    (c.is_idle.ensures c.if-is_idle.true) c.commit_idle-answer.ensures.0 c.requires.0
+    (sym c.commit_refusal-n.ensures ∙ c.if-n-ne0.false) c.commit_idle-answer.ensures.1
+    c.add_record.ensures
 
 serve-and-close-requires : tie.Need-serve_and_close-closed-requires
 serve-and-close-requires c κs =
-    let own = c in
-    let start = own in
-    let a = own.add_record-count.ensures in
-    omega (arith, start.requires.1, a.counts, adds-length a (omega (arith, start.requires.1, a.counts)))
+    let a = c.add_record-count.ensures in
+    omega (arith, c.requires.1, a.counts, adds-length a (omega (arith, c.requires.1, a.counts)))
 
 put-bells-requires : tie.Need-put_bells-requires
 put-bells-requires c κs =
-    let closed = c in
-    let own = closed in
-    let heard = own in
-    let start = own in
-    let counted = heard in
-    let ws = heard.hear.new.space in
-    let a = own.add_record-count.ensures in
-    let few = both-few heard.commit-own.result.from (view ws) in
-    let d = closed.serve_and_close-closed.ensures in
-    let long = adds-length a (omega (arith, start.requires.1, a.counts)) in (
+    let ws = c.hear.new.space in
+    let a = c.add_record-count.ensures in
+    let few = both-few c.commit-own.result.from (view ws) in
+    let d = c.serve_and_close-closed.ensures in
+    let long = adds-length a (omega (arith, c.requires.1, a.counts)) in (
       omega (
         arith,
-        start.requires.1,
+        c.requires.1,
         a.counts,
         long,
         d.adds.counts,
         few,
-        (view-bounded ws).waits-fit,
+        (view-bounded ws).waits_fit,
         adds-length d.adds (omega (
           arith,
-          start.requires.1,
+          c.requires.1,
           a.counts,
           long,
           d.adds.counts,
           few,
           (view-bounded ws
-              ).waits-fit,
+              ).waits_fit,
         )),
       ),
-      counted.count_public.ensures.1,
+      c.count_public.ensures.1,
     )
 
 returns-3 : tie.Need-returns
 returns-3 c =
-    let closed = c in
-    let own = closed in
-    let heard = own in
-    let carried = heard in
-    let counted = carried in
-    let test = counted in
-    let start = test in
-    stepped-committed start.requires.1 start.requires.0 (sym test.commit_refusal-n.ensures ∙ test.if-n-ne0.false)
-    _ _ counted.count_public.new.counts carried.commit-own.result.from counted.count_public.ensures.0
-    carried.commit-own.ensures heard.hear.ensures
-    own.add_record-count.ensures
+    stepped-committed c.requires.1 c.requires.0 (sym c.commit_refusal-n.ensures ∙ c.if-n-ne0.false)
+    _ _ c.count_public.new.counts c.commit-own.result.from c.count_public.ensures.0
+    c.commit-own.ensures c.hear.ensures
+    c.add_record-count.ensures
     (omega (
       arith,
-      start.requires.1,
-      own.add_record-count.ensures.counts,
-      adds-length own.add_record-count.ensures (omega (arith, start.requires.1, own.add_record-count.ensures.counts)),
+      c.requires.1,
+      c.add_record-count.ensures.counts,
+      adds-length c.add_record-count.ensures (omega (arith, c.requires.1, c.add_record-count.ensures.counts)),
     ))
-    closed.serve_and_close-closed.ensures c.put_bells.ensures
+    c.serve_and_close-closed.ensures c.put_bells.ensures
 
 pub take_commit_spec : {M : Type 1} → statement M
 take_commit_spec =

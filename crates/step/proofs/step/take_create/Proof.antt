@@ -14,21 +14,15 @@ use Rattle.step.proofs.step.take_create.Statement.{statement}
 
 returns : tie.Need-returns-then-n-ne0
 returns c =
-    let test = c in
-    let start = test in
-    stepped-judged start.requires.1 start.requires.0 test.create_refusal-n.ensures test.if-n-ne0.true refl
+    stepped-judged c.requires.1 c.requires.0 c.create_refusal-n.ensures c.if-n-ne0.true refl
     c.refuse.ensures
 
 returns-2 : tie.Need-returns
 unfolding own_part
 returns-2 c =
-    let own = c in
-    let carried = own in
-    let test = carried in
-    let start = test in
-    let ws = carried.create-answer.new.space in
-    stepped-done start.requires.1 start.requires.0 0 (sym test.create_refusal-n.ensures ∙ test.if-n-ne0.false)
-    (λ _. carried.create-answer.ensures, refl) own.add_record.ensures _ (create-quiet _ _)
+    let ws = c.create-answer.new.space in
+    stepped-done c.requires.1 c.requires.0 0 (sym c.create_refusal-n.ensures ∙ c.if-n-ne0.false)
+    (λ _. c.create-answer.ensures, refl) c.add_record.ensures _ (create-quiet _ _)
     (λ _. none-rung _ _ refl refl)
     (does_as (sym (quiet-ends 0 (view ws) (view-bounded ws).entries_fit)) (does-nothing _ _ _))
 

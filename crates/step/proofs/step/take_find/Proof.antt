@@ -17,59 +17,44 @@ use Rattle.step.proofs.step.take_find.Statement.{statement}
 
 returns : tie.Need-returns-then-n-ne0
 returns c =
-    let test = c in
-    let start = test in
-    stepped-judged start.requires.1 start.requires.0 test.find_refusal-n.ensures test.if-n-ne0.true refl
+    stepped-judged c.requires.1 c.requires.0 c.find_refusal-n.ensures c.if-n-ne0.true refl
     c.refuse.ensures
 
 close-in-vain-requires : tie.Need-close_in_vain-requires
 close-in-vain-requires c κs =
-    let own = c in
-    let carried = own in
-    let start = carried in
     omega (
       arith,
-      start.requires.1,
-      own.add_record-count.ensures.counts,
-      (view-bounded carried.find-answer.new.space).waits-fit,
-      own.add_record-count.auto.answers,
+      c.requires.1,
+      c.add_record-count.ensures.counts,
+      (view-bounded c.find-answer.new.space).waits_fit,
+      c.add_record-count.auto.answers,
     )
 
 returns-2 : tie.Need-returns-then-l
 returns-2 c =
-    let closed = c in
-    let inside = closed in
-    let own = inside in
-    let carried = own in
-    let test = carried in
-    let start = test in
-    let l = start.args.l in
-    let ws = carried.find-answer.new.space in
-    stepped-done start.requires.1 start.requires.0 0 (sym test.find_refusal-n.ensures ∙ test.if-n-ne0.false) (
-      λ s. carries_as _ _ (own_find _ l) (carried.find-answer.ensures
-          (ready_for _ start.requires.0 (sym test.find_refusal-n.ensures ∙ test.if-n-ne0.false) s
+    let l = c.args.l in
+    let ws = c.find-answer.new.space in
+    stepped-done c.requires.1 c.requires.0 0 (sym c.find_refusal-n.ensures ∙ c.if-n-ne0.false) (
+      λ s. carries_as _ _ (own_find _ l) (c.find-answer.ensures
+          (ready_for _ c.requires.0 (sym c.find_refusal-n.ensures ∙ c.if-n-ne0.false) s
           (looks_up l.takes l.if_exists))),
       refl,
     )
-    own.add_record-count.ensures Nothings (find_ends l Nothings refl refl (sym inside.if-l.true))
+    c.add_record-count.ensures Nothings (find_ends l Nothings refl refl (sym c.if-l.true))
     (λ _. look_up_silent _ _ (looks_up l.takes l.if_exists))
-    (does_as (sym (nothings-end 0 (view ws) (view-bounded ws).entries_fit)) closed.close_in_vain.ensures)
+    (does_as (sym (nothings-end 0 (view ws) (view-bounded ws).entries_fit)) c.close_in_vain.ensures)
 
 returns-3 : tie.Need-returns
 returns-3 c =
-    let own = c in
-    let carried = own in
-    let test = carried in
-    let start = test in
-    let l = start.args.l in
-    let ws = carried.find-answer.new.space in
-    stepped-done start.requires.1 start.requires.0 0 (sym test.find_refusal-n.ensures ∙ test.if-n-ne0.false) (
-      λ s. carries_as _ _ (own_find _ l) (carried.find-answer.ensures
-          (ready_for _ start.requires.0 (sym test.find_refusal-n.ensures ∙ test.if-n-ne0.false) s
+    let l = c.args.l in
+    let ws = c.find-answer.new.space in
+    stepped-done c.requires.1 c.requires.0 0 (sym c.find_refusal-n.ensures ∙ c.if-n-ne0.false) (
+      λ s. carries_as _ _ (own_find _ l) (c.find-answer.ensures
+          (ready_for _ c.requires.0 (sym c.find_refusal-n.ensures ∙ c.if-n-ne0.false) s
           (looks_up l.takes l.if_exists))),
       refl,
     )
-    own.add_record-count.ensures Quiet (find_ends l Quiet refl refl (sym c.if-l.false))
+    c.add_record-count.ensures Quiet (find_ends l Quiet refl refl (sym c.if-l.false))
     (λ _. look_up_silent _ _ (looks_up l.takes l.if_exists))
     (does_as (sym (quiet-ends 0 (view ws) (view-bounded ws).entries_fit)) (does-nothing _ _ _))
 

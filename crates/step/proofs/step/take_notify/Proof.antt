@@ -14,21 +14,15 @@ use Rattle.step.proofs.step.take_notify.Statement.{statement}
 
 returns : tie.Need-returns-then-n-ne0
 returns c =
-    let test = c in
-    let start = test in
-    stepped-judged start.requires.1 start.requires.0 test.notify_refusal-n.ensures test.if-n-ne0.true refl
+    stepped-judged c.requires.1 c.requires.0 c.notify_refusal-n.ensures c.if-n-ne0.true refl
     c.refuse.ensures
 
 returns-2 : tie.Need-returns
 unfolding own_part
 returns-2 c =
-    let own = c in
-    let carried = own in
-    let test = carried in
-    let start = test in
-    let ws = carried.notify-answer.new.space in
-    stepped-done start.requires.1 start.requires.0 0 (sym test.notify_refusal-n.ensures ∙ test.if-n-ne0.false)
-    (λ _. carried.notify-answer.ensures, refl) own.add_record.ensures _ (notify-quiet _)
+    let ws = c.notify-answer.new.space in
+    stepped-done c.requires.1 c.requires.0 0 (sym c.notify_refusal-n.ensures ∙ c.if-n-ne0.false)
+    (λ _. c.notify-answer.ensures, refl) c.add_record.ensures _ (notify-quiet _)
     (λ _. none-rung _ _ refl refl)
     (does_as (sym (quiet-ends 0 (view ws) (view-bounded ws).entries_fit)) (does-nothing _ _ _))
 

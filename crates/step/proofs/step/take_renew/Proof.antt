@@ -23,89 +23,70 @@ use Rattle.step.proofs.step.take_renew.Statement.{statement}
 
 returns : tie.Need-returns-then-waits_already
 returns c =
-    let test = c in
-    let start = test in
-    stepped-judged start.requires.1 start.requires.0
-    (renew-waits _ _ _ _ (sym test.waits_already.ensures ∙ test.if-waits_already.true)) (λ z. omega arith) refl
+    stepped-judged c.requires.1 c.requires.0
+    (renew-waits _ _ _ _ (sym c.waits_already.ensures ∙ c.if-waits_already.true)) (λ z. omega arith) refl
     c.refuse.ensures
 
 returns-2 : tie.Need-returns-in_default
 returns-2 c =
-    let told = c in
-    let search = told in
-    let test = search in
-    let start = test in
-    let none_there = sym search.find_entry.ensures.0 ∙ ap match_of told.in_default.is in
-    stepped-judged start.requires.1 start.requires.0
-    (renew-none _ _ _ _ (sym test.waits_already.ensures ∙ test.if-waits_already.false) none_there) (λ z. omega arith)
+    let none_there = sym c.find_entry.ensures.0 ∙ ap match_of c.in_default.is in
+    stepped-judged c.requires.1 c.requires.0
+    (renew-none _ _ _ _ (sym c.waits_already.ensures ∙ c.if-waits_already.false) none_there) (λ z. omega arith)
     refl
     c.refuse-in_default.ensures
 
 -- the entry that is found, and its row
 found : (c : tie.In-At)
-    → let e = c in let a = e.args in
-    stored_entry a.id.0 (view a.space.now).entries ≡ some e.in-At.e
+    → let a = c.args in
+    stored_entry a.id.0 (view a.space.now).entries ≡ some c.in-At.e
 found c =
     sym c.find_entry.ensures.0 ∙ ap match_of c.in-At.is
 
 in_row : (c : tie.In-At)
-    → let e = c in let a = e.args in
-    (e.in-At.row < entry_count a.space.now) × (e.in-At.e ≡ entry_row a.space.now e.in-At.row)
+    → let a = c.args in
+    (c.in-At.row < entry_count a.space.now) × (c.in-At.e ≡ entry_row a.space.now c.in-At.row)
 in_row c =
-    let e = c in
-    let a = e.args in
-    subst (InRow a.space.now) e.in-At.is e.find_entry.ensures.1
+    let a = c.args in
+    subst (InRow a.space.now) c.in-At.is c.find_entry.ensures.1
 
 -- the number of the table is that of the entry
 judged : (c : tie.After-entry_refusal-n)
     → let a = c.args in
     c.entry_refusal-n.result ≡ space_refusal (view a.space.now) (frame_of (renew_of a.party a.id a.lease))
 judged c =
-    let known = c in
-    let test = known in
     c.entry_refusal-n.ensures
-    ∙ renew_some _ _ _ _ (sym test.waits_already.ensures ∙ test.if-waits_already.false) _ (found known.before)
+    ∙ renew_some _ _ _ _ (sym c.waits_already.ensures ∙ c.if-waits_already.false) _ (found c.before)
 
 returns-3 : tie.Need-returns-then-n-ne0
 returns-3 c =
-    let test = c in
-    let start = test in
-    stepped-judged start.requires.1 start.requires.0 (judged test.before.before.before.before.before) test.if-n-ne0.true refl
+    stepped-judged c.requires.1 c.requires.0 (judged c.before.before.before.before.before) c.if-n-ne0.true refl
     c.refuse-then-n-ne0.ensures
 
 renew-entry-requires : tie.Need-renew_entry-requires
 renew-entry-requires c κs =
-    let test = c in
-    let r = in_row test.before.before.before in
-    (r.0, r.1, renew_in_time _ _ _ _ (sym test.entry_refusal-n.ensures ∙ test.if-n-ne0.false))
+    let r = in_row c.before.before.before in
+    (r.0, r.1, renew_in_time _ _ _ _ (sym c.entry_refusal-n.ensures ∙ c.if-n-ne0.false))
 
 add-record-requires : tie.Need-add_record-requires
 add-record-requires c κs =
-    let known = c in
-    let start = known in
-    omega (arith, start.requires.1)
+    omega (arith, c.requires.1)
 
 returns-4 : tie.Need-returns
 unfolding own_part renew
 returns-4 c =
-    let own = c in
-    let done = own in
-    let test = done in
-    let known = test in
-    let start = known in
-    let a = start.args in
-    let r = in_row known.before.before.before.before.before.before.before.before.before in
-    let ws = done.renew_entry.new.space in
-    stepped-done start.requires.1 start.requires.0 0 (sym (judged test.before.before.before.before.before.before.before.before) ∙ test.if-n-ne0.false) (
+    let a = c.args in
+    let r = in_row c.before.before.before.before.before.before.before.before.before in
+    let ws = c.renew_entry.new.space in
+    stepped-done c.requires.1 c.requires.0 0 (sym (judged c.before.before.before.before.before.before.before.before) ∙ c.if-n-ne0.false) (
       λ s. record {
-        model = done.renew_entry.ensures
-            ∙ renew-row (view a.space.now) _ a.id a.lease _ _ s (found known.before.before.before.before.before.before.before.before.before)
+        model = c.renew_entry.ensures
+            ∙ renew-row (view a.space.now) _ a.id a.lease _ _ s (found c.before.before.before.before.before.before.before.before.before)
             (omega (arith, r.0, length-entries a.space.now))
             (entry_in a.space.now _ _ r.0 ∙ sym r.1);
-        own = own.renewed_record-answer.ensures;
+        own = c.renewed_record-answer.ensures;
       },
       refl,
-    ) own.add_record.ensures _ (renew-quiet _ _ _)
+    ) c.add_record.ensures _ (renew-quiet _ _ _)
     (λ _. none-rung _ _ refl refl)
     (does_as (sym (quiet-ends 0 (view ws) (view-bounded ws).entries_fit)) (does-nothing _ _ _))
 

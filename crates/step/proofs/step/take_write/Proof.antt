@@ -23,72 +23,50 @@ use Rattle.step.proofs.step.take_write.Statement.{statement}
 
 returns : tie.Need-returns-then-n-ne0
 returns c =
-    let test = c in
-    let start = test in
-    stepped-judged start.requires.1 start.requires.0 test.write_refusal-n.ensures test.if-n-ne0.true refl
+    stepped-judged c.requires.1 c.requires.0 c.write_refusal-n.ensures c.if-n-ne0.true refl
     c.refuse.ensures
 
 returns-2 : tie.Need-returns-then-w-ne0
 unfolding own_part write_frame
 returns-2 c =
-    let own = c in
-    let carried = own in
-    let test = carried in
-    let start = test in
-    let ws = carried.write-own.new.space in
-    let k = carried.write-own.result.from in
-    let silent = silent_inside (view start.args.space.now) start.args.w c.if-w-ne0.true in
-    let done = carried.write-own.ensures.0 in
-    stepped-done start.requires.1 start.requires.0 k (sym test.write_refusal-n.ensures ∙ test.if-n-ne0.false)
-    (λ _. record { model = done.model ∙ silent.0; own = done.own }, carried.write-own.ensures.1)
-    own.add_record-count.ensures Quiet (write-quiet _ c.if-w-ne0.true) (λ _. silent.1)
+    let ws = c.write-own.new.space in
+    let k = c.write-own.result.from in
+    let silent = silent_inside (view c.args.space.now) c.args.w c.if-w-ne0.true in
+    let done = c.write-own.ensures.0 in
+    stepped-done c.requires.1 c.requires.0 k (sym c.write_refusal-n.ensures ∙ c.if-n-ne0.false)
+    (λ _. record { model = done.model ∙ silent.0; own = done.own }, c.write-own.ensures.1)
+    c.add_record-count.ensures Quiet (write-quiet _ c.if-w-ne0.true) (λ _. silent.1)
     (does_as (sym (quiet-ends k (view ws) (view-bounded ws).entries_fit)) (does-nothing _ _ _))
 
 serve-and-ring-requires : tie.Need-serve_and_ring-requires
 serve-and-ring-requires c κs =
-    let own = c in
-    let start = own in
-    let a = own.add_record-count.ensures in
-    omega (arith, start.requires.1, a.counts, adds-length a (omega (arith, start.requires.1, a.counts)))
+    let a = c.add_record-count.ensures in
+    omega (arith, c.requires.1, a.counts, adds-length a (omega (arith, c.requires.1, a.counts)))
 
 returns-3 : tie.Need-returns-then-may_ring
 returns-3 c =
-    let rung = c in
-    let rings = rung in
-    let outside = rings in
-    let own = outside in
-    let carried = own in
-    let test = carried in
-    let start = test in
-    let m = view carried.write-own.new.space in
+    let m = view c.write-own.new.space in
     let lasts =
-    and_right (not (eqb (length m.registrations) 0)) (not (eqb start.args.w.lease 0))
-    (sym rings.may_ring.ensures ∙ rings.if-may_ring.true) in
-    stepped-written start.requires.1 start.requires.0 (sym test.write_refusal-n.ensures ∙ test.if-n-ne0.false)
-    outside.if-w-ne0.false (eqb-false _ 0 (not-true (eqb start.args.w.lease 0) lasts)) carried.write-own.result.from
-    carried.write-own.ensures own.add_record-count.ensures rung.mark_of-fields.ensures
-    rung.serve_and_ring.ensures
+    and_right (not (eqb (length m.registrations) 0)) (not (eqb c.args.w.lease 0))
+    (sym c.may_ring.ensures ∙ c.if-may_ring.true) in
+    stepped-written c.requires.1 c.requires.0 (sym c.write_refusal-n.ensures ∙ c.if-n-ne0.false)
+    c.if-w-ne0.false (eqb-false _ 0 (not-true (eqb c.args.w.lease 0) lasts)) c.write-own.result.from
+    c.write-own.ensures c.add_record-count.ensures c.mark_of-fields.ensures
+    c.serve_and_ring.ensures
 
 returns-4 : tie.Need-returns
 unfolding own_part write_frame
 returns-4 c =
-    let served = c in
-    let rings = served in
-    let outside = rings in
-    let own = outside in
-    let carried = own in
-    let test = carried in
-    let start = test in
-    let done = carried.write-own.ensures.0 in
-    let none = sym rings.may_ring.ensures ∙ rings.if-may_ring.false in
+    let done = c.write-own.ensures.0 in
+    let none = sym c.may_ring.ensures ∙ c.if-may_ring.false in
     let silent =
-    silent_write (view start.args.space.now) start.args.w
-    (ap (λ (m : Model). not (eqb (length m.registrations) 0) && not (eqb start.args.w.lease 0))
+    silent_write (view c.args.space.now) c.args.w
+    (ap (λ (m : Model). not (eqb (length m.registrations) 0) && not (eqb c.args.w.lease 0))
     (sym done.model) ∙ none) in
-    stepped-done start.requires.1 start.requires.0 _ (sym test.write_refusal-n.ensures ∙ test.if-n-ne0.false)
-    (λ _. record { model = done.model ∙ silent.0; own = done.own }, carried.write-own.ensures.1)
-    own.add_record-count.ensures _ (write-serves _ outside.if-w-ne0.false) (λ _. silent.1)
-    (does_as (sym (service-ends _ _)) served.serve.ensures)
+    stepped-done c.requires.1 c.requires.0 _ (sym c.write_refusal-n.ensures ∙ c.if-n-ne0.false)
+    (λ _. record { model = done.model ∙ silent.0; own = done.own }, c.write-own.ensures.1)
+    c.add_record-count.ensures _ (write-serves _ c.if-w-ne0.false) (λ _. silent.1)
+    (does_as (sym (service-ends _ _)) c.serve.ensures)
 
 pub take_write_spec : {M : Type 1} → statement M
 take_write_spec =

@@ -10,10 +10,9 @@ end-of-requires c κs = rw c.clock.ensures c.requires
 returns : tie.Need-returns
 unfolding new_entry
 returns c =
-    let mark = c in
-    let ended = mark in (
-      rw (c.next_entry.ensures, mark.mark_of-fields.ensures, ended.end_of-end.ensures.0, ended.clock.ensures),
-      ended.end_of-end.ensures.1,
+    (
+      rw (c.next_entry.ensures, c.mark_of-fields.ensures, c.end_of-end.ensures.0, c.clock.ensures),
+      c.end_of-end.ensures.1,
     )
 
 pub new_entry_spec : {M : Type 1} → statement M

@@ -21,8 +21,7 @@ use Rattle.step.proofs.write.write.Tie as tie
 
 new-entry-requires : tie.Need-new_entry-e-requires
 new-entry-requires c κs =
-    let start = c in
-    write_in_time (view start.args.space.now) start.args.w start.requires
+    write_in_time (view c.args.space.now) c.args.w c.requires
 
 -- its number is the next, and the record's
 numbered : (c : tie.After-new_entry-e)
@@ -39,19 +38,16 @@ told c =
 
 add-set-next-entry : tie.Need-overflow_add-e
 add-set-next-entry c =
-    let made = c in
-    let start = made in
-    let low = write-number (view start.args.space.now) start.args.w start.requires in
-    record { fits = omega (arith, numbered made.before.before.before.before, low) }
+    let low = write-number (view c.args.space.now) c.args.w c.requires in
+    record { fits = omega (arith, numbered c.before.before.before.before, low) }
 
 -- and is used up
 counted : (c : tie.After-set_next_entry)
     → let m = view c.args.space.now in
     view c.set_next_entry.new.space ≡ with_next_entry (m.next_entry + 1) m
 counted c =
-    let made = c in
     c.set_next_entry.ensures
-    ∙ ap (λ n. with_next_entry (n + 1) (view made.args.space.now)) (numbered made.before.before.before.before.before)
+    ∙ ap (λ n. with_next_entry (n + 1) (view c.args.space.now)) (numbered c.before.before.before.before.before)
 
 -- the entries so far stay as they are
 before : (c : tie.After-entry_count-from) (es : List Entry) → let n = c.entry_count-from.result in
@@ -65,33 +61,27 @@ before c es =
 returns : tie.Need-returns-then-w-eq0
 unfolding write stored
 returns c =
-    let set = c in
-    let n = set.entry_count-from.result in (
-      record { model = rw (eq-eqb _ _ c.if-w-eq0.true) (counted set.before.before); own = told set.before.before.before.before.before },
-      ap (λ (m : Model). take n m.entries) (counted set.before.before),
+    let n = c.entry_count-from.result in (
+      record { model = rw (eq-eqb _ _ c.if-w-eq0.true) (counted c.before.before); own = told c.before.before.before.before.before },
+      ap (λ (m : Model). take n m.entries) (counted c.before.before),
     )
 
 add-entry-requires : tie.Need-add_entry-requires
 add-entry-requires c κs =
-    let set = c in
-    let made = set in
-    let start = made in
-    let room = write-room (view start.args.space.now) start.args.w start.requires c.if-w-eq0.false in
-    (omega (arith, room, ap (λ (m : Model). length m.entries) (counted set.before.before.before)), made.new_entry-e.ensures.1)
+    let room = write-room (view c.args.space.now) c.args.w c.requires c.if-w-eq0.false in
+    (omega (arith, room, ap (λ (m : Model). length m.entries) (counted c.before.before.before)), c.new_entry-e.ensures.1)
 
 returns-2 : tie.Need-returns
 unfolding write stored
 returns-2 c =
-    let set = c in
-    let e = set.new_entry-e in
-    let start = set in
+    let e = c.new_entry-e in
     let added : Model → Entry → Model = λ x e. with_entries (x.entries ++ (e ∷ [])) x in
-    let model = c.add_entry.ensures ∙ ap₂ added (counted set.before.before.before.before) e.ensures.0 in (
+    let model = c.add_entry.ensures ∙ ap₂ added (counted c.before.before.before.before) e.ensures.0 in (
       record {
         model = rw (ne_eqb _ _ c.if-w-eq0.false) model;
-        own = told set.before.before.before.before.before.before.before;
+        own = told c.before.before.before.before.before.before.before;
       },
-      ap (λ (m : Model). take start.entry_count-from.result m.entries) model ∙ before start.before.before.before.before.before.before.before.before.before.before _,
+      ap (λ (m : Model). take c.entry_count-from.result m.entries) model ∙ before c.before.before.before.before.before.before.before.before.before.before _,
     )
 
 pub write_spec : {M : Type 1} → statement M

@@ -28,16 +28,14 @@ pair-at-requires c κs =
 
 returns : tie.Need-returns-then-is_misplaced invariant-loop decreases-loop
 returns c =
-    let pair = c in
-    let l = pair.loop-i in
-    sym (out_of_place l.invariant.0 (omega (arith, l.invariant.2)) pair.pair_at-pair.ensures l.invariant.1
+    let l = c.loop-i in
+    sym (out_of_place l.invariant.0 (omega (arith, l.invariant.2)) c.pair_at-pair.ensures l.invariant.1
     (sym c.is_misplaced.ensures ∙ c.if-is_misplaced.true))
 
 loop-again : tie.Need-loop-i-preserved invariant-loop decreases-loop
 loop-again c =
-    let pair = c in
-    let l = pair.loop-i in (
-      judging_more l.invariant.0 (omega (arith, l.invariant.2)) pair.pair_at-pair.ensures l.invariant.1
+    let l = c.loop-i in (
+      judging_more l.invariant.0 (omega (arith, l.invariant.2)) c.pair_at-pair.ensures l.invariant.1
           (sym c.is_misplaced.ensures ∙ c.if-is_misplaced.false),
       l.invariant.1,
       l.invariant.2,

@@ -18,8 +18,7 @@ by_pairs : (c : tie.After-has_bad_pairs)
     → cond c.has_bad_pairs.result pairs_refused 0 ≡ tray_refusal c.args.tray.now
 unfolding tray_refusal
 by_pairs c =
-    let test = c in
-    rw (sym test.is_bad_tray.ensures ∙ test.if-is_bad_tray.false, c.has_bad_pairs.ensures)
+    rw (sym c.is_bad_tray.ensures ∙ c.if-is_bad_tray.false, c.has_bad_pairs.ensures)
 
 returns-2 : tie.Need-returns-then-has_bad_pairs
 returns-2 c = rw c.if-has_bad_pairs.true at (by_pairs c.before)

@@ -26,10 +26,8 @@ decreases-loop tray answers₀ count space₀ hints₀ frames₀ records₀ answ
 
 loop-holds : tie.Need-loop-frames-init invariant-loop decreases-loop
 loop-holds c =
-    let counted = c in
-    let start = counted in
-    let few = few-frames _ (passes start.args.tray.now start.requires).0 in
-    let count = counted.pair_count-count.ensures in (
+    let few = few-frames _ (passes c.args.tray.now c.requires).0 in
+    let count = c.pair_count-count.ensures in (
       running_none c.set_empty.ensures.0 c.know_empty.ensures,
       count,
       omega
@@ -43,25 +41,20 @@ packed-requires c κs = omega (arith, c.loop-frames.invariant.0.few)
 
 returns : tie.Need-returns-then-answers-at invariant-loop decreases-loop
 returns c =
-    let loop = c in
-    let i = loop.loop-frames.invariant in
-    tray_stops _ loop.requires i.0 (omega (arith, i))
+    let i = c.loop-frames.invariant in
+    tray_stops _ c.requires i.0 (omega (arith, i))
     (omega (arith, i, c.if-answers-at.true)) c.packed.ensures
 
 pair-at-requires : tie.Need-pair_at-pair-requires invariant-loop decreases-loop
 pair-at-requires c κs =
-    let loop = c in
-    let start = loop in
-    pair_there _ _ (passes start.args.tray.now start.requires).0 (omega (arith, loop.loop-frames.invariant.1))
+    pair_there _ _ (passes c.args.tray.now c.requires).0 (omega (arith, c.loop-frames.invariant.1))
 
 part_step_hinted_end : tie.Need-slice_bounds-step_hinted-end invariant-loop decreases-loop
 part_step_hinted_end c =
     let pair = c.pair_at-pair.ensures in
-    let loop = c in
-    let start = c in
     omega (
       arith,
-      frame_in start.args.tray.now start.requires loop.loop-frames.frames (omega arith),
+      frame_in c.args.tray.now c.requires c.loop-frames.frames (omega arith),
       pair.begins,
       pair.ends,
     )
@@ -72,13 +65,11 @@ step-hinted-requires c κs = c.loop-frames.invariant.0.reliable
 loop-again : tie.Need-loop-frames-preserved invariant-loop decreases-loop
 loop-again c =
     let step = c.step_hinted-answer in
-    let pair = c in
-    let loop = pair in
-    let l = loop.loop-frames in
-    let a = loop.args in
+    let l = c.loop-frames in
+    let a = c.args in
     let at = record_size * l.records in
     let more =
-    running_more l.invariant.0 (omega arith) (omega arith) (part_is_frame a.tray.now pair.pair_at-pair.ensures)
+    running_more l.invariant.0 (omega arith) (omega arith) (part_is_frame a.tray.now c.pair_at-pair.ensures)
     (part_from l.answers at) step.ensures.0 step.ensures.1
     (part_put l.answers step.new.answers at) in
     (more, l.invariant.1, l.invariant.2, omega arith, running_length more)
@@ -88,9 +79,8 @@ packed-requires-2 c κs = omega (arith, c.loop-frames.invariant.0.few)
 
 returns-2 : tie.Need-returns invariant-loop decreases-loop
 returns-2 c =
-    let loop = c in
-    let i = loop.loop-frames.invariant in
-    tray_done _ loop.requires i.0 (omega (arith, i))
+    let i = c.loop-frames.invariant in
+    tray_done _ c.requires i.0 (omega (arith, i))
     c.packed-2.ensures
 
 pub run_frames_spec : {M : Type 1} → statement M

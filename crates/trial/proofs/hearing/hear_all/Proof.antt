@@ -17,8 +17,7 @@ decreases-loop setup area count heard₀ i₀ heard i = count - i
 loop-holds : tie.Need-loop-i-init invariant-loop decreases-loop
 unfolding follows
 loop-holds c =
-    let start = c in
-    (record { each = λ i h. refl }, λ i h. omega (arith, start.requires.2 i h), omega arith)
+    (record { each = λ i h. refl }, λ i h. omega (arith, c.requires.2 i h), omega arith)
 
 hear-record-requires : tie.Need-hear_record-next-requires invariant-loop decreases-loop
 hear-record-requires c κs =

@@ -17,22 +17,18 @@ returns-2 c = each_same _ (λ i h e. omega (arith, c.if-pane_count-party.true, c
 
 hear-requires : tie.Need-hear-requires
 hear-requires c κs =
-    let panes = c in
-    let start = panes in
-    let i = start.args.a.party - 1 in
-    let there : i < pane_count start.args.setup.now =
-    omega (arith, c.if-pane_count-party.false, panes.pane_count.ensures.0, panes.if-party-eq0.false) in
-    omega (arith, start.requires.1 i there)
+    let i = c.args.a.party - 1 in
+    let there : i < pane_count c.args.setup.now =
+    omega (arith, c.if-pane_count-party.false, c.pane_count.ensures.0, c.if-party-eq0.false) in
+    omega (arith, c.requires.1 i there)
 
 returns-3 : tie.Need-returns
 returns-3 c =
-    let panes = c in
-    let start = panes in
-    let a = start.args in
-    let four = start.well_formed.1.0.1.0.1 in
+    let a = c.args in
+    let four = c.well_formed.1.0.1.0.1 in
     each_set _ (a.a.party - 1)
-    (omega (arith, four, c.if-pane_count-party.false, panes.pane_count.ensures.0, start.requires.0.few))
-    (omega (arith, panes.if-party-eq0.false))
+    (omega (arith, four, c.if-pane_count-party.false, c.pane_count.ensures.0, c.requires.0.few))
+    (omega (arith, c.if-party-eq0.false))
     (c.hear.ensures ∙ ap (λ p. heard_by p a.a (at a.panes (a.a.party - 1))) c.pane_at.ensures)
 
 pub hear_record_spec : {M : Type 1} → statement M

@@ -7,9 +7,7 @@ use Rattle.trial.proofs.hearing.hold_all.Tie as tie
 
 returns : tie.Need-returns
 returns c =
-    let second = c in
-    let first = second in
-    four_by held_by first.args.panes first.hold.ensures second.hold-2.ensures
+    four_by held_by c.args.panes c.hold.ensures c.hold-2.ensures
     c.hold-3.ensures c.hold-4.ensures
 
 pub hold_all_spec : {M : Type 1} → statement M

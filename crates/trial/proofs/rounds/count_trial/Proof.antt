@@ -45,12 +45,11 @@ write-starting-requires c κs =
 
 run-rounds-requires : tie.Need-run_rounds-done-requires
 run-rounds-requires c κs =
-    let first = c in
-    let f = fine first.before.before.before in
-    let n = starting_count (words_of first.before.before.before) in
-    let more = 5 * rounds_in (words_of first.before.before.before) in
+    let f = fine c.before.before.before in
+    let n = starting_count (words_of c.before.before.before) in
+    let more = 5 * rounds_in (words_of c.before.before.before) in
     underway_on n more
-    (underway-first {n = n + more} f.0.formed (begun first.before.before.before) (omega (arith, f.0.formed.starting, f.1)))
+    (underway-first {n = n + more} f.0.formed (begun c.before.before.before) (omega (arith, f.0.formed.starting, f.1)))
     c.write_starting-begun.ensures (omega arith)
 
 pane-count-requires : tie.Need-pane_count-requires
@@ -64,15 +63,12 @@ put-counts-requires c κs =
 returns : tie.Need-returns
 unfolding trial
 returns c =
-    let panes = c in
-    let ran = panes.run_rounds-done in
-    let started = panes in
-    let first = started in
-    let ws = words_of first.before.before.before.before.before.before.before.before.before in
-    let old = first.args.counts.now in
-    let starting = started.write_starting-begun.ensures 0 (first_round ws) (begun first.before.before.before.before.before.before.before.before.before) in
+    let ran = c.run_rounds-done in
+    let ws = words_of c.before.before.before.before.before.before.before.before.before in
+    let old = c.args.counts.now in
+    let starting = c.write_starting-begun.ensures 0 (first_round ws) (begun c.before.before.before.before.before.before.before.before.before) in
     c.put_counts.ensures
-    ∙ ap (λ n. joined (up_to (λ i. counts_at (at ran.result i)) n) ++ drop (3 * n) old) panes.pane_count.ensures.0
+    ∙ ap (λ n. joined (up_to (λ i. counts_at (at ran.result i)) n) ++ drop (3 * n) old) c.pane_count.ensures.0
     ∙ ap (λ l. l ++ drop (3 * pane_count ws) old) (counts_are (ran.ensures _ _ starting))
 
 pub count_trial_spec : {M : Type 1} → statement M

@@ -11,19 +11,17 @@ take-turns-requires c κs = underway_on 0 4 c.requires (goes_none 0) (omega arit
 
 send-requires : tie.Need-send-requires
 send-requires c κs =
-    let turned = c in
-    let u = turned.requires in
+    let u = c.requires in
     underway_on 4 1 u
-    (goes_then 4 0 4 turned.take_turns-after.ensures (goes-held u.setup.few c.hold_all.ensures) (omega arith))
+    (goes_then 4 0 4 c.take_turns-after.ensures (goes-held u.setup.few c.hold_all.ensures) (omega arith))
     (omega arith)
 
 returns : tie.Need-returns
 unfolding round tick
 returns c =
-    let turned = c in
-    let few = turned.requires.setup.few in
+    let few = c.requires.setup.few in
     goes_then 4 1 5
-    (goes_then 4 0 4 turned.take_turns-after.ensures (goes-held few c.hold_all.ensures) (omega arith))
+    (goes_then 4 0 4 c.take_turns-after.ensures (goes-held few c.hold_all.ensures) (omega arith))
     c.send.ensures (omega arith)
 
 pub round_spec : {M : Type 1} → statement M

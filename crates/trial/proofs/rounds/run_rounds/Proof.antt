@@ -26,9 +26,8 @@ loop-holds c = (goes_none 0, omega arith, c.rounds_in-count.ensures)
 
 round-requires : tie.Need-round-next-requires invariant-loop decreases-loop
 round-requires c κs =
-    let loop = c in
-    let l = loop.loop-i in
-    underway_on (5 * l.i) 5 loop.requires l.invariant.0 (omega (arith, l.invariant.2))
+    let l = c.loop-i in
+    underway_on (5 * l.i) 5 c.requires l.invariant.0 (omega (arith, l.invariant.2))
 
 loop-again : tie.Need-loop-i-preserved invariant-loop decreases-loop
 unfolding rounds

@@ -21,16 +21,14 @@ put c = put_front (frame_of c.args.q) _ _ _ refl c.put_frame-size.ensures
 
 hear-all-requires : tie.Need-hear_all-requires
 hear-all-requires c κs =
-    let framed = c in
-    let u = framed.requires in
+    let u = c.requires in
     let few = (answered-few u.trying.sound c.step_hinted-answer.ensures.0).1 in
     (u.setup, few, room_for u.trying (omega (arith, u.left)) few)
 
 returns : tie.Need-returns
 returns c = λ k r t.
-    let framed = c in
     let stepped = c.step_hinted-answer.ensures in
-    rw (put framed.before.before.before.before.before.before.before.before.before).0 at (trying-sent t refl stepped.0 stepped.1 c.hear_all.ensures)
+    rw (put c.before.before.before.before.before.before.before.before.before).0 at (trying-sent t refl stepped.0 stepped.1 c.hear_all.ensures)
 
 pub send_spec : {M : Type 1} → statement M
 send_spec =

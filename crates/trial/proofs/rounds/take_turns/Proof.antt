@@ -57,13 +57,12 @@ loop-again c =
 returns : tie.Need-returns invariant-loop decreases-loop
 returns c =
     let l = c.loop-i in
-    let start = c in
-    let a = start.args in
+    let a = c.args in
     let ready : ℕ → Bool = λ j. is_some (next_at a.setup.now a.panes j) in
     let done : l.i ≡ pane_count a.setup.now = omega (arith, l.invariant.2) in
     λ k r t.
     let all = ap (λ n. turns (up_to ready n) 0 r) done ∙ ap (λ bs. turns bs 0 r) (sym (ready_are t)) in
-    trying_more (rw all at (l.invariant.0 k r t)) (omega (arith, done, start.requires.setup.few))
+    trying_more (rw all at (l.invariant.0 k r t)) (omega (arith, done, c.requires.setup.few))
 
 pub take_turns_spec : {M : Type 1} → statement M
 take_turns_spec =

@@ -11,21 +11,16 @@ returns c = λ k r t. rw c.if-not-ready.true (trying_more t (omega arith))
 
 returns-2 : tie.Need-returns-in-Sends
 returns-2 c = λ k r t.
-    let told = c in
-    let next = told in
-    let start = next in
     rw (
-      next.if-not-ready.false,
-      turn_sends t start.args.i start.requires.1 next.next_at-next.ensures told.in-Sends.is,
+      c.if-not-ready.false,
+      turn_sends t c.args.i c.requires.1 c.next_at-next.ensures c.in-Sends.is,
     ) (c.send.ensures k r t)
 
 returns-3 : tie.Need-returns-in-Rests
 returns-3 c = λ k r t.
-    let next = c in
-    let start = next in
     rw (
-      next.if-not-ready.false,
-      turn_rests t start.args.i start.requires.1 next.next_at-next.ensures c.in-Rests.is,
+      c.if-not-ready.false,
+      turn_rests t c.args.i c.requires.1 c.next_at-next.ensures c.in-Rests.is,
     ) (trying_more t (omega arith))
 
 pub turn_spec : {M : Type 1} → statement M

@@ -30,20 +30,17 @@ loop-holds c = (goes_none 0, omega arith, c.starting_count-count.ensures.0)
 
 starting-write-requires : tie.Need-starting_write-requires invariant-loop decreases-loop
 starting-write-requires c κs =
-    let start = c in
-    omega (arith, c.loop-i.invariant.2, start.requires.setup.size)
+    omega (arith, c.loop-i.invariant.2, c.requires.setup.size)
 
 send-requires : tie.Need-send-next-requires invariant-loop decreases-loop
 send-requires c κs =
-    let loop = c in
-    let l = loop.loop-i in
-    underway_on l.i 1 loop.requires l.invariant.0 (omega (arith, l.invariant.2))
+    let l = c.loop-i in
+    underway_on l.i 1 c.requires l.invariant.0 (omega (arith, l.invariant.2))
 
 loop-again : tie.Need-loop-i-preserved invariant-loop decreases-loop
 loop-again c =
-    let loop = c in
-    let l = loop.loop-i in
-    let frames = starting_frame loop.args.setup.now in (
+    let l = c.loop-i in
+    let frames = starting_frame c.args.setup.now in (
       goes_as (l.i + 1)
           (λ r. ap (λ bs. send bs (send_all (up_to frames l.i) r)) c.starting_write.ensures
           ∙ sym (sends_more frames l.i r))

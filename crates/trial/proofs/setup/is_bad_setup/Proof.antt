@@ -12,8 +12,7 @@ returns c = simp (lt-ltb _ _ c.if-setup-lt-HEAD.true)
 returns-2 : tie.Need-returns
 unfolding bad_setup
 returns-2 c =
-    let panes = c in
-    rw (le-ltb _ _ panes.if-setup-lt-HEAD.false, panes.pane_count-panes.ensures.0, c.starting_count-starting.ensures.0)
+    rw (le-ltb _ _ c.if-setup-lt-HEAD.false, c.pane_count-panes.ensures.0, c.starting_count-starting.ensures.0)
 
 pub is_bad_setup_spec : {M : Type 1} → statement M
 is_bad_setup_spec =

@@ -23,8 +23,7 @@ by_rounds : (c : tie.After-rounds_in)
     cond (ltb 1000 c.rounds_in.result) rounds_refused 0 ≡ setup_refusal a.setup.now a.room
 unfolding setup_refusal
 by_rounds c =
-    let test = c in
-    rw (sym test.is_bad_setup.ensures ∙ test.if-is_bad_setup.false, c.rounds_in.ensures)
+    rw (sym c.is_bad_setup.ensures ∙ c.if-is_bad_setup.false, c.rounds_in.ensures)
 
 returns-2 : tie.Need-returns-then-rounds_in-gt-MAX_ROUNDS
 returns-2 c = rw (lt-ltb _ _ c.if-rounds_in-gt-MAX_ROUNDS.true) at (by_rounds c.before)

@@ -16,18 +16,17 @@ room s = omega (arith, length-entries s.args.space.now, s.requires.0)
 returns : tie.Need-returns
 unfolding view entries
 returns c =
-    let s = c in
     let n = c.entry_count-n in
     view-entries _ _
-    (appended entry_table s.args.space.now n.result (entry_words s.args.e) refl (omega (arith, room s.before.before.before.before.before))
+    (appended entry_table c.args.space.now n.result (entry_words c.args.e) refl (omega (arith, room c.before.before.before.before.before))
     (omega (arith, n.ensures.1))
     n.ensures.0
-    (entry_back s.args.e
+    (entry_back c.args.e
     (record {
-      readers-fit = omega (arith, s.well_formed);
-      blanks-fit = omega (arith, s.well_formed);
-      writer_fits = omega (arith, s.well_formed);
-      end_fits = s.requires.1;
+      readers-fit = omega (arith, c.well_formed);
+      blanks-fit = omega (arith, c.well_formed);
+      writer_fits = omega (arith, c.well_formed);
+      end_fits = c.requires.1;
     }))
     c.put_entry.ensures c.set_entry_count.ensures)
 

@@ -16,18 +16,17 @@ room s = omega (arith, length-registrations s.args.space.now, s.requires.0)
 returns : tie.Need-returns
 unfolding view registrations
 returns c =
-    let s = c in
     let n = c.registration_count-n in
     view-registrations _ _
-    (appended registration_table s.args.space.now n.result (registration_words s.args.g) refl
-    (omega (arith, room s.before.before.before.before.before))
+    (appended registration_table c.args.space.now n.result (registration_words c.args.g) refl
+    (omega (arith, room c.before.before.before.before.before))
     (omega (arith, n.ensures.1))
     n.ensures.0
-    (registration_back s.args.g
+    (registration_back c.args.g
     (record {
-      party-fits = omega (arith, s.well_formed);
-      mask_fits = omega (arith, s.well_formed);
-      end_fits = s.requires.1;
+      party-fits = omega (arith, c.well_formed);
+      mask_fits = omega (arith, c.well_formed);
+      end_fits = c.requires.1;
     }))
     c.put_registration.ensures c.set_registration_count.ensures)
 

@@ -16,18 +16,16 @@ room s = omega (arith, length-txns s.args.space.now, s.requires.0)
 returns : tie.Need-returns
 unfolding view txns
 returns c =
-    let b = c in
-    let n = b.txn_count-n in
-    let s = b in
+    let n = c.txn_count-n in
     view-txns _ _
-    (appended txn_table s.args.space.now n.result (txn_words s.args.t) refl (omega (arith, room s.before.before.before.before.before.before.before.before.before))
+    (appended txn_table c.args.space.now n.result (txn_words c.args.t) refl (omega (arith, room c.before.before.before.before.before.before.before.before.before))
     (omega (arith, n.ensures.1))
-    n.ensures.0 (txn_back s.args.t (record {
-      party-fits = omega (arith, s.well_formed);
-      slot-fits = s.requires.1;
-      end_fits = s.requires.2;
+    n.ensures.0 (txn_back c.args.t (record {
+      party-fits = omega (arith, c.well_formed);
+      slot-fits = c.requires.1;
+      end_fits = c.requires.2;
     }))
-    (c.put_words.ensures ∙ rw b.until_word-end.ensures) c.set_txn_count.ensures)
+    (c.put_words.ensures ∙ rw c.until_word-end.ensures) c.set_txn_count.ensures)
 
 pub add_txn_spec : {M : Type 1} → statement M
 add_txn_spec =

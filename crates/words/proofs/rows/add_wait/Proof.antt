@@ -14,20 +14,18 @@ use Rattle.words.proofs.rows.add_wait.Tie as tie
 returns : tie.Need-returns
 unfolding view waits
 returns c free =
-    let b = c in
-    let n = b.wait_count-row in
-    let s = b in
-    let ws = s.args.space.now in
+    let n = c.wait_count-row in
+    let ws = c.args.space.now in
     let row : n.result % max_waits ≡ n.result = mod-eq_of_lt (omega (arith, n.ensures.0, length-waits ws)) in
     view-waits _ _
-    (appended wait_table ws n.result (wait_words s.args.w) refl (omega (arith, n.ensures.0, length-waits ws))
+    (appended wait_table ws n.result (wait_words c.args.w) refl (omega (arith, n.ensures.0, length-waits ws))
     (omega (arith, n.ensures.1))
-    n.ensures.0 (wait_back s.args.w (record {
-      party-fits = omega (arith, s.well_formed);
-      mask_fits = omega (arith, s.well_formed);
-      deadline_fits = s.requires;
+    n.ensures.0 (wait_back c.args.w (record {
+      party-fits = omega (arith, c.well_formed);
+      mask_fits = omega (arith, c.well_formed);
+      deadline_fits = c.requires;
     }))
-    (c.put_words.ensures ∙ rw (b.op_word-op.ensures, b.until_word-end.ensures, row))
+    (c.put_words.ensures ∙ rw (c.op_word-op.ensures, c.until_word-end.ensures, row))
     (c.set_wait_count.ensures ∙ rw row))
 
 pub add_wait_spec : {M : Type 1} → statement M

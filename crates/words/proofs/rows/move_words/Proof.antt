@@ -16,20 +16,18 @@ decreases-loop space₀ f t n k₀ space k = n - k
 
 returns : tie.Need-returns-then-f-t invariant-loop decreases-loop
 returns c =
-    let s = c in
-    let a = s.args in
+    let a = c.args in
     let long = c.whole.ensures in
     sym (ap (λ t. move_words a.space.now a.f t a.n) (sym c.if-f-t.true)
-    ∙ move_same a.space.now a.f a.n (omega (arith, s.requires.0, long)))
+    ∙ move_same a.space.now a.f a.n (omega (arith, c.requires.0, long)))
 
 loop-again : tie.Need-loop-k-preserved invariant-loop decreases-loop
 loop-again c =
-    let s = c in
     let l = c.loop-k in
     let long = c.whole.ensures in (
       omega arith,
       rw (l.invariant.1, add-one l.k)
-          (move_more _ _ _ s.args.n l.k s.requires.1 (omega (arith, s.requires.0, long)) (omega arith)),
+          (move_more _ _ _ c.args.n l.k c.requires.1 (omega (arith, c.requires.0, long)) (omega arith)),
     )
 
 returns-2 : tie.Need-returns invariant-loop decreases-loop

@@ -13,18 +13,16 @@ use Rattle.words.proofs.rows.remove_entry.Tie as tie
 returns : tie.Need-returns
 unfolding view entries
 returns c =
-    let n = c in
-    let s = n in
-    let ws = s.args.space.now in
-    let i = s.args.i in
-    let count = n.entry_count-count.result in
-    let ends = n.entry_count-count.ensures in
+    let ws = c.args.space.now in
+    let i = c.args.i in
+    let count = c.entry_count-count.result in
+    let ends = c.entry_count-count.ensures in
     let row : entries_at + entry_width * i + entry_width ≡ entries_at + entry_width * suc i = omega arith in
     let rest : entry_width * (count - i - 1) ≡ entry_width * (count - suc i) = omega arith in
     let move =
     c.move_words.ensures ∙ ap₂ (λ f k. move_words ws f (entries_at + entry_width * i) k) row rest in
     let turned =
-    removed entry_table ws i count ends.0 (omega (arith, ends.0, s.requires)) (omega (arith, ends.1)) move
+    removed entry_table ws i count ends.0 (omega (arith, ends.0, c.requires)) (omega (arith, ends.1)) move
     c.set_entry_count.ensures in
     (view-entries _ ws turned, turned.but.long ∙ ends.1)
 

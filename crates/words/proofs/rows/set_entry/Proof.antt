@@ -13,22 +13,21 @@ use Rattle.words.proofs.rows.set_entry.Tie as tie
 returns : tie.Need-returns
 unfolding view entries
 returns c =
-    let s = c in
-    let ws = s.args.space.now in
-    let e = s.args.e in
+    let ws = c.args.space.now in
+    let e = c.args.e in
     let long = c.whole.ensures in
     let back =
     entry_back e
     (record {
-      readers-fit = omega (arith, s.well_formed);
-      blanks-fit = omega (arith, s.well_formed);
-      writer_fits = omega (arith, s.well_formed);
-      end_fits = s.requires.1;
+      readers-fit = omega (arith, c.well_formed);
+      blanks-fit = omega (arith, c.well_formed);
+      writer_fits = omega (arith, c.well_formed);
+      end_fits = c.requires.1;
     }) in
-    let turned = put entry_table ws s.args.i (entry_words e) refl (omega (arith, s.requires)) (omega (arith, long)) in (
+    let turned = put entry_table ws c.args.i (entry_words e) refl (omega (arith, c.requires)) (omega (arith, long)) in (
       ap view c.put_entry.ensures
           ∙ view-entries _ ws turned
-          ∙ ap (λ x. with_entries (set (view ws).entries s.args.i x) (view ws)) back,
+          ∙ ap (λ x. with_entries (set (view ws).entries c.args.i x) (view ws)) back,
       ap length c.put_entry.ensures ∙ turned.but.long ∙ long,
     )
 

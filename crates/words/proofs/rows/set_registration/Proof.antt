@@ -13,22 +13,21 @@ use Rattle.words.proofs.rows.set_registration.Statement.{statement}
 returns : tie.Need-returns
 unfolding view registrations
 returns c =
-    let s = c in
-    let ws = s.args.space.now in
-    let e = s.args.g in
+    let ws = c.args.space.now in
+    let e = c.args.g in
     let long = c.whole.ensures in
     let back =
     registration_back e
     (record {
-      party-fits = omega (arith, s.well_formed);
-      mask_fits = omega (arith, s.well_formed);
-      end_fits = s.requires.1;
+      party-fits = omega (arith, c.well_formed);
+      mask_fits = omega (arith, c.well_formed);
+      end_fits = c.requires.1;
     }) in
-    let turned = put registration_table ws s.args.i (registration_words e) refl (omega (arith, s.requires))
+    let turned = put registration_table ws c.args.i (registration_words e) refl (omega (arith, c.requires))
     (omega (arith, long)) in (
       ap view c.put_registration.ensures
           ∙ view-registrations _ ws turned
-          ∙ ap (λ x. with_registrations (set (view ws).registrations s.args.i x) (view ws)) back,
+          ∙ ap (λ x. with_registrations (set (view ws).registrations c.args.i x) (view ws)) back,
       ap length c.put_registration.ensures ∙ turned.but.long ∙ long,
     )
 

@@ -9,9 +9,8 @@ use Rattle.words.proofs.rows.wait_at.Tie as tie
 returns : tie.Need-returns
 unfolding wait_of
 returns c =
-    let b = c in
-    let takes = b.is_take-takes.ensures in
-    rw (takes, b.is_if_exists-if_exists.ensures, b.until_of-deadline.ensures)
+    let takes = c.is_take-takes.ensures in
+    rw (takes, c.is_if_exists-if_exists.ensures, c.until_of-deadline.ensures)
     (ap wait_of (lent_row waits_at wait_width _ _))
 
 pub wait_at_spec : {M : Type 1} → statement M
