@@ -1,7 +1,7 @@
 -- The search for the next row to look at, and for an entry by it.
 use Prim.Native.Nat.{ℕ, zero, suc, ◌+◌, ◌≤◌, ◌<◌}
 use mathlib.Core.Bool.{Bool, true, false, and-false}
-use mathlib.Core.Path.{◌≡◌, refl, sym, ap, ◌∙◌}
+use mathlib.Core.Path.{◌≡◌, refl, sym, ap, ◌∙◌, subst}
 use mathlib.Core.List.{List}
 use native.Mathlib.Omega.{arith}
 use native.Mathlib.Decide.{dec_lt}
@@ -14,10 +14,13 @@ use Rattle.rules.specs.declared.Mark.{Mark}
 use Rattle.rules.specs.declared.Txn.{Txn}
 use Rattle.rules.specs.Holds.{available, conflicts}
 use Rattle.rules.specs.Template.{bit, bare, agrees, asked_equal, matches}
+use Rattle.rules.specs.Words.{entry_count}
 use Rattle.words.specs.Rows.{field_at, entry_row}
 use Rattle.words.proofs.SearchLaws.{Searching, search_more, SearchingFrom}
 use Rattle.available.specs.declared.find.Asked.{Asked}
-use Rattle.available.specs.Find.{Asks, has_field, Passes, PassesAsked}
+use Rattle.available.specs.declared.find.Match.{Match}
+use Rattle.available.specs.declared.find.Match.TheVariants.{At}
+use Rattle.available.specs.Find.{Asks, InRow, has_field, Passes, PassesAsked}
 
 module _ {q : Entry → Bool} {ws : List ℕ} {k : ℕ} where
   pub passes_none : {i : ℕ} → i ≡ k → Passes q ws k i
@@ -100,3 +103,8 @@ pub only_conflicting : (ts : List Txn) (w : LookUp) (e : Entry) → matches w.ma
     → conflicts ts w e ≡ false
 unfolding conflicts
 only_conflicting ts w e h = rw h
+
+-- an entry that is found stands in its row
+pub in_row : (ws : List ℕ) (e : Entry) (i : ℕ) {m : Match} → m ≡ At e i → InRow ws m
+    → (i < entry_count ws) × (e ≡ entry_row ws i)
+in_row ws e i is h = subst (InRow ws) is h

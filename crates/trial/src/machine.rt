@@ -99,6 +99,7 @@ fn refused_in(stage: Stage) -> Stage
 }
 
 // After a record to it.
+#[tactic(auto, unfolding(crate::specs::Panes::hears))]
 pub(crate) fn hears(pane: Pane, a: Record, stage: Stage) -> Stage
     ensures { result ≡ hears pane a stage }
 {

@@ -15,10 +15,6 @@ use Rattle.holds.proofs.HandLaws.{handed_removed, handed-marked, handed_unmarked
 use Rattle.holds.proofs.hand.hand_out.Statement.{statement}
 use Rattle.holds.proofs.hand.hand_out.Tie as tie
 
--- it stands in its row
-found : (s : tie.Start) → let a = s.args in get_or (view a.space.now).entries a.row a.e ≡ a.e
-found s = entry_in s.args.space.now s.args.row s.args.e s.requires.0 ∙ sym s.requires.1
-
 returns : tie.Need-returns-then-is_removed
 unfolding removes
 returns c =
@@ -50,7 +46,7 @@ returns-3 c =
     let u = sym c.is_marked.ensures ∙ c.if-is_marked.false in
     let z = eqb-true p no_slot (not-false (eqb p no_slot) (or_right a.w.takes no u)) in
     let t = sym c.is_removed.ensures ∙ c.if-is_removed.false in (
-      handed_unmarked a.space.now a.w p c.slot_of-p.ensures.0 a.e t a.row (found c.before.before.before.before.before.before.before.before) z
+      handed_unmarked a.space.now a.w p c.slot_of-p.ensures.0 a.e t a.row (entry_in a.space.now a.row a.e c.requires.0 ∙ sym c.requires.1) z
           (or_left a.w.takes no u),
       c.whole.ensures,
     )

@@ -12,13 +12,6 @@ use Rattle.trial.proofs.TryingLaws.{answered-few, room_for, trying-sent}
 use Rattle.trial.proofs.rounds.send.Statement.{statement}
 use Rattle.trial.proofs.rounds.send.Tie as tie
 
--- the frame stands in front of its 28 bytes
-put : (c : tie.After-put_frame-size)
-    → let n = c.put_frame-size.result in
-    let bytes = c.put_frame-size.new.out in
-    (take n bytes ≡ frame_bytes (frame_of c.args.q)) × (n ≤ length bytes)
-put c = put_front (frame_of c.args.q) _ _ _ refl c.put_frame-size.ensures
-
 hear-all-requires : tie.Need-hear_all-requires
 hear-all-requires c κs =
     let u = c.requires in
@@ -28,12 +21,15 @@ hear-all-requires c κs =
 returns : tie.Need-returns
 returns c = λ k r t.
     let stepped = c.step_hinted-answer.ensures in
-    rw (put c.before.before.before.before.before.before.before.before.before).0 at (trying-sent t refl stepped.0 stepped.1 c.hear_all.ensures)
+    rw (put_front (frame_of c.args.q) _ _ _ refl c.put_frame-size.ensures).0
+    at (trying-sent t refl stepped.0 stepped.1 c.hear_all.ensures)
 
 pub send_spec : {M : Type 1} → statement M
 send_spec =
     tie.close
     (tie.spec
-    (λ c. search rules) (λ c κs. search rules) (λ c. (put c.before.before.before).1)
-    (λ c. sym (length-take-le _ _ (put c.before.before.before.before).1)) (λ c. search rules)
+    (λ c. search rules) (λ c κs. search rules)
+    (λ c. (put_front (frame_of c.args.q) _ _ _ refl c.put_frame-size.ensures).1)
+    (λ c. sym (length-take-le _ _
+    (put_front (frame_of c.args.q) _ _ _ refl c.put_frame-size.ensures).1)) (λ c. search rules)
     (λ c κs. search rules) (λ c. search rules) hear-all-requires returns)

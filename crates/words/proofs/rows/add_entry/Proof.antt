@@ -1,24 +1,19 @@
 -- `words::rows::add_entry` meets its contract. Assumes nothing.
-use Prim.Native.Nat.{◌<◌}
 use mathlib.Core.Path.{refl}
 use native.Mathlib.Omega.{arith}
 use borrow.Author.Rules.{rules}
-use Rattle.rules.specs.Numbers.{max_entries}
-use Rattle.rules.specs.Words.{view, entries, entry_words, entry_count}
+use Rattle.rules.specs.Words.{view, entries, entry_words}
 use Rattle.words.proofs.Table.{appended}
 use Rattle.words.proofs.Tables.{entry_table, view-entries, entry_back, length-entries}
 use Rattle.words.proofs.rows.add_entry.Statement.{statement}
 use Rattle.words.proofs.rows.add_entry.Tie as tie
-
-room : (s : tie.Start) → entry_count s.args.space.now < max_entries
-room s = omega (arith, length-entries s.args.space.now, s.requires.0)
 
 returns : tie.Need-returns
 unfolding view entries
 returns c =
     let n = c.entry_count-n in
     view-entries _ _
-    (appended entry_table c.args.space.now n.result (entry_words c.args.e) refl (omega (arith, room c.before.before.before.before.before))
+    (appended entry_table c.args.space.now n.result (entry_words c.args.e) refl (omega (arith, length-entries c.args.space.now, c.requires.0))
     (omega (arith, n.ensures.1))
     n.ensures.0
     (entry_back c.args.e
@@ -33,5 +28,5 @@ returns c =
 pub add_entry_spec : {M : Type 1} → statement M
 add_entry_spec =
     tie.close
-    (tie.spec (λ c κs. search rules) (λ c κs. omega (arith, room c.before.before))
-    (λ c. search rules) (λ c κs. omega (arith, room c.before.before.before.before)) returns)
+    (tie.spec (λ c κs. search rules) (λ c κs. omega (arith, length-entries c.args.space.now, c.requires.0))
+    (λ c. search rules) (λ c κs. omega (arith, length-entries c.args.space.now, c.requires.0)) returns)

@@ -1,24 +1,19 @@
 -- `words::rows::add_txn` meets its contract. Assumes nothing.
-use Prim.Native.Nat.{◌<◌}
 use mathlib.Core.Path.{refl, ◌∙◌}
 use native.Mathlib.Omega.{arith}
 use borrow.Author.Rules.{rules}
-use Rattle.rules.specs.Numbers.{max_txns}
-use Rattle.rules.specs.Words.{view, txns, txn_words, txn_count}
+use Rattle.rules.specs.Words.{view, txns, txn_words}
 use Rattle.words.proofs.Table.{appended}
 use Rattle.words.proofs.Tables.{txn_table, view-txns, txn_back, length-txns}
 use Rattle.words.proofs.rows.add_txn.Statement.{statement}
 use Rattle.words.proofs.rows.add_txn.Tie as tie
-
-room : (s : tie.Start) → txn_count s.args.space.now < max_txns
-room s = omega (arith, length-txns s.args.space.now, s.requires.0)
 
 returns : tie.Need-returns
 unfolding view txns
 returns c =
     let n = c.txn_count-n in
     view-txns _ _
-    (appended txn_table c.args.space.now n.result (txn_words c.args.t) refl (omega (arith, room c.before.before.before.before.before.before.before.before.before))
+    (appended txn_table c.args.space.now n.result (txn_words c.args.t) refl (omega (arith, length-txns c.args.space.now, c.requires.0))
     (omega (arith, n.ensures.1))
     n.ensures.0 (txn_back c.args.t (record {
       party-fits = omega (arith, c.well_formed);
@@ -32,5 +27,5 @@ add_txn_spec =
     tie.close
     (tie.spec (λ c κs. search rules) (λ c κs. search rules) (λ c. search rules) (λ c. search rules)
     (λ c. search rules) (λ c. search rules) (λ c. search rules) (λ c κs. search rules) (λ c. search rules)
-    (λ c κs. omega (arith, room c.before.before.before.before.before.before.before.before))
+    (λ c κs. omega (arith, length-txns c.args.space.now, c.requires.0))
     returns)
