@@ -13,7 +13,8 @@ use Rattle.bounds.specs.WrongBounds.{WrongBounds}
 -- a frame of party 1 with a lease or timeout, and four fields of 0
 abbrev long : ℕ → ℕ → List ℕ
 long op time =
-    (op ∷ 1 ∷ 0 ∷ 0 ∷ []) ++ four_bytes 0 ++ four_bytes time ++ four_bytes 0 ++ four_bytes 0 ++ four_bytes 0 ++ four_bytes 0
+    (op ∷ 1 ∷ 0 ∷ 0 ∷ []) ++ four_bytes 0 ++ four_bytes time ++ four_bytes 0 ++ four_bytes 0 ++ four_bytes 0
+        ++ four_bytes 0
 
 abbrev create : List ℕ
 create = (op_create ∷ 1 ∷ 0 ∷ 0 ∷ []) ++ four_bytes 0 ++ four_bytes 1
@@ -34,7 +35,8 @@ wrong_bounds =
           let few : 3 ≤ 2 = kept (long op_notify forever ∷ long op_write forever ∷ []) 1400 in omega (arith, few);
       -- the notify comes behind the write
       with_all_notifies = λ same.
-          let more : ◌≡◌ {A = ℕ} 3 2 = same (long op_write forever ∷ long op_notify forever ∷ []) in omega (arith, more);
+          let more : ◌≡◌ {A = ℕ} 3 2 = same (long op_write forever ∷ long op_notify forever ∷ []) in omega
+              (arith, more);
       -- 28 bytes for a tick; 699
       records_alone = λ enough. let stops : ◌≡◌ {A = ℕ} 1 0 = enough (tick ∷ []) in omega (arith, stops);
       a_byte_less = λ enough. let stops : ◌≡◌ {A = ℕ} 1 0 = enough (tick ∷ tick ∷ []) in omega (arith, stops);

@@ -9,9 +9,11 @@ use lib.Dec.{eqb, ltb}
 use lib.ListN.{length}
 use borrow.Author.Tests.{le-leb, eq-eqb, ne_eqb, eqb-true, eqb-false}
 use Rattle.rules.specs.declared.Fields.{Fields}
-use Rattle.rules.specs.Numbers.{op_write, op_read, op_take_if_exists, op_create, op_commit, op_abort, op_notify, length_refused}
+use Rattle.rules.specs.Numbers.{op_write, op_read, op_take_if_exists, op_create, op_commit, op_abort, op_notify}
+use Rattle.rules.specs.Numbers.{length_refused}
 use Rattle.rules.specs.Numbers.{form_refused, party_refused, place_refused}
-use Rattle.rules.specs.Frame.{Frame, frame_length, decode, byte_at, number_at, fields_at, is_operation, Layout, layout_of}
+use Rattle.rules.specs.Frame.{Frame, frame_length, decode, byte_at, number_at, fields_at, is_operation, Layout}
+use Rattle.rules.specs.Frame.{layout_of}
 use Rattle.rules.specs.Frame.{has_template, has_blanks, names_no_txn}
 use Rattle.rules.specs.Records.{no_fields, plain, record_at}
 use Rattle.rules.specs.Refusals.{no_operation, wrong_length, bad_template, bad_blanks, bad_arc, malformed, wrong_party}
@@ -191,7 +193,8 @@ module _ (bs : List ℕ) (op : ℕ) (is : (op ≡ byte_at bs 0) × (is_operation
       right-length _ (ap has_template e) h (write_form (decode bs) (sym is.0 ∙ e)
       ∙ or_assoc (not (eqb (byte_at bs 3) 0)) (ltb 15 (byte_at bs 2)) (bad_blanks (byte_at bs 2) (fields_at bs 12)))
 
-  pub plain_head : has_template op ≡ false → has_blanks op ≡ false → names_no_txn op ≡ false → length bs ≡ frame_length op
+  pub plain_head : has_template op ≡ false → has_blanks op ≡ false → names_no_txn op ≡ false → length bs
+      ≡ frame_length op
       → form_refusal bs ≡ head_refusal bs op (not (eqb (byte_at bs 2) 0))
   unfolding decode
   plain_head t b o h =

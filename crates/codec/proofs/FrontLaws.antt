@@ -50,7 +50,8 @@ pub put_fits : (r : Record) (area : List ℕ) → record_size ≤ length area
 unfolding record_put
 put_fits r area h = rw (le-ltb _ _ h)
 
-pub put_over : (r : Record) (area : List ℕ) → record_size ≤ length area → record_put r area ≡ over area 0 (record_bytes r)
+pub put_over : (r : Record) (area : List ℕ) → record_size ≤ length area → record_put r area
+    ≡ over area 0 (record_bytes r)
 put_over r area h =
     put_fits r area h
     ∙ ap (λ k. record_bytes r ++ drop k area) (sym (record_length r))

@@ -8,12 +8,14 @@ use native.Mathlib.Omega.{arith}
 use lib.Dec.{eqb, ltb}
 use lib.ListN.{length, get_or-eq_default}
 use borrow.Author.Tests.{le-leb, eq-eqb, ne_eqb, eqb-true, not-false}
-use Rattle.rules.specs.Numbers.{op_write, op_read, op_take_if_exists, op_create, op_commit, op_abort, op_tick, op_notify, op_renew}
+use Rattle.rules.specs.Numbers.{op_write, op_read, op_take_if_exists, op_create, op_commit, op_abort, op_tick}
+use Rattle.rules.specs.Numbers.{op_notify, op_renew}
 use Rattle.rules.specs.Numbers.{operation_refused}
 use Rattle.rules.specs.declared.Request.{Request}
 use Rattle.rules.specs.declared.Request.TheVariants.{Write, Find, Create, Commit, Abort, Notify, Tick}
 use Rattle.rules.specs.declared.Decoded.TheVariants.{Asks, Refused}
-use Rattle.rules.specs.Frame.{Frame, decode, byte_at, number_at, fields_at, layout_of, frame_length, has_template, names_no_txn}
+use Rattle.rules.specs.Frame.{Frame, decode, byte_at, number_at, fields_at, layout_of, frame_length, has_template}
+use Rattle.rules.specs.Frame.{names_no_txn}
 use Rattle.rules.specs.Frame.{has_blanks, Layout, layouts, is_operation, is_take, is_if_exists}
 use Rattle.rules.specs.Refusals.{form_rows, no_operation, wrong_length, highest, bad_template, bad_blanks, malformed}
 use Rattle.rules.specs.Refusals.{wrong_party}

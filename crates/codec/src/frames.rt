@@ -1,6 +1,7 @@
 // A frame's bytes, decoded into a request or one of the refusals 2 to 5 and 21.
 ghost use Rattle.std.specs.Prelude.{◌≡◌, ◌≤◌, length};
-ghost use Rattle.rules.specs.Numbers.{op_write, op_read, op_take_if_exists, op_create, op_commit, op_abort, op_tick, op_notify};
+ghost use Rattle.rules.specs.Numbers.{op_write, op_read, op_take_if_exists, op_create, op_commit, op_abort, op_tick};
+ghost use Rattle.rules.specs.Numbers.{op_notify};
 ghost use Rattle.rules.specs.Numbers.{op_renew};
 ghost use Rattle.rules.specs.Frame.{byte_at, frame_length};
 ghost use Rattle.rules.specs.Refusals.{some_filled, bad_template, bad_blanks, bad_arc};

@@ -18,7 +18,8 @@ use Rattle.rules.specs.declared.Registration.{Registration}
 use Rattle.rules.specs.Numbers.{op_write, forever}
 use Rattle.rules.specs.State.{Model, empty}
 use Rattle.rules.specs.Frame.{Frame, byte_at, number_at, decode, is_write, is_look_up}
-use Rattle.rules.specs.Records.{no_mark, plain, written, found, nothing, waiting, created, committed, aborted, exception}
+use Rattle.rules.specs.Records.{no_mark, plain, written, found, nothing, waiting, created, committed, aborted}
+use Rattle.rules.specs.Records.{exception}
 use Rattle.rules.specs.Records.{ticked, renewed, notified, rung, refused}
 use Rattle.rules.specs.Write.{new_entry, stored}
 use Rattle.rules.specs.LookUp.{look_up_of}

@@ -9,7 +9,8 @@ use lib.Dec.{leb, ltb}
 use Rattle.rules.specs.declared.Fields.{Fields}
 use Rattle.rules.specs.declared.Mark.{Mark}
 use Rattle.rules.specs.Numbers.{places}
-use Rattle.rules.specs.Places.{no_place, is_time, is_place, place_of, hour_of, minute_of, place_of_time, time_of_place, mirror_of}
+use Rattle.rules.specs.Places.{no_place, is_time, is_place, place_of, hour_of, minute_of, place_of_time, time_of_place}
+use Rattle.rules.specs.Places.{mirror_of}
 use Rattle.rules.specs.Places.{mirrored_place, in_arc, arc_of, start_of, length_of, mirror_arc}
 use Rattle.rules.specs.Template.{bit, agrees, asked_equal, asks_arc, matches}
 use Rattle.rules.proofs.BoolLaws.{and_left, and_right}

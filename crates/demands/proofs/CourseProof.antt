@@ -9,7 +9,8 @@ use Rattle.rules.specs.declared.LookUp.{LookUp}
 use Rattle.rules.specs.declared.Record.{Record}
 use Rattle.rules.specs.declared.Until.TheVariants.{Forever}
 use Rattle.rules.specs.Numbers.{op_read, op_notify, forever}
-use Rattle.rules.specs.State.{Model, empty, with_waits, with_clock, with_next_entry, with_next_txn, with_next_registration}
+use Rattle.rules.specs.State.{Model, empty, with_waits, with_clock, with_next_entry, with_next_txn}
+use Rattle.rules.specs.State.{with_next_registration}
 use Rattle.rules.specs.Frame.{byte_at, four_bytes}
 use Rattle.rules.specs.Records.{no_fields, record_bytes}
 use Rattle.rules.specs.Step.{step}

@@ -22,7 +22,8 @@ use Rattle.rules.specs.Frame.{entry_named, decode, is_create}
 use Rattle.rules.specs.Records.{refused, answer_bytes, area_after}
 use Rattle.rules.specs.Transactions.{is_private_to}
 use Rattle.rules.specs.Renew.{has_number, stored_entry}
-use Rattle.rules.specs.Refusals.{is_missing, no_entry, is_by, not_writer, is_free, not_free, party_waits, not_live, is_of}
+use Rattle.rules.specs.Refusals.{is_missing, no_entry, is_by, not_writer, is_free, not_free, party_waits, not_live}
+use Rattle.rules.specs.Refusals.{is_of}
 use Rattle.rules.specs.Refusals.{not_own, too_late, entries_full, txns_full, registrations_full, no_number, refusal}
 use Rattle.rules.specs.Step.{Outcome, step, accepted}
 use Rattle.rules.specs.Allowed.{Answered}

@@ -25,7 +25,8 @@ use Rattle.rules.specs.Transactions.{create, no_txn, is_private_to, is_taken_by,
 use Rattle.rules.specs.Renew.{renew}
 use Rattle.rules.specs.Tick.{tick, unregistered, drop_ended}
 use Rattle.rules.specs.Notify.{new_registration, notify, made_public, matching, with_total, hearing, heard_of}
-use Rattle.rules.specs.SerialRun.{was_refused, serial_run, follow_log, Kept, Run, start, follow, note_look_up, left, kept_of}
+use Rattle.rules.specs.SerialRun.{was_refused, serial_run, follow_log, Kept, Run, start, follow, note_look_up, left}
+use Rattle.rules.specs.SerialRun.{kept_of}
 use Rattle.rules.specs.SerialRun.{committed_in, numbers_of, Serial}
 use Rattle.rules.specs.Sound.{Consistent, Lasting}
 use Rattle.rules.proofs.ListLaws.{count, count-append, count_map, filter-append, filter_mem, mem_filter, mem_any}

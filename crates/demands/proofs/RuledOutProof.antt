@@ -21,7 +21,8 @@ use Rattle.rules.specs.Step.{step, carried_out}
 use Rattle.rules.specs.Allowed.{Answered}
 use Rattle.rules.specs.Template.{mark_of}
 use Rattle.rules.specs.SerialRun.{Logged, Kept, same_fields, is_kept, failed, taking, carry_out, carry_out_all, perform}
-use Rattle.rules.specs.SerialRun.{list_of, thrown_away, last_takes, advanced, follow, follow_all, was_refused, note_look_up}
+use Rattle.rules.specs.SerialRun.{list_of, thrown_away, last_takes, advanced, follow, follow_all, was_refused}
+use Rattle.rules.specs.SerialRun.{note_look_up}
 use Rattle.rules.specs.SerialRun.{follow_log, serial_run, left, committed_in, Serial, renewing}
 use Rattle.rules.specs.Sound.{Ascending}
 use Rattle.rules.proofs.ListLaws.{none_mem}
@@ -35,7 +36,8 @@ use Rattle.demands.specs.Demands.{Demand1, Demand2, Demand3}
 use Rattle.demands.specs.Frames.{E, write_by, read_by, take_by, read_if_exists_by, create_by, commit_by, abort_by}
 use Rattle.demands.specs.Frames.{F, a_tick, write_blank, read_arc, renew_by, notify_by}
 use Rattle.demands.specs.RuledOut.{says_nothing, says_waiting, refuses_all, same_record, stores_nothing}
-use Rattle.demands.specs.RuledOut.{first_frame_only, one_more, loses_commit, puts_back_late, own_read_bars, nothing_first}
+use Rattle.demands.specs.RuledOut.{first_frame_only, one_more, loses_commit, puts_back_late, own_read_bars}
+use Rattle.demands.specs.RuledOut.{nothing_first}
 use Rattle.demands.specs.RuledOut.{shows_private, ignores_writes, writes_twice, ticks_at_writes, never_expires}
 use Rattle.demands.specs.RuledOut.{last_exception_first, last_served_first, serves_ended, newest_first, waits_in_vain}
 use Rattle.demands.specs.RuledOut.{gives_up_first, by_party, nothings_by_party, newest_in_service, takes_long_commits}
@@ -85,8 +87,10 @@ from_empty does fs = (empty, refl, played does empty fs)
 
 -- the serial run, and what it tells, computed
 unfoldable all_told : Unit {0}
-unfolding same_fields is_kept failed taking carry_out carry_out_all perform list_of thrown_away last_takes advanced follow
-    follow_all was_refused note_look_up renewing follow_log serial_run left committed_in reads_number who_takes who_reads
+unfolding same_fields is_kept failed taking carry_out carry_out_all perform list_of thrown_away last_takes advanced
+    follow
+    follow_all was_refused note_look_up renewing follow_log serial_run left committed_in reads_number who_takes
+    who_reads
     committed_told
     private_told told
 all_told = tt
@@ -168,11 +172,15 @@ by_serial does d fs = d (log_of does empty fs) (last_of does empty fs) (from_emp
 pub each-ruled_out : RuledOut
 unfolding all_rules all_told last_of log_of answered_by orderedb says_nothing says_waiting refuses_all same_record
     stores_nothing first_frame_only loses_commit puts_back_late own_read_bars nothing_first shows_private ignores_writes
-    writes_twice ticks_at_writes never_expires last_exception_first last_served_first serves_ended newest_first newest_in_service
-    takes_long_commits gives14 keeps_withdrawn withdrawn_gets_nothing aborts_any waits_in_vain gives_up_first nothings_by_party
+    writes_twice ticks_at_writes never_expires last_exception_first last_served_first serves_ended newest_first
+    newest_in_service
+    takes_long_commits gives14 keeps_withdrawn withdrawn_gets_nothing aborts_any waits_in_vain gives_up_first
+    nothings_by_party
     matches_blanks loses_blanks leaves_byte3 takes_filled_blanks refuses_blanks
-    renews_from_the_write renews_held renews_anothers leaves_lease0 forgets_writer writer_of by_party enters enters_all arrives
-    keep_book book_of rings_put_backs rings_for_each rings_first starts_over rings_on published registers registers_all notes
+    renews_from_the_write renews_held renews_anothers leaves_lease0 forgets_writer writer_of by_party enters enters_all
+    arrives
+    keep_book book_of rings_put_backs rings_for_each rings_first starts_over rings_on published registers registers_all
+    notes
     keep_registry registry_of stops_at_twelve arcs_match_blanks arcs_go_round
 each-ruled_out =
     record {
@@ -182,8 +190,10 @@ each-ruled_out =
       says_waiting_lem = λ d.
           by_said says_waiting d (write_by 1 0 9 E ∷ []) (read_by 2 0 0 7) refl refl (kind_at 0)
           (λ (q : 2 ≡ 4). omega arith);
-      refuses_all_lem = λ d. by_said refuses_all d [] (read_by 2 0 0 7) refl refl (kind_at 0) (λ (q : 3 ≡ 15). omega arith);
-      same_record_lem = λ d. by_said same_record d [] (read_by 2 0 0 7) refl refl (kind_at 0) (λ (q : 3 ≡ 9). omega arith);
+      refuses_all_lem = λ d. by_said refuses_all d [] (read_by 2 0 0 7) refl refl (kind_at 0)
+          (λ (q : 3 ≡ 15). omega arith);
+      same_record_lem = λ d. by_said same_record d [] (read_by 2 0 0 7) refl refl (kind_at 0)
+          (λ (q : 3 ≡ 9). omega arith);
       -- what is written is told, and not stored
       stores_nothing_lem = λ d.
           let fs = write_by 1 0 9 E ∷ [] in
@@ -207,7 +217,8 @@ each-ruled_out =
       -- an entry past its lease is committed in the space again, and dropped in the serial run
       puts_back_late_lem = λ d.
           let s =
-          by_serial puts_back_late d (write_by 1 0 1 E ∷ create_by 1 9 ∷ take_by 1 1 0 7 ∷ a_tick ∷ abort_by 1 1 ∷ []) in
+          by_serial puts_back_late d (write_by 1 0 1 E ∷ create_by 1 9 ∷ take_by 1 1 0 7 ∷ a_tick ∷ abort_by 1 1 ∷ [])
+              in
           Memᴰ.not-nil ((s.same (record { number = 1; fields = mark_of 0 E; end = Tick 1 })).1
           (Memᴰ.head refl));
       own_read_bars_lem = λ d.
@@ -215,7 +226,8 @@ each-ruled_out =
           (kind_at 0) (λ (q : 2 ≡ 3). omega arith);
       -- party 2's take is given nothing in the tick that gives the entry back
       nothing_first_lem = λ d.
-          by_said nothing_first d (write_by 1 0 9 E ∷ create_by 1 1 ∷ take_by 1 1 0 7 ∷ take_by 2 0 1 7 ∷ []) a_tick refl
+          by_said nothing_first d (write_by 1 0 9 E ∷ create_by 1 1 ∷ take_by 1 1 0 7 ∷ take_by 2 0 1 7 ∷ []) a_tick
+              refl
           refl (kind_at 2) (λ (q : 2 ≡ 3). omega arith);
       -- the found stands before the commit of what it finds: the serial run fails
       shows_private_lem = λ d.
@@ -223,7 +235,8 @@ each-ruled_out =
           (take_by 2 0 9 7 ∷ create_by 1 9 ∷ write_by 1 1 9 E ∷ [])).succeeds);
       ignores_writes_lem = λ d.
           by_said ignores_writes d [] (write_by 1 0 9 E) refl refl length (λ (q : 1 ≡ 0). omega arith);
-      writes_twice_lem = λ d. by_said writes_twice d [] (write_by 1 0 9 E) refl refl length (λ (q : 1 ≡ 2). omega arith);
+      writes_twice_lem = λ d. by_said writes_twice d [] (write_by 1 0 9 E) refl refl length
+          (λ (q : 1 ≡ 2). omega arith);
       ticks_at_writes_lem = λ d.
           by_said ticks_at_writes d [] (write_by 1 0 9 E) refl refl length (λ (q : 1 ≡ 2). omega arith);
       -- the transaction's exception is missing
@@ -257,7 +270,8 @@ each-ruled_out =
       keeps_withdrawn_lem = λ d.
           let fs = create_by 1 9 ∷ take_by 1 1 9 7 ∷ abort_by 1 1 ∷ [] in
           let b =
-          d.booked (log_of keeps_withdrawn empty fs) (last_of keeps_withdrawn empty fs) (from_empty keeps_withdrawn fs) in
+          d.booked (log_of keeps_withdrawn empty fs) (last_of keeps_withdrawn empty fs) (from_empty keeps_withdrawn fs)
+              in
           let q : ◌≡◌ {A = ℕ} 0 1 = ap length b.waiting in omega arith;
       withdrawn_gets_nothing_lem = λ d.
           by_said withdrawn_gets_nothing d (create_by 1 9 ∷ take_by 1 1 9 7 ∷ []) (abort_by 1 1) refl refl length
@@ -268,11 +282,13 @@ each-ruled_out =
           by_judged aborts_any d (create_by 1 9 ∷ create_by 1 9 ∷ take_by 1 1 9 7 ∷ []) (abort_by 1 2) in omega arith;
       -- the entry that party 2 asks for is taken by the transaction that wrote it: no point in waiting on
       waits_in_vain_lem = λ d.
-          by_said waits_in_vain d (create_by 1 9 ∷ write_by 1 1 9 E ∷ read_if_exists_by 2 0 9 7 ∷ []) (take_by 1 1 0 7) refl
+          by_said waits_in_vain d (create_by 1 9 ∷ write_by 1 1 9 E ∷ read_if_exists_by 2 0 9 7 ∷ []) (take_by 1 1 0 7)
+              refl
           refl length (λ (q : 2 ≡ 1). omega arith);
       -- it is committed: found, where it would be given up before service
       gives_up_first_lem = λ d.
-          by_said gives_up_first d (create_by 1 9 ∷ write_by 1 1 9 E ∷ read_if_exists_by 2 0 9 7 ∷ []) (commit_by 1 1) refl
+          by_said gives_up_first d (create_by 1 9 ∷ write_by 1 1 9 E ∷ read_if_exists_by 2 0 9 7 ∷ []) (commit_by 1 1)
+              refl
           refl (kind_at 1) (λ (q : 2 ≡ 3). omega arith);
       -- party 3 asked before party 2
       nothings_by_party_lem = λ d.
@@ -306,11 +322,13 @@ each-ruled_out =
           by_judged renews_held d (write_by 1 0 9 E ∷ create_by 2 9 ∷ read_by 2 1 0 7 ∷ []) (renew_by 1 1 5) in omega
           arith;
       renews_anothers_lem = λ d.
-          let q : ◌≡◌ {A = ℕ} 0 19 = by_judged renews_anothers d (write_by 1 0 9 E ∷ []) (renew_by 2 1 5) in omega arith;
+          let q : ◌≡◌ {A = ℕ} 0 19 = by_judged renews_anothers d (write_by 1 0 9 E ∷ []) (renew_by 2 1 5) in omega
+              arith;
       -- what is told ends now, and is stored
       leaves_lease_0 = λ d.
           let fs = write_by 1 0 9 E ∷ renew_by 1 1 0 ∷ [] in
-          let s = d.told (log_of leaves_lease0 empty fs) (last_of leaves_lease0 empty fs) (from_empty leaves_lease0 fs) in
+          let s = d.told (log_of leaves_lease0 empty fs) (last_of leaves_lease0 empty fs) (from_empty leaves_lease0 fs)
+              in
           Memᴰ.not-nil (s.stored_told _ (Memᴰ.head refl)).1;
       forgets_writer_lem = λ d.
           let fs = create_by 1 9 ∷ write_by 1 1 9 E ∷ commit_by 1 1 ∷ [] in

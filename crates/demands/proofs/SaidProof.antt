@@ -26,7 +26,8 @@ use Rattle.rules.specs.Notify.{notify, made_public, matching, hearing, heard_of,
 use Rattle.rules.specs.Tick.{tick, unregistered, ended_txns, abort_all, drop_ended, lapsed as lapsed_part}
 use Rattle.rules.specs.Closing.{is_over, close_waits}
 use Rattle.rules.specs.Refusals.{refusal}
-use Rattle.rules.specs.Step.{step, Outcome, own_part, finish, carried_out, accepted, write_frame, commit_frame, abort_frame}
+use Rattle.rules.specs.Step.{step, Outcome, own_part, finish, carried_out, accepted, write_frame, commit_frame}
+use Rattle.rules.specs.Step.{abort_frame}
 use Rattle.rules.proofs.ListLaws.{none_any, any_none}
 use Rattle.rules.proofs.BoolLaws.{cond_cases}
 use Rattle.rules.proofs.LayoutLaws.{look_up_cases, write-serves, look_up-serves, create-serves, commit-serves}

@@ -32,7 +32,8 @@ use Rattle.demands.proofs.SerialRunOps.{can_keep, kept-number}
 use Rattle.demands.proofs.SerialRunAgree.{fits, Holds, Stored, Same, Ties, AgreeIn, fields-same, kept_is}
 use Rattle.demands.proofs.SerialRunAgree.{takes_same, takes_mentions, any_snoc, ties_more, Performs}
 
-module _ {m : Model} {ks : List Kept} {lists : ℕ → List Operation} (s : Consistent m) (a : AgreeIn m ks lists) (w : LookUp)
+module _ {m : Model} {ks : List Kept} {lists : ℕ → List Operation} (s : Consistent m) (a : AgreeIn m ks lists)
+    (w : LookUp)
     (e : Entry) (i : Memᴰ e m.entries) (av : available m.txns w e ≡ true) where
   abbrev t : ℕ
   t = w.txn.0

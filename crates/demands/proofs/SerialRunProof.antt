@@ -332,7 +332,8 @@ serials =
 -- each event is followed
 pub linked_event : {f : Frame} {m n : Model} {hs : List Heard} (r : Run) → Event f m hs n → Consistent m → Linked m r
     → Linked n (hears_all serials f hs r)
-unfolding serials stored heard_of create commit abort renew notify tick unregistered drop_ended look_up_of follow nothing
+unfolding serials stored heard_of create commit abort renew notify tick unregistered drop_ended look_up_of follow
+    nothing
     waiting created committed aborted exception notified rung ticked refused advanced last_takes thrown_away
 linked_event {f} r (refuses m bs area q) s h = h
 linked_event {f} r (asks m t a) s h =

@@ -31,7 +31,8 @@ use Rattle.demands.proofs.SerialRunOps.{after, after_all, Can, mentions_it, ment
 use Rattle.demands.proofs.SerialRunAgree.{fits, Stored, Same, Ties, AgreeIn, takes_mentions, fits_unfound}
 use Rattle.demands.proofs.SerialRunAgree.{ties_more, Performs}
 
-module _ {m : Model} (f : Frame) {ks : List Kept} {lists : ℕ → List Operation} (s : Consistent m) (a : AgreeIn m ks lists)
+module _ {m : Model} (f : Frame) {ks : List Kept} {lists : ℕ → List Operation} (s : Consistent m)
+    (a : AgreeIn m ks lists)
   where
     -- nobody has found the new number
     unfound : (u : ℕ) → All (λ o. mentions_it m.next_entry o ≡ false) (lists u)

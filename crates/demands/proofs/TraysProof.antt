@@ -15,7 +15,8 @@ use Rattle.rules.specs.State.{Model, empty, Bounded}
 use Rattle.rules.specs.Sound.{Sound}
 use Rattle.rules.specs.Records.{area_after, record_bytes, record_at, answer_bytes}
 use Rattle.rules.specs.Step.{Outcome, step}
-use Rattle.rules.specs.Tray.{pairs_of, frame_count, pairs_end, pairs, bad_tray, bad_pairs, tray_refusal, frame_at, TrayOutcome}
+use Rattle.rules.specs.Tray.{pairs_of, frame_count, pairs_end, pairs, bad_tray, bad_pairs, tray_refusal, frame_at}
+use Rattle.rules.specs.Tray.{TrayOutcome}
 use Rattle.rules.specs.Tray.{stopped, run_frames, run_pairs, run_tray, host_number}
 use Rattle.rules.specs.Allowed.{Answered}
 use Rattle.rules.specs.SerialRun.{Logged}

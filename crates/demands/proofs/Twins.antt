@@ -20,7 +20,8 @@ use Rattle.rules.specs.declared.Registration.{Registration}
 use Rattle.rules.specs.Lists.{filterb, anyb, joined, distinct, All}
 use Rattle.rules.specs.Time.{until, reached}
 use Rattle.rules.specs.Template.{bit, mark_of, matches}
-use Rattle.rules.specs.State.{Model, with_entries, with_txns, with_waits, with_next_entry, with_next_txn, with_registrations}
+use Rattle.rules.specs.State.{Model, with_entries, with_txns, with_waits, with_next_entry, with_next_txn}
+use Rattle.rules.specs.State.{with_registrations}
 use Rattle.rules.specs.Holds.{live_txn, add_reader_of, drop_reader_of, read_by_other, visible, available, conflicts}
 use Rattle.rules.specs.Holds.{some_available, some_conflicts}
 use Rattle.rules.specs.Frame.{Frame, entry_named, is_write, is_create, is_commit, is_tick}
@@ -220,7 +221,8 @@ module _ {k : ℕ} {ts us : List Txn} (p : Peers k ts us) (t : ℕ) {r q : ℕ} 
         live' = λ k b. h.live' k (drop-live q k (live_txn t us) b);
       }
 
-  held_gone : Held (without_txn t ts) (without_txn t us) (drop_reader_of (live_txn t ts) r) (drop_reader_of (live_txn t us) q)
+  held_gone : Held (without_txn t ts) (without_txn t us) (drop_reader_of (live_txn t ts) r)
+      (drop_reader_of (live_txn t us) q)
   unfolding without_txn
   held_gone =
       record {
@@ -554,7 +556,8 @@ drop_twins {m} {n} t =
     }
 
 -- what ends in a tick
-abort_all_twins : (ts us : List Txn) → SameLive ts us → (m n : Model) → Twins m n → Twins (abort_all ts m) (abort_all us n)
+abort_all_twins : (ts us : List Txn) → SameLive ts us → (m n : Model) → Twins m n
+    → Twins (abort_all ts m) (abort_all us n)
 unfolding abort_all
 abort_all_twins =
     live_ind (λ ts us. (m n : Model) → Twins m n → Twins (abort_all ts m) (abort_all us n)) (λ m n t. t)
@@ -625,7 +628,8 @@ module _ (f : Frame) {m n : Model} (t : Twins m n) where
   some_same =
       available_in t.peers t.entries (look_up_of m f) ∙ ap (λ w. some_available n.txns w n.entries) asks-same
 
-  pub gives_same : gives_nothing m (look_up_of m f) f.lease_or_timeout ≡ gives_nothing n (look_up_of n f) f.lease_or_timeout
+  pub gives_same : gives_nothing m (look_up_of m f) f.lease_or_timeout
+      ≡ gives_nothing n (look_up_of n f) f.lease_or_timeout
   unfolding gives_nothing
   gives_same =
       ap₂ (λ (b : Bool) (w : LookUp). eqb f.lease_or_timeout 0 || w.if_exists && not b)

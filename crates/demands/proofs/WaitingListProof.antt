@@ -35,7 +35,8 @@ use Rattle.demands.specs.History.{EveryState}
 use Rattle.demands.specs.Book.{names}
 use Rattle.demands.specs.Answers.{closes}
 use Rattle.demands.specs.Consequences.{ConsequencesFollow}
-use Rattle.demands.specs.WaitingList.{is_asked, closed_as, fates, is_found_kind, is_nothing_kind, by_txn, said, tally_of}
+use Rattle.demands.specs.WaitingList.{is_asked, closed_as, fates, is_found_kind, is_nothing_kind, by_txn, said}
+use Rattle.demands.specs.WaitingList.{tally_of}
 use Rattle.demands.specs.WaitingList.{Balances, WaitingListFollows}
 use Rattle.demands.proofs.Runs.{runs, made}
 use Rattle.sound.proofs.AllLaws.{filter_map}

@@ -30,7 +30,8 @@ use Rattle.demands.specs.Withdrawn.{waited_before, ahead_of6, behind6, refusal_b
 -- an abort of a live transaction of the party is let pass by the rows behind 6
 none_for : (m : Model) (f : Frame) → f.op ≡ op_abort → eqb f.txn 0 ≡ false → {n : ℕ} → TxnsOk n m.txns
     → LiveOf f.txn f.party m.txns → first_row (behind6 m f) ≡ 0
-unfolding no_entry not_writer not_free not_live not_own no_lease too_late entries_full txns_full registrations_full no_number
+unfolding no_entry not_writer not_free not_live not_own no_lease too_late entries_full txns_full registrations_full
+    no_number
     layout_of live_txn
 none_for m f o z ok live =
     let mine : Txn → Bool = λ x. eqb x.id.0 f.txn in

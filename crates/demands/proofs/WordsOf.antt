@@ -19,8 +19,10 @@ use Rattle.rules.specs.Numbers.{forever, max_entries, max_txns, max_waits, max_r
 use Rattle.rules.specs.Lists.{joined, All}
 use Rattle.rules.specs.State.{Model, Bounded}
 use Rattle.rules.specs.Frame.{look_up_op, is_take, is_if_exists}
-use Rattle.rules.specs.Words.{up_to, row, table, until_of, until_word, entry_of, txn_of, wait_of, registration_of, entries}
-use Rattle.rules.specs.Words.{txns, waits, registrations, view, entry_words, txn_words, wait_words, entries_at, entry_width}
+use Rattle.rules.specs.Words.{up_to, row, table, until_of, until_word, entry_of, txn_of, wait_of, registration_of}
+use Rattle.rules.specs.Words.{entries}
+use Rattle.rules.specs.Words.{txns, waits, registrations, view, entry_words, txn_words, wait_words, entries_at}
+use Rattle.rules.specs.Words.{entry_width}
 use Rattle.rules.specs.Words.{txns_at, txn_width, waits_at, wait_width, registration_words, registrations_at}
 use Rattle.rules.specs.Words.{registration_width}
 use Rattle.rules.specs.Time.{EndFits}

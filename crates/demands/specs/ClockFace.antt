@@ -3,7 +3,8 @@ use Rattle.std.specs.Prelude.{ℕ, ◌+◌, ◌-◌, ◌*◌, ◌/◌, ◌%◌, 
 use Rattle.rules.specs.declared.Fields.{Fields}
 use Rattle.rules.specs.declared.Mark.{Mark}
 use Rattle.rules.specs.Numbers.{places}
-use Rattle.rules.specs.Places.{is_time, is_place, place_of_time, time_of_place, mirror_of, mirrored_place, in_arc, arc_of}
+use Rattle.rules.specs.Places.{is_time, is_place, place_of_time, time_of_place, mirror_of, mirrored_place, in_arc}
+use Rattle.rules.specs.Places.{arc_of}
 use Rattle.rules.specs.Places.{start_of, length_of, mirror_arc}
 use Rattle.rules.specs.Template.{four_fields, mark_of, asks_arc, matches}
 

@@ -3,7 +3,8 @@ use Rattle.std.specs.Prelude.{ℕ, zero, suc, List, [], ◌∷◌, ◌++◌}
 use Rattle.rules.specs.declared.Fields.{Fields}
 use Rattle.rules.specs.declared.Mark.{Mark}
 use Rattle.rules.specs.declared.Record.{Record}
-use Rattle.rules.specs.Numbers.{op_write, op_read, op_take, op_read_if_exists, op_take_if_exists, op_create, op_commit, op_abort}
+use Rattle.rules.specs.Numbers.{op_write, op_read, op_take, op_read_if_exists, op_take_if_exists, op_create, op_commit}
+use Rattle.rules.specs.Numbers.{op_abort}
 use Rattle.rules.specs.Numbers.{op_tick, op_notify, op_renew, kind_written, kind_found, kind_nothing, kind_waiting}
 use Rattle.rules.specs.Numbers.{kind_created, kind_committed, kind_aborted, kind_exception, kind_ticked, kind_notified}
 use Rattle.rules.specs.Numbers.{kind_rung, kind_renewed, kind_refused}

@@ -19,7 +19,8 @@ use Rattle.rules.specs.State.{Model, with_entries, with_waits, with_clock, with_
 use Rattle.rules.specs.Places.{start_of}
 use Rattle.rules.specs.Template.{asks_arc, matches, four_fields, mark_of, bare}
 use Rattle.rules.specs.Holds.{visible, available, oldest}
-use Rattle.rules.specs.Frame.{Frame, byte_at, decode, frame_length, is_write, is_look_up, is_commit, is_abort, is_tick, is_renew}
+use Rattle.rules.specs.Frame.{Frame, byte_at, decode, frame_length, is_write, is_look_up, is_commit, is_abort, is_tick}
+use Rattle.rules.specs.Frame.{is_renew}
 use Rattle.rules.specs.Frame.{entry_named, serves}
 use Rattle.rules.specs.Records.{written, found, nothing, committed, aborted, exception, ticked, renewed}
 use Rattle.rules.specs.Renew.{has_number, ending_at, renewed_to}

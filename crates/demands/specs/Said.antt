@@ -12,7 +12,8 @@ use Rattle.rules.specs.Time.{reached}
 use Rattle.rules.specs.Template.{matches}
 use Rattle.rules.specs.State.{Model, with_entries, with_waits}
 use Rattle.rules.specs.Holds.{available, some_available, some_conflicts}
-use Rattle.rules.specs.Frame.{Frame, is_write, is_look_up, is_if_exists, is_create, is_commit, is_abort, is_renew, is_notify}
+use Rattle.rules.specs.Frame.{Frame, is_write, is_look_up, is_if_exists, is_create, is_commit, is_abort, is_renew}
+use Rattle.rules.specs.Frame.{is_notify}
 use Rattle.rules.specs.Frame.{is_tick}
 use Rattle.rules.specs.Records.{written, found, nothing, waiting, created, committed, aborted, exception, ticked}
 use Rattle.rules.specs.Records.{renewed, notified, rung}

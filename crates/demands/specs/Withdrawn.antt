@@ -5,12 +5,14 @@ use Rattle.std.specs.Prelude.{ℕ, Bool, true, false, cond, ◌≡◌, eqb, ltb}
 use mathlib.Core.List.{List, ◌∷◌, ◌++◌, Memᴰ}
 use Rattle.rules.specs.declared.LookUp.{LookUp}
 use Rattle.rules.specs.Lists.{anyb, first_row}
-use Rattle.rules.specs.Numbers.{step_area, area_refused, waiting_refused, not_live_refused, not_own_refused, no_entry_refused}
+use Rattle.rules.specs.Numbers.{step_area, area_refused, waiting_refused, not_live_refused, not_own_refused}
+use Rattle.rules.specs.Numbers.{no_entry_refused}
 use Rattle.rules.specs.Numbers.{not_writer_refused, held_refused}
 use Rattle.rules.specs.State.{Model}
 use Rattle.rules.specs.Frame.{Frame, decode}
 use Rattle.rules.specs.Sound.{of_party}
-use Rattle.rules.specs.Refusals.{withdraws, no_entry, not_writer, not_free, not_live, not_own, form_rows, room_rows, refusal}
+use Rattle.rules.specs.Refusals.{withdraws, no_entry, not_writer, not_free, not_live, not_own, form_rows, room_rows}
+use Rattle.rules.specs.Refusals.{refusal}
 use Rattle.rules.specs.Step.{carried_out, accepted, refused_with, step}
 use Rattle.demands.specs.Machine.{Stepper, the_rules}
 use Rattle.demands.specs.History.{EveryState}

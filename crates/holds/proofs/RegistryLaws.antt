@@ -94,7 +94,8 @@ module _ (limit : ℕ) where
   heard_more (c ∷ cs) (x ∷ gs) (suc i) g l k e =
       ap (λ ys. heard_once limit c x ∷ ys) (heard_more cs gs i g (omega arith) (omega arith) e)
 
-  pub heard_all : (cs : List ℕ) (gs : List Registration) → heard_by limit (take (length gs) cs) gs ≡ heard_by limit cs gs
+  pub heard_all : (cs : List ℕ) (gs : List Registration) → heard_by limit (take (length gs) cs) gs
+      ≡ heard_by limit cs gs
   unfolding heard_by
   heard_all [] [] = refl
   heard_all [] (g ∷ gs) = refl
@@ -132,7 +133,8 @@ module _ (ws ws₀ cs : List ℕ) (i : ℕ)
         ∙ length-registrations ws₀
 
     pub heard-row : (ws' : List ℕ) {g x : Registration} {limit : ℕ} → limit ≡ (view ws₀).next_entry
-        → i < registration_count ws₀ → i < length cs → g ≡ registration_row ws i → x ≡ heard_once limit (get_or cs i 0) g
+        → i < registration_count ws₀ → i < length cs → g ≡ registration_row ws i → x
+            ≡ heard_once limit (get_or cs i 0) g
         → view ws' ≡ with_registrations (set (view ws).registrations i x) (view ws)
         → view ws'
         ≡ with_registrations (heard_by (view ws₀).next_entry (take (i + 1) cs) (view ws₀).registrations) (view ws₀)

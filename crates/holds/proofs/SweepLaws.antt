@@ -115,7 +115,8 @@ unfolding sweep_model view entries
 sweep_done s w l e p = let d = compact_done w p e (omega arith) in (view-entries _ _ d, d.but.long ∙ l)
 
 -- a transaction that has nothing of the entry releases nothing
-pub released-same : (t p : ℕ) (e : Entry) → is_private_to t e ≡ false → is_taken_by t e ≡ false → bit p e.readers ≡ false
+pub released-same : (t p : ℕ) (e : Entry) → is_private_to t e ≡ false → is_taken_by t e ≡ false → bit p e.readers
+    ≡ false
     → released_at t p e ≡ e
 unfolding released_at drop_reader
 released-same t p e a b d =

@@ -1,5 +1,6 @@
 -- The refusals 6 to 13 and 18 to 20 as the code judges them, and room for a look-up that waits.
-use Rattle.std.specs.Prelude.{ℕ, ◌+◌, ◌<◌, Bool, true, not, cond, ◌&&◌, ◌||◌, ◌≡◌, List, [], ◌∷◌, map, eqb, leb, ltb, length}
+use Rattle.std.specs.Prelude.{ℕ, ◌+◌, ◌<◌, Bool, true, not, cond, ◌&&◌, ◌||◌, ◌≡◌, List, [], ◌∷◌, map, eqb, leb, ltb}
+use Rattle.std.specs.Prelude.{length}
 use Rattle.std.proofs.Math.Option.{some}
 use Rattle.rules.specs.declared.Entry.{Entry}
 use Rattle.rules.specs.declared.LookUp.{LookUp}

@@ -21,7 +21,8 @@ use Rattle.order.proofs.TxnLaws.{same_words}
 
 -- the search over all transactions, on an empty set
 abbrev pub Looked : List ℕ → List ℕ → ℕ → Bool → List ℕ → Type 0
-Looked codes starts n good order = Searched codes starts n 0 (replicate max_txns true) (replicate slots false) good order
+Looked codes starts n good order = Searched codes starts n 0 (replicate max_txns true) (replicate slots false) good
+    order
 
 -- orders of all transactions
 order_of : (ts : List (List Action)) → length ts ≤ max_txns → {qs : List ℕ} → IsOrder ts qs

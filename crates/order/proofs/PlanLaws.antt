@@ -155,7 +155,8 @@ module _ (kinds numbers codes : List ℕ) (written : List Bool) (len j slot : �
   kind_is : get_or kinds j 0 ≡ kind_of a
   unfolding a
   kind_is =
-      sym (get_or-take len kinds j 0 h) ∙ ap (λ l. get_or l j 0) b.are_kinds ∙ get_d_map kind_of acts j (reads 0) 0 within
+      sym (get_or-take len kinds j 0 h) ∙ ap (λ l. get_or l j 0) b.are_kinds
+          ∙ get_d_map kind_of acts j (reads 0) 0 within
 
   number_is : get_or numbers j 0 ≡ number_of a
   unfolding a
@@ -175,7 +176,8 @@ module _ (kinds numbers codes : List ℕ) (written : List Bool) (len j slot : �
       ∙ r.agrees.flag_is (number_of a) (omega (arith, slot_is, arrays.as_many_numbers))
 
   -- its number is written twice
-  pub written_twice : (eqb (get_or kinds j 0) 1 && get_or written slot false) ≡ true → distinct (written_in acts) ≡ false
+  pub written_twice : (eqb (get_or kinds j 0) 1 && get_or written slot false) ≡ true → distinct (written_in acts)
+      ≡ false
   unfolding a before
   written_twice t =
       ap (λ l. distinct (written_in l)) (split_at acts j (reads 0) within)

@@ -34,7 +34,8 @@ module _ (words : List ℕ) (at k : ℕ) (is : k ≡ get_or words at 0) where
       ap (λ m. leb (at + 1 + 2 * m) (length words)) is
       ∙ sym (rw (lt-ltb at (length words) h, le-leb (get_or words at 0) max_actions (omega arith)))
 
-  pub has_txn_lem : has_txn words at ≡ true → (at < length words) × (k ≤ max_actions) × (at + (1 + 2 * k) ≤ length words)
+  pub has_txn_lem : has_txn words at ≡ true → (at < length words) × (k ≤ max_actions)
+      × (at + (1 + 2 * k) ≤ length words)
   unfolding has_txn
   has_txn_lem t =
       let m = get_or words at 0 in
@@ -248,7 +249,8 @@ module _ (words kinds numbers starts : List ℕ) (at len t n : ℕ) (r : Reading
       go (acts ∷ rest) are stand c =
           let tail = joined (map txn_words rest) in
           let size = length-append (joined (map action_words acts)) tail in
-          wrong acts tail (sym (get_or-drop at words 0 0 ∙ ap (λ m. get_or words m 0) (add-zero at)) ∙ ap (λ l. get_or l 0 0)
+          wrong acts tail (sym (get_or-drop at words 0 0 ∙ ap (λ m. get_or words m 0) (add-zero at))
+              ∙ ap (λ l. get_or l 0 0)
           stand)
           (omega (arith, ap length stand, length-drop at words, words_length acts))
           (sym (drop-drop 1 at words) ∙ ap (drop 1) stand)

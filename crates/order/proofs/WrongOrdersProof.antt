@@ -96,7 +96,8 @@ take_and_write : List (List Action)
 take_and_write = (takes 5 ∷ []) ∷ (writes 5 ∷ []) ∷ []
 
 pub each_wrong : WrongOrders
-unfolding words_of txn_words written distinct take_and_write succeeds operations_at carry_out_all carry_out is_kept same_fields
+unfolding words_of txn_words written distinct take_and_write succeeds operations_at carry_out_all carry_out is_kept
+    same_fields
     failed taking comes_before
 each_wrong =
     record {

@@ -1,6 +1,7 @@
 -- The plan of a search: each action as one code, 4 × slot + kind. The slot of a number is where the number stands
 -- first among those handed in.
-use Rattle.std.specs.Prelude.{ℕ, suc, ◌+◌, ◌*◌, ◌≤◌, ◌<◌, Bool, true, false, cond, ◌≡◌, List, [], ◌∷◌, map, eqb, length, get_or, take}
+use Rattle.std.specs.Prelude.{ℕ, suc, ◌+◌, ◌*◌, ◌≤◌, ◌<◌, Bool, true, false, cond, ◌≡◌, List, [], ◌∷◌, map, eqb, length}
+use Rattle.std.specs.Prelude.{get_or, take}
 use Rattle.rules.specs.Lists.{All, distinct, joined}
 use Rattle.order.specs.Export.{Action, written_by, words_of, Accepted}
 use Rattle.order.specs.Reading.{kind_of, number_of, slots}

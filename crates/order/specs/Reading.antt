@@ -1,5 +1,6 @@
 -- What reading the words ensures: the actions, side by side in two arrays, and where each transaction's begin.
-use Rattle.std.specs.Prelude.{ℕ, ◌+◌, ◌*◌, ◌≤◌, ◌<◌, Bool, true, false, ◌&&◌, ◌≡◌, List, ◌++◌, map, leb, ltb, length, get_or, take, drop}
+use Rattle.std.specs.Prelude.{ℕ, ◌+◌, ◌*◌, ◌≤◌, ◌<◌, Bool, true, false, ◌&&◌, ◌≡◌, List, ◌++◌, map, leb, ltb, length}
+use Rattle.std.specs.Prelude.{get_or, take, drop}
 use Rattle.rules.specs.Lists.{All, joined}
 use Rattle.order.specs.Export.{Action, writes, reads, takes, action_words, words_of}
 

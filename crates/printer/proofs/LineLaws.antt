@@ -54,14 +54,16 @@ module _ (ns old new : List ℕ) (at next i : ℕ) (l : Lining ns old new at nex
     lining_room = omega (arith, l.few, lining_length, l.puts.end)
 
     -- the line from number i on
-    rest_is : rest_line (drop i ns) ≡ (decimal (get_or ns i 0) ++ (after_at (i + 1) ns ∷ [])) ++ rest_line (drop (i + 1) ns)
+    rest_is : rest_line (drop i ns) ≡ (decimal (get_or ns i 0) ++ (after_at (i + 1) ns ∷ []))
+        ++ rest_line (drop (i + 1) ns)
     rest_is =
         ap rest_line (drop-cons ns i 0 h)
         ∙ rest_next ns (drop (suc i) ns) (get_or ns i 0) i h (length-drop (suc i) ns)
         ∙ ap (λ k. (decimal (get_or ns i 0) ++ (after_at k ns ∷ [])) ++ rest_line (drop k ns)) (sym (add-one i))
 
     -- its digits, and what stands behind them
-    pub lining_next : (mid : List ℕ) (to s : ℕ) → Puts (decimal (get_or ns i 0)) new mid next to → s ≡ after_at (i + 1) ns
+    pub lining_next : (mid : List ℕ) (to s : ℕ) → Puts (decimal (get_or ns i 0)) new mid next to → s
+        ≡ after_at (i + 1) ns
         → Lining ns old (set mid to s) at (to + 1) (i + 1)
     lining_next mid to s p e =
         let n = get_or ns i 0 in

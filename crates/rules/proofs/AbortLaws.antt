@@ -70,7 +70,8 @@ module _ (u : ℕ) (m : Model) where
       (k.0, not-true (eqb x.id.0 u) k.1)
 
   -- what is left of an entry is private to whom it was
-  same-owner : (t : ℕ) (x : Entry) → is_private_to u x ≡ false → is_private_to t (released m.txns u x) ≡ is_private_to t x
+  same-owner : (t : ℕ) (x : Entry) → is_private_to u x ≡ false → is_private_to t (released m.txns u x)
+      ≡ is_private_to t x
   unfolding released
   same-owner t x h = rw h
 
@@ -78,7 +79,8 @@ module _ (u : ℕ) (m : Model) where
   unfolding released
   gone_aborted =
       record {
-        not_private = λ e i. let r = entry-left e i in subst (λ x. is_private_to u x ≡ false) r.3 (same-owner u r.0 r.2 ∙ r.2);
+        not_private = λ e i. let r = entry-left e i in subst (λ x. is_private_to u x ≡ false) r.3
+            (same-owner u r.0 r.2 ∙ r.2);
         not_taken = λ e i.
             let r = entry-left e i in
             subst (λ (x : Entry). cleared u x.taken_by ≡ x.taken_by) r.3 (twice_cleared u r.0.taken_by);
@@ -101,7 +103,8 @@ module _ (u : ℕ) (m : Model) where
         not_live = λ x i. g.not_live x (txn-left x i).0;
       }
 
-released-same : (ts : List Txn) (t : ℕ) (e : Entry) → is_private_to t e ≡ false → cleared t e.taken_by ≡ e.taken_by → live_txn t ts ≡ none
+released-same : (ts : List Txn) (t : ℕ) (e : Entry) → is_private_to t e ≡ false → cleared t e.taken_by ≡ e.taken_by
+    → live_txn t ts ≡ none
     → released ts t e ≡ e
 unfolding released
 released-same ts t e p q l = rw (p, q, l)
@@ -109,10 +112,13 @@ released-same ts t e p q l = rw (p, q, l)
 pub abort_gone : (t : ℕ) (m : Model) → Gone t m → abort t m ≡ m
 unfolding abort without_txn live_txn
 abort_gone t m g =
-    ap (λ es. with_entries es (with_txns (without_txn t m.txns) (with_waits (filterb (λ w. not (eqb w.txn.0 t)) m.waits) m)))
-    (ap (map (released m.txns t)) (filter_pass (λ e. not (is_private_to t e)) m.entries (λ e i. ap not (g.not_private e i)))
+    ap (λ es. with_entries es
+        (with_txns (without_txn t m.txns) (with_waits (filterb (λ w. not (eqb w.txn.0 t)) m.waits) m)))
+    (ap (map (released m.txns t))
+        (filter_pass (λ e. not (is_private_to t e)) m.entries (λ e i. ap not (g.not_private e i)))
     ∙ map_same (released m.txns t) m.entries
-    (λ e i. released-same m.txns t e (g.not_private e i) (g.not_taken e i) (find_fail (λ x. eqb x.id.0 t) m.txns g.not_live)))
+    (λ e i. released-same m.txns t e (g.not_private e i) (g.not_taken e i)
+        (find_fail (λ x. eqb x.id.0 t) m.txns g.not_live)))
     ∙ ap₂ (λ ts ws. with_entries m.entries (with_txns ts (with_waits ws m)))
     (filter_pass (λ x. not (eqb x.id.0 t)) m.txns (λ x i. ap not (g.not_live x i)))
     (filter_pass (λ w. not (eqb w.txn.0 t)) m.waits (λ w i. ap not (g.not_inside w i)))
@@ -123,14 +129,18 @@ unfolding abort_all without_txn
 abort_rest t [] m g = refl
 abort_rest t (u ∷ us) m g = go (bool_cases (eqb u.id.0 t)) (λ n h. abort_rest t us n h)
   where
-    go : (eqb u.id.0 t ≡ true) ⊎ (eqb u.id.0 t ≡ false) → ((n : Model) → Gone t n → abort_all us n ≡ abort_all (without_txn t us) n)
-        → abort_all us (abort u.id.0 m) ≡ abort_all (cond (not (eqb u.id.0 t)) (u ∷ without_txn t us) (without_txn t us)) m
+    go : (eqb u.id.0 t ≡ true) ⊎ (eqb u.id.0 t ≡ false)
+        → ((n : Model) → Gone t n → abort_all us n ≡ abort_all (without_txn t us) n)
+        → abort_all us (abort u.id.0 m)
+            ≡ abort_all (cond (not (eqb u.id.0 t)) (u ∷ without_txn t us) (without_txn t us)) m
     go (inl e) below =
-        rw e (ap (λ k. abort_all us (abort k m)) (eqb-true u.id.0 t e) ∙ ap (abort_all us) (abort_gone t m g) ∙ below m g)
+        rw e (ap (λ k. abort_all us (abort k m)) (eqb-true u.id.0 t e) ∙ ap (abort_all us) (abort_gone t m g)
+            ∙ below m g)
     go (inr e) below = rw e (below (abort u.id.0 m) (gone_still u.id.0 m t g))
 
 -- the first that ends now is aborted; then those that are left
-ended-left : (m : Model) (t : Txn) (ts : List Txn) → ended_txns m ≡ t ∷ ts → ended_txns (abort t.id.0 m) ≡ without_txn t.id.0 ts
+ended-left : (m : Model) (t : Txn) (ts : List Txn) → ended_txns m ≡ t ∷ ts → ended_txns (abort t.id.0 m)
+    ≡ without_txn t.id.0 ts
 unfolding ended_txns abort without_txn
 ended-left m t ts e =
     filter_comm (λ x. reached m.clock x.end) (λ x. not (eqb x.id.0 t.id.0)) m.txns

@@ -28,9 +28,12 @@ unfolding until reached bit asked_equal in_arc matches live_txn add_reader drop_
     conflicts number_at decode layout_of frame_length serves written found nothing waiting created committed aborted
     exception ticked refused look_up_of removes with_hold marked hand_out gives_nothing answer_found answer_nothing
     answer_waiting answer look_up free_slot create released without_txn commit abort serve service ended_txns abort_all
-    drop_ended lapsed is_over close_waits tick no_operation wrong_length malformed wrong_party wrong_arc party_waits not_live
-    not_own no_lease too_late entries_full txns_full no_number refusal new_entry stored write own_part finish commit_frame
-    abort_frame carried_out refused_with accepted step renewed stored_entry renew_entries renew no_entry not_writer not_free
+    drop_ended lapsed is_over close_waits tick no_operation wrong_length malformed wrong_party wrong_arc party_waits
+    not_live
+    not_own no_lease too_late entries_full txns_full no_number refusal new_entry stored write own_part finish
+    commit_frame
+    abort_frame carried_out refused_with accepted step renewed stored_entry renew_entries renew no_entry not_writer
+    not_free
     notified rung new_registration notify made_public matching hearing heard_of ringing unregistered registrations_full
     write_frame
 all_rules = tt

@@ -48,7 +48,8 @@ unfolding malformed layout_of
 write_form f e = rw e (simp or-false)
 
 -- an operation that is none of the others is tick
-pub left_is_tick : (op : ℕ) → is_operation op ≡ true → is_write op ≡ false → is_look_up op ≡ false → is_create op ≡ false
+pub left_is_tick : (op : ℕ) → is_operation op ≡ true → is_write op ≡ false → is_look_up op ≡ false → is_create op
+    ≡ false
     → is_commit op ≡ false → is_abort op ≡ false → is_renew op ≡ false → is_notify op ≡ false → is_tick op ≡ true
 left_is_tick op is =
     op_cases (λ n. is_write n ≡ false → is_look_up n ≡ false → is_create n ≡ false → is_commit n ≡ false

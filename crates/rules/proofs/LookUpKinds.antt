@@ -11,7 +11,8 @@ use Rattle.rules.specs.LookUp.{look_up}
 use Rattle.rules.specs.Requests.{frame, frame_of}
 use Rattle.rules.specs.Step.{own_part}
 
-pub kind_cases : (P : ℕ → Type 0) (takes if_exists : Bool) → P op_read → P op_take → P op_read_if_exists → P op_take_if_exists
+pub kind_cases : (P : ℕ → Type 0) (takes if_exists : Bool) → P op_read → P op_take → P op_read_if_exists
+    → P op_take_if_exists
     → P (look_up_op takes if_exists)
 kind_cases P false false r t re te = r
 kind_cases P true false r t re te = t

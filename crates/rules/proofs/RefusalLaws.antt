@@ -99,7 +99,8 @@ none-waits m f t e {w} i q =
 
 -- ---- the table in parts
 -- and so none is given; k is not 0, which says that none applies
-pub first-without : (k : ℕ) (rs : List (Bool × ℕ)) → eqb 0 k ≡ false → without k rs ≡ true → eqb (first_row rs) k ≡ false
+pub first-without : (k : ℕ) (rs : List (Bool × ℕ)) → eqb 0 k ≡ false → without k rs ≡ true → eqb (first_row rs) k
+    ≡ false
 first-without k [] z e = z
 first-without k (r ∷ rs) z e =
     cond_cases (λ n. eqb n k ≡ false) r.0 (λ t. not-true (eqb r.1 k)
@@ -124,11 +125,13 @@ first-append (x ∷ xs) ys e =
 -- the answers area is judged first, then the frame's bytes, then the frame against the space
 pub refusal_parts : (m : Model) (bs : List ℕ) (area : ℕ)
     → refusal m bs area
-    ≡ cond (ltb area step_area) area_refused (cond (eqb (form_refusal bs) 0) (space_refusal m (decode bs)) (form_refusal bs))
+    ≡ cond (ltb area step_area) area_refused
+        (cond (eqb (form_refusal bs) 0) (space_refusal m (decode bs)) (form_refusal bs))
 unfolding refusal form_refusal space_refusal
 refusal_parts m bs area =
     let f = decode bs in
-    ap (λ n. cond (ltb area step_area) area_refused n) (first-append (form_rows bs f) (admission_rows m f ++ room_rows m f)
+    ap (λ n. cond (ltb area step_area) area_refused n)
+        (first-append (form_rows bs f) (admission_rows m f ++ room_rows m f)
     refl)
 
 -- no frame's bytes, and no frame against the space, are refused with 1

@@ -14,7 +14,8 @@ use Rattle.rules.proofs.ListLaws.{length-filter}
 use Rattle.rules.proofs.StepCases.{serve_ind}
 use Rattle.rules.proofs.BoolLaws.{cond_cases}
 
-pub hand_out-length : (ts : List Txn) (w : LookUp) (e : Entry) (es : List Entry) → length (hand_out ts w e es) ≤ length es
+pub hand_out-length : (ts : List Txn) (w : LookUp) (e : Entry) (es : List Entry)
+    → length (hand_out ts w e es) ≤ length es
 unfolding hand_out
 hand_out-length ts w e es =
     cond_cases (λ (l : List Entry). length l ≤ length es) (removes w e)

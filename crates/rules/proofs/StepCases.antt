@@ -12,7 +12,8 @@ use Rattle.rules.specs.declared.Txn.{Txn}
 use Rattle.rules.specs.declared.LookUp.{LookUp}
 use Rattle.rules.specs.State.{Model}
 use Rattle.rules.specs.Holds.{oldest}
-use Rattle.rules.specs.Frame.{Frame, decode, is_operation, is_write, is_look_up, is_create, is_commit, is_abort, is_tick}
+use Rattle.rules.specs.Frame.{Frame, decode, is_operation, is_write, is_look_up, is_create, is_commit, is_abort}
+use Rattle.rules.specs.Frame.{is_tick}
 use Rattle.rules.specs.Frame.{is_renew, is_notify}
 use Rattle.rules.specs.Done.{Carried}
 use Rattle.rules.specs.LookUp.{look_up, hand_out}

@@ -1,6 +1,7 @@
 -- "Frame layout": byte 0 operation, 1 party, 2 mask, 3 zero, 4-7 transaction or entry, 8-11 lease or timeout, 12-27
 -- fields.
-use Rattle.std.specs.Prelude.{ℕ, ◌+◌, ◌*◌, ◌/◌, ◌%◌, Bool, true, false, not, cond, ◌&&◌, ◌||◌, List, [], ◌∷◌, ◌++◌, eqb, leb, get_or, take}
+use Rattle.std.specs.Prelude.{ℕ, ◌+◌, ◌*◌, ◌/◌, ◌%◌, Bool, true, false, not, cond, ◌&&◌, ◌||◌, List, [], ◌∷◌, ◌++◌, eqb}
+use Rattle.std.specs.Prelude.{leb, get_or, take}
 use Rattle.rules.specs.declared.Fields.{Fields}
 use Rattle.rules.specs.Template.{four_fields}
 use Rattle.rules.specs.Numbers.{op_write, op_read, op_take, op_read_if_exists, op_take_if_exists, op_create, op_commit}
@@ -60,7 +61,8 @@ is_if_exists op = eqb op op_read_if_exists || eqb op op_take_if_exists
 
 -- the operation of a look-up that takes or reads, waits or goes by conflicts
 abbrev pub look_up_op : Bool → Bool → ℕ
-look_up_op takes if_exists = cond takes (cond if_exists op_take_if_exists op_take) (cond if_exists op_read_if_exists op_read)
+look_up_op takes if_exists = cond takes (cond if_exists op_take_if_exists op_take)
+    (cond if_exists op_read_if_exists op_read)
 
 abbrev pub is_create : ℕ → Bool
 is_create op = eqb op op_create

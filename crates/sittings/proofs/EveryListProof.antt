@@ -1,5 +1,6 @@
 -- The report after every list of trays, call by call.
-use Rattle.std.proofs.Common.{◌≡◌, ℕ, zero, suc, ◌+◌, List, [], ◌∷◌, ◌++◌, length, take, sym, refl, ap, ◌∙◌, subst, ap₂, append_assoc, append-nil, arith, length-append}
+use Rattle.std.proofs.Common.{◌≡◌, ℕ, zero, suc, ◌+◌, List, [], ◌∷◌, ◌++◌, length, take, sym, refl, ap, ◌∙◌, subst, ap₂}
+use Rattle.std.proofs.Common.{append_assoc, append-nil, arith, length-append}
 use Rattle.sittings.specs.Report.{max_sittings, report_of}
 use Rattle.sittings.specs.EveryList.{HandedIn, no_more, one_more, returned_for, EveryList}
 use Rattle.sittings.proofs.ReportLaws.{report-first}

@@ -1,5 +1,7 @@
 -- Figures added, and where they stand in a report.
-use Rattle.std.proofs.Common.{◌≡◌, ℕ, ◌+◌, ◌%◌, ◌<◌, ◌≤◌, true, false, eqb, leb, List, [], ◌∷◌, ◌++◌, length, get_or, set, sym, refl, ap, ◌∙◌, ⊎_elim, add-zero, arith, length-append, eqb-true, le-leb, leb-false, leb-true}
+use Rattle.std.proofs.Common.{◌≡◌, ℕ, ◌+◌, ◌%◌, ◌<◌, ◌≤◌, true, false, eqb, leb, List, [], ◌∷◌, ◌++◌, length, get_or}
+use Rattle.std.proofs.Common.{set, sym, refl, ap, ◌∙◌, ⊎_elim, add-zero, arith, length-append, eqb-true, le-leb}
+use Rattle.std.proofs.Common.{leb-false, leb-true}
 use native.Mathlib.Numerals.{towards_suc}
 use borrow.Author.Tests.{eqb-false}
 use Rattle.rules.specs.Sound.{IsParty}

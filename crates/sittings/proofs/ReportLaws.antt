@@ -1,5 +1,8 @@
 -- The report over trays, and over one more.
-use Rattle.std.proofs.Common.{◌≡◌, ℕ, zero, suc, ◌+◌, ◌*◌, ◌%◌, ◌<◌, ◌≤◌, Bool, true, false, cond, not, eqb, List, [], ◌∷◌, ◌++◌, map, length, get_or, set, sym, refl, ap, ◌∙◌, subst, ap₂, ⊎_elim, arith, length-append, length-set, get_or-set_other, get_or-set_same, drop-set-lt, eq-eqb, ne_eqb, eqb-true}
+use Rattle.std.proofs.Common.{◌≡◌, ℕ, zero, suc, ◌+◌, ◌*◌, ◌%◌, ◌<◌, ◌≤◌, Bool, true, false, cond, not, eqb, List, []}
+use Rattle.std.proofs.Common.{◌∷◌, ◌++◌, map, length, get_or, set, sym, refl, ap, ◌∙◌, subst, ap₂, ⊎_elim, arith}
+use Rattle.std.proofs.Common.{length-append, length-set, get_or-set_other, get_or-set_same, drop-set-lt, eq-eqb, ne_eqb}
+use Rattle.std.proofs.Common.{eqb-true}
 use mathlib.Core.List.{map-append}
 use borrow.Author.Tests.{eqb-false, not-false}
 use Rattle.rules.specs.Lists.{filterb, anyb, joined}
@@ -229,7 +232,8 @@ module _ (ws tray : List ℕ) where
         fine : passed tray ≡ true
         fine = eq-eqb (tray_refusal tray) 0 (sym judged ∙ z)
 
-        figures_more : (trays : List (List ℕ)) → length trays < max_sittings → ws ≡ report_of trays → (p : ℕ) → IsParty p
+        figures_more : (trays : List (List ℕ)) → length trays < max_sittings → ws ≡ report_of trays → (p : ℕ)
+            → IsParty p
             → figures_at after p ≡ over_all p (sittings (trays ++ (tray ∷ [])))
         figures_more trays k e p i =
             let before = same-figures p ∙ ap (λ x. figures_at x p) e ∙ report-figures trays p i in

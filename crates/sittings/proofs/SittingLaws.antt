@@ -1,5 +1,7 @@
 -- A tray's frames run one after another, and what is noted of them.
-use Rattle.std.proofs.Common.{◌≡◌, ℕ, zero, suc, ◌+◌, ◌*◌, ◌%◌, ◌<◌, ◌≤◌, false, List, [], ◌∷◌, ◌++◌, map, length, get_or, take, drop, replicate, sym, refl, ap, ◌∙◌, subst, ap₂, add-one, arith, get_or-drop}
+use Rattle.std.proofs.Common.{◌≡◌, ℕ, zero, suc, ◌+◌, ◌*◌, ◌%◌, ◌<◌, ◌≤◌, false, List, [], ◌∷◌, ◌++◌, map, length}
+use Rattle.std.proofs.Common.{get_or, take, drop, replicate, sym, refl, ap, ◌∙◌, subst, ap₂, add-one, arith}
+use Rattle.std.proofs.Common.{get_or-drop}
 use mathlib.Core.Path.{subst⁻¹}
 use mathlib.Core.List.Memᴰ
 use lib.ListN.{get_or-replicate}

@@ -1,6 +1,7 @@
 -- The figures of a sitting are small: at most 2,000 frames, each with at most 25 records; and the waits of a party do
 -- not overlap, so that together they are no longer than the tray's ticks.
-use Rattle.std.proofs.Common.{◌≡◌, ℕ, ◌+◌, ◌-◌, ◌*◌, ◌%◌, ◌<◌, ◌≤◌, Bool, true, false, cond, ◌&&◌, eqb, List, [], ◌∷◌, ◌++◌, length, refl, ap, true≢false, arith, length-append}
+use Rattle.std.proofs.Common.{◌≡◌, ℕ, ◌+◌, ◌-◌, ◌*◌, ◌%◌, ◌<◌, ◌≤◌, Bool, true, false, cond, ◌&&◌, eqb, List, [], ◌∷◌}
+use Rattle.std.proofs.Common.{◌++◌, length, refl, ap, true≢false, arith, length-append}
 use Rattle.rules.specs.declared.Record.{Record}
 use Rattle.rules.specs.Lists.{anyb}
 use Rattle.rules.specs.Numbers.{step_area, step_records, max_frames, kind_ticked}

@@ -1,12 +1,16 @@
 -- What records and look-ups add to a party's figures, one after another; and what is still to come of a history.
-use Rattle.std.proofs.Common.{◌≡◌, ℕ, suc, ◌+◌, ◌-◌, ◌*◌, ◌<◌, ◌≤◌, Bool, true, false, cond, not, ◌&&◌, ◌||◌, eqb, ltb, leb, List, [], ◌∷◌, ◌++◌, length, get_or, take, set, sym, refl, ap, ◌∙◌, subst, ⊎_elim, true≢false, add-one, arith, take_all, take-suc, ltb-false, ltb-true, le-ltb, lt-ltb, eq-eqb, ne_eqb, eqb-true, le-leb, leb-true}
+use Rattle.std.proofs.Common.{◌≡◌, ℕ, suc, ◌+◌, ◌-◌, ◌*◌, ◌<◌, ◌≤◌, Bool, true, false, cond, not, ◌&&◌, ◌||◌, eqb, ltb}
+use Rattle.std.proofs.Common.{leb, List, [], ◌∷◌, ◌++◌, length, get_or, take, set, sym, refl, ap, ◌∙◌, subst, ⊎_elim}
+use Rattle.std.proofs.Common.{true≢false, add-one, arith, take_all, take-suc, ltb-false, ltb-true, le-ltb, lt-ltb}
+use Rattle.std.proofs.Common.{eq-eqb, ne_eqb, eqb-true, le-leb, leb-true}
 use mathlib.Core.Path.{subst⁻¹}
 use native.Mathlib.Numerals.{add-two}
 use borrow.Author.Tests.{eqb-false}
 use lib.Seq.{sets}
 use Rattle.rules.specs.declared.Record.{Record}
 use Rattle.rules.specs.Lists.{anyb, filterb}
-use Rattle.rules.specs.Numbers.{max_party, kind_found, kind_nothing, kind_exception, kind_aborted, kind_waiting, kind_refused}
+use Rattle.rules.specs.Numbers.{max_party, kind_found, kind_nothing, kind_exception, kind_aborted, kind_waiting}
+use Rattle.rules.specs.Numbers.{kind_refused}
 use Rattle.rules.specs.Numbers.{record_size}
 use Rattle.rules.specs.Frame.{decode, is_look_up}
 use Rattle.rules.specs.Records.{plain, record_at}
@@ -22,7 +26,8 @@ use Rattle.sittings.specs.declared.figures.Figures.{Figures}
 use Rattle.sittings.specs.declared.waits.Wait.{Wait}
 use Rattle.sittings.specs.Waits.{ticks, is_of, waits, waited, waits_of, asked_by, founds_of}
 use Rattle.sittings.specs.Figures.{figures_for, plus, only, Gained}
-use Rattle.sittings.specs.Watch.{a_wait, wait_at, wait_words, put_wait, one, is_found_of, is_closed, heard_of, wait_after}
+use Rattle.sittings.specs.Watch.{a_wait, wait_at, wait_words, put_wait, one, is_found_of, is_closed, heard_of}
+use Rattle.sittings.specs.Watch.{wait_after}
 use Rattle.sittings.specs.Watch.{asked_of, begun, begins_if, gain_of, next_wait, pending, rest_of, left_of, Heard}
 use Rattle.sittings.specs.Watch.{Asked, Noted, Stand}
 use Rattle.sittings.proofs.FigureLaws.{figures-same, figures-plus, plus_none, none-plus, gained-none}
@@ -241,7 +246,8 @@ pub count-all : (q : Record → Bool) {area : List ℕ} {n : ℕ} {rs : List Rec
 count-all q i s h = ap (count q) (stand-all i s h)
 
 pub heard-next : {clock : ℕ} {r os r' os' r'' os'' area : List ℕ} {n : ℕ} {rs : List Record} (i : ℕ)
-    → Stand area n rs → i < n → Heard clock r os (take i rs) r' os' → {a : Record} → a ≡ record_at area (record_size * i)
+    → Stand area n rs → i < n → Heard clock r os (take i rs) r' os' → {a : Record} → a
+        ≡ record_at area (record_size * i)
     → Heard clock r' os' (a ∷ []) r'' os'' → Heard clock r os (take (i + 1) rs) r'' os''
 heard-next {clock} {r} {os} {r'' = r''} {os''} {rs = rs} i s h x e y =
     subst⁻¹ (λ qs. Heard clock r os qs r'' os'') (stand-next i s h ∙ ap (λ a. take i rs ++ (a ∷ [])) (sym e))
@@ -324,7 +330,8 @@ module _ (l : Logged) {op party : ℕ} (is-op : op ≡ (decode l.frame).op)
   pub asked-waits : {clock k n txn : ℕ} {r os r' os' : List ℕ} {g : Figures} → is_look_up op ≡ true
       → k ≡ one (not (was_refused l.records)) → g ≡ figures_for k 0 [] → Gained r (only party g) r'
       → n ≡ count (λ (a : Record). eqb a.kind kind_waiting) l.records → (n ≡ 0 → ⊥) → txn ≡ (decode l.frame).txn
-      → ((q : ℕ) → wait_at os' q ≡ cond (eqb party q) (a_wait true clock txn) (wait_at os q)) → Asked clock r os l r' os'
+      → ((q : ℕ) → wait_at os' q ≡ cond (eqb party q) (a_wait true clock txn) (wait_at os q))
+          → Asked clock r os l r' os'
   asked-waits {clock} {n = n} {txn} {os = os} t e x gained c d z left =
       asked_so {b = true} t e x gained (said n c ∙ ap not (ne_eqb n 0 d))
       (λ q. left q ∙ go (eqb party q) q ∙ ap (λ i. cond (eqb party q && true) (a_wait true clock i) (wait_at os q)) z)

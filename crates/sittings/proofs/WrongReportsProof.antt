@@ -41,7 +41,8 @@ abbrev count : ℕ
 count = 6
 
 pub wrong_reports : WrongReports
-unfolding all-trays was_refused log_from records_of sitting waits waited waits_of asked_by founds_of sum greatest sittings
+unfolding all-trays was_refused log_from records_of sitting waits waited waits_of asked_by founds_of sum greatest
+    sittings
     figures report_of waits_by ticks_up_to ticks_before last report_by handed_in pair_bytes tray_of
 wrong_reports =
     record {
@@ -60,7 +61,8 @@ wrong_reports =
       -- created; waiting; ticked, exception; ticked
       exception_unseen = λ keeps.
           let fs = create_by 1 1 ∷ read_by 1 1 5 7 ∷ a_tick ∷ a_tick ∷ [] in
-          let z : ◌≡◌ {A = ℕ} 2 1 = same_word (end_unseen kind_exception) keeps (tray_of fs) longest in omega (arith, z);
+          let z : ◌≡◌ {A = ℕ} 2 1 = same_word (end_unseen kind_exception) keeps (tray_of fs) longest in omega
+              (arith, z);
       -- created; waiting; aborted; ticked
       abort_unseen = λ keeps.
           let fs = create_by 1 9 ∷ read_by 1 1 5 7 ∷ abort_by 1 1 ∷ a_tick ∷ [] in
@@ -79,7 +81,8 @@ wrong_reports =
       last_wait_lem = λ keeps.
           let fs = read_by 1 0 2 7 ∷ a_tick ∷ a_tick ∷ read_by 1 0 1 7 ∷ a_tick ∷ [] in
           let z : ◌≡◌ {A = ℕ} 1 2 = same_word last_wait keeps (tray_of fs) longest in omega (arith, z);
-      refused_unseen_lem = λ keeps. let z : ◌≡◌ {A = ℕ} 0 1 = same_word refused_unseen keeps bad_tray 0 in omega (arith, z);
+      refused_unseen_lem = λ keeps. let z : ◌≡◌ {A = ℕ} 0 1 = same_word refused_unseen keeps bad_tray 0 in omega
+          (arith, z);
       one_too_many = λ tray after a. omega (arith, (a.full (omega arith)).0);
       refused_first = λ after a. omega (arith, (a.full (omega arith)).0);
       full_and_changed = λ tray a.

@@ -1,5 +1,6 @@
 -- The report over trays, and what handing one in does to it (document 02, T-14).
-use Rattle.std.specs.Prelude.{◌≡◌, ℕ, ◌+◌, ◌*◌, ◌<◌, ◌≤◌, Bool, true, false, cond, List, [], ◌∷◌, ◌++◌, map, length, drop, ◌==◌, ◌≢◌, nat_eq, nat_le, slice_index, slice_index_or}
+use Rattle.std.specs.Prelude.{◌≡◌, ℕ, ◌+◌, ◌*◌, ◌<◌, ◌≤◌, Bool, true, false, cond, List, [], ◌∷◌, ◌++◌, map, length}
+use Rattle.std.specs.Prelude.{drop, ◌==◌, ◌≢◌, nat_eq, nat_le, slice_index, slice_index_or}
 use Rattle.rules.specs.Lists.{filterb, joined}
 use Rattle.rules.specs.Numbers.{sittings_refused}
 use Rattle.rules.specs.Tray.{tray_refusal}

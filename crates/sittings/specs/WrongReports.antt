@@ -1,5 +1,6 @@
 -- Wrong reports: the contract, `Added`, rules out each.
-use Rattle.std.specs.Prelude.{ℕ, ◌+◌, ◌*◌, ◌<◌, Bool, cond, not, ◌&&◌, List, [], ◌∷◌, ◌++◌, map, length, ◌==◌, nat_eq, nat_le}
+use Rattle.std.specs.Prelude.{ℕ, ◌+◌, ◌*◌, ◌<◌, Bool, cond, not, ◌&&◌, List, [], ◌∷◌, ◌++◌, map, length, ◌==◌, nat_eq}
+use Rattle.std.specs.Prelude.{nat_le}
 use Rattle.rules.specs.declared.Record.{Record}
 use Rattle.rules.specs.Lists.{anyb, filterb, joined}
 use Rattle.rules.specs.Numbers.{kind_exception, kind_aborted, tray_refused, sittings_refused}

@@ -16,12 +16,14 @@ use Rattle.rules.specs.Time.{until, reached}
 use Rattle.rules.specs.Template.{mark_of}
 use Rattle.rules.specs.State.{Model}
 use Rattle.rules.specs.Holds.{available}
-use Rattle.rules.specs.Frame.{Frame, entry_named, is_write, is_look_up, is_create, is_commit, is_renew, is_notify, is_tick}
+use Rattle.rules.specs.Frame.{Frame, entry_named, is_write, is_look_up, is_create, is_commit, is_renew, is_notify}
+use Rattle.rules.specs.Frame.{is_tick}
 use Rattle.rules.specs.Records.{written, found, nothing, waiting, created, committed, aborted, exception, ticked}
 use Rattle.rules.specs.Records.{renewed, notified, rung, refused, is_ticked}
 use Rattle.rules.specs.Write.{new_entry, stored}
 use Rattle.rules.specs.LookUp.{look_up_of}
-use Rattle.rules.specs.Transactions.{free_slot, create, is_private_to, is_taken_by, released, without_txn, commit, abort}
+use Rattle.rules.specs.Transactions.{free_slot, create, is_private_to, is_taken_by, released, without_txn, commit}
+use Rattle.rules.specs.Transactions.{abort}
 use Rattle.rules.specs.Renew.{has_number, ending_at, renew_entries, renew}
 use Rattle.rules.specs.Notify.{new_registration, notify, made_public, hearing, heard_of}
 use Rattle.rules.specs.Tick.{tick, unregistered, drop_ended}

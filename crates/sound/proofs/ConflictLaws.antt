@@ -18,7 +18,8 @@ use Rattle.rules.specs.State.{Model}
 use Rattle.rules.specs.Template.{matches}
 use Rattle.rules.specs.Holds.{live_txn, add_reader_of, drop_reader_of, read_by_other, is_other, available, available_if}
 use Rattle.rules.specs.Holds.{others_if, conflicts, some_conflicts, oldest}
-use Rattle.rules.specs.LookUp.{removes, marked, hand_out, look_up_of, answer, answer_found, answer_nothing, answer_waiting}
+use Rattle.rules.specs.LookUp.{removes, marked, hand_out, look_up_of, answer, answer_found, answer_nothing}
+use Rattle.rules.specs.LookUp.{answer_waiting}
 use Rattle.rules.specs.LookUp.{gives_nothing, look_up}
 use Rattle.rules.specs.Sound.{TxnsOk, Ahead, Hopeful, Sound}
 use Rattle.rules.specs.Time.{until}

@@ -17,7 +17,8 @@ use Rattle.rules.specs.Numbers.{forever, last_clock, max_txns, max_registrations
 use Rattle.rules.specs.Time.{until, reached, EndFits}
 use Rattle.rules.specs.State.{Model, with_entries, with_waits}
 use Rattle.rules.specs.Holds.{available, some_available, some_conflicts}
-use Rattle.rules.specs.Frame.{Frame, decode, is_write, is_look_up, is_create, is_commit, is_abort, is_tick, has_lease_or_timeout}
+use Rattle.rules.specs.Frame.{Frame, decode, is_write, is_look_up, is_create, is_commit, is_abort, is_tick}
+use Rattle.rules.specs.Frame.{has_lease_or_timeout}
 use Rattle.rules.specs.Frame.{ends_txn, is_renew, is_notify, names_entry, entry_named}
 use Rattle.rules.specs.Records.{written, found, nothing, waiting, created, committed, aborted, exception, ticked}
 use Rattle.rules.specs.Records.{renewed, notified, rung, refused}

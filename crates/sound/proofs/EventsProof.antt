@@ -15,7 +15,8 @@ use Rattle.rules.specs.declared.Record.{Record}
 use Rattle.rules.specs.declared.Txn.{Txn}
 use Rattle.rules.specs.declared.LookUp.{LookUp}
 use Rattle.rules.specs.declared.Registration.{Registration}
-use Rattle.rules.specs.Numbers.{forever, last_clock, max_txns, max_registrations, area_refused, kind_refused, kind_found}
+use Rattle.rules.specs.Numbers.{forever, last_clock, max_txns, max_registrations, area_refused, kind_refused}
+use Rattle.rules.specs.Numbers.{kind_found}
 use Rattle.rules.specs.Numbers.{kind_nothing}
 use Rattle.rules.specs.Lists.{filterb, All}
 use Rattle.rules.specs.Time.{until, reached, EndFits}
@@ -149,7 +150,8 @@ admitted m bs area c lasts =
           (or_right numbered notified c.numbers));
     }
 
--- a look_up_lem that is over is given nothing with reason; one that is not has its deadline ahead, and an IfExists kind a
+-- a look_up_lem that is over is given nothing with reason; one that is not has its deadline ahead, and an IfExists kind
+-- a
 -- conflicting entry
 pub over_is : (m : Model) (w : LookUp) → is_over m w ≡ true → Closes m w
 unfolding is_over
@@ -266,7 +268,8 @@ serve-lasting clock ts =
     (λ es w ws e q below h. below
     (cond_cases (All lasts) (removes w e) (λ _. all_filter (λ x. not (is_entry e x)) es (λ x i _. h x i))
     (λ _. all_map lasts (λ x. cond (is_entry e x) (marked ts w x) x) es
-    (λ x i. cond_cases lasts (is_entry e x) (λ _. mark_cases ts w x lasts (λ _. h x i) (λ b _ _. h x i)) (λ _. h x i)))))
+    (λ x i. cond_cases lasts (is_entry e x) (λ _. mark_cases ts w x lasts (λ _. h x i) (λ b _ _. h x i))
+        (λ _. h x i)))))
   where
     lasts : Entry → Type 0
     lasts e = reached clock e.end ≡ false
@@ -278,7 +281,8 @@ serve-founds ts =
     serve_ind ts (λ es ws r. All (λ a. a.kind ≡ kind_found) r.records)
     (λ es. all_none (λ a. a.kind ≡ kind_found)) (λ es w ws q below. below) (λ es w ws x q below. all_cons refl below)
 
--- a record is the nothing of a look_up_lem that waited on and is over; or that of the frame's own look_up_lem, answered at once
+-- a record is the nothing of a look_up_lem that waited on and is over; or that of the frame's own look_up_lem, answered
+-- at once
 abbrev pub Shut : Model → Record → Type 0
 Shut n a = (w : LookUp) × Memᴰ w n.waits × (nothing w ≡ a) × (is_over n w ≡ true)
 
@@ -491,7 +495,8 @@ module _ (f : Frame) (m : Model) (a : Admitted f m)
   silent c w k = inl (none-rung m f w k)
 
   pub carries : is_operation f.op ≡ true → Carries f m (carried_out m f).records (carried_out m f).model
-  unfolding carried_out write_frame write stored heard_of look_up create commit_frame commit abort_frame renew notify tick
+  unfolding carried_out write_frame write stored heard_of look_up create commit_frame commit abort_frame renew notify
+      tick
       unregistered written created committed aborted renewed notified ticked
   carries is =
       let w = look_up_of m f in

@@ -16,7 +16,8 @@ use Rattle.rules.specs.declared.LookUp.{LookUp}
 use Rattle.rules.specs.Time.{reached}
 use Rattle.rules.specs.State.{Model, empty}
 use Rattle.rules.specs.Template.{matches}
-use Rattle.rules.specs.Holds.{live_txn, drop_reader_of, read_by_other, visible, available, some_available, some_conflicts}
+use Rattle.rules.specs.Holds.{live_txn, drop_reader_of, read_by_other, visible, available, some_available}
+use Rattle.rules.specs.Holds.{some_conflicts}
 use Rattle.rules.specs.Frame.{Frame, decode, is_look_up, is_tick, serves}
 use Rattle.rules.specs.Write.{new_entry, stored}
 use Rattle.rules.specs.LookUp.{look_up_of}

@@ -10,7 +10,8 @@ use Rattle.rules.specs.declared.Entry.{Entry}
 use Rattle.rules.specs.declared.Txn.{Txn}
 use Rattle.rules.specs.declared.LookUp.{LookUp}
 use Rattle.rules.specs.Template.{bit}
-use Rattle.rules.specs.Holds.{live_txn, add_reader, drop_reader, add_reader_of, drop_reader_of, available, some_available}
+use Rattle.rules.specs.Holds.{live_txn, add_reader, drop_reader, add_reader_of, drop_reader_of, available}
+use Rattle.rules.specs.Holds.{some_available}
 use Rattle.rules.specs.LookUp.{removes, marked, is_entry, hand_out}
 use Rattle.rules.specs.Service.{serve}
 use Rattle.rules.proofs.ListLaws.{find_some, none_any, none_mem, all_false}

@@ -13,7 +13,8 @@ use Rattle.rules.specs.declared.Request.TheVariants.{Write, Find, Create, Notify
 use Rattle.rules.specs.Numbers.{forever, last_clock, max_entries, max_txns, max_registrations}
 use Rattle.rules.specs.State.{Model}
 use Rattle.rules.specs.Frame.{Frame, layout_of}
-use Rattle.rules.specs.Refusals.{too_late, entries_full, txns_full, registrations_full, no_number, admission_rows, room_rows}
+use Rattle.rules.specs.Refusals.{too_late, entries_full, txns_full, registrations_full, no_number, admission_rows}
+use Rattle.rules.specs.Refusals.{room_rows}
 use Rattle.rules.specs.Requests.{frame, frame_of, space_refusal}
 use Rattle.rules.proofs.BoolLaws.{and_false_right, or_left}
 use Rattle.rules.proofs.RefusalLaws.{test_at, none_applies}
@@ -22,7 +23,8 @@ use Rattle.judge.specs.Judge.{late}
 use Rattle.rules.proofs.LookUpKinds.{kind_cases}
 
 -- none of the rows applies: 10 to 12, 17 and 13 stand at the places 7 to 11
-passed : (m : Model) (f : Frame) → space_refusal m f ≡ 0 → (k : ℕ) → test_at (admission_rows m f ++ room_rows m f) k ≡ false
+passed : (m : Model) (f : Frame) → space_refusal m f ≡ 0 → (k : ℕ) → test_at (admission_rows m f ++ room_rows m f) k
+    ≡ false
 unfolding space_refusal
 passed m f e k = none_applies (admission_rows m f ++ room_rows m f) refl e k
 

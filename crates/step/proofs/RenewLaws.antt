@@ -9,7 +9,8 @@ use lib.Dec.{eqb, ltb}
 use lib.ListN.{length, get_or}
 use Rattle.rules.specs.declared.Entry.{Entry}
 use Rattle.rules.specs.declared.EntryId.{EntryId}
-use Rattle.rules.specs.Numbers.{forever, last_clock, waiting_refused, no_entry_refused, clock_refused, not_writer_refused}
+use Rattle.rules.specs.Numbers.{forever, last_clock, waiting_refused, no_entry_refused, clock_refused}
+use Rattle.rules.specs.Numbers.{not_writer_refused}
 use Rattle.rules.specs.Numbers.{held_refused}
 use Rattle.rules.specs.State.{Model}
 use Rattle.rules.specs.Frame.{layout_of}
@@ -35,7 +36,8 @@ module _ (m : Model) (party : ℕ) (id : EntryId) (lease : ℕ) where
   judged_so : (o : Option Entry) → stored_entry id.0 m.entries ≡ o
       → space_refusal m (frame_of (renew_of party id lease))
       ≡ cond (party_waiting party 0 m.waits) waiting_refused (by_entry o)
-  unfolding space_refusal no_entry not_writer not_free party_waits not_live not_own no_lease too_late entries_full txns_full
+  unfolding space_refusal no_entry not_writer not_free party_waits not_live not_own no_lease too_late entries_full
+      txns_full
       registrations_full no_number layout_of entry_refusal
   judged_so none e = rw e
   judged_so (some x) e = rw (e, or-false (late m.clock lease))

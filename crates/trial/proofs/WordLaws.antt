@@ -82,7 +82,8 @@ all-bytes [] = refl
 all-bytes (a ∷ rs) = ap₂ (λ x y. x ++ y) (in_bytes a) (all-bytes rs)
 
 -- the records of a step, read back from the area
-pub records_back : (rs : List Record) (rest : List ℕ) → records_at (answer_bytes rs ++ rest) (length rs) ≡ map in_record rs
+pub records_back : (rs : List Record) (rest : List ℕ) → records_at (answer_bytes rs ++ rest) (length rs)
+    ≡ map in_record rs
 records_back rs rest =
     up_to_ext (λ i. record_at (answer_bytes rs ++ rest) (record_size * i)) (λ i. get_or ys i d) (length rs) each
     ∙ ap (up_to (λ i. get_or ys i d)) (sym (length-map rs in_record))

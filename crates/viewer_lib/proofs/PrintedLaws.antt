@@ -89,7 +89,8 @@ pub none_printed : (area old : List ℕ) → Prints true (record_texts 0 area) o
 unfolding record_texts
 none_printed area old = record { bytes = refl; count = refl }
 
-texts_suc : (n : ℕ) (bs : List ℕ) → record_texts (suc n) bs ≡ record_texts n bs ++ record_text (drop (record_size * n) bs)
+texts_suc : (n : ℕ) (bs : List ℕ) → record_texts (suc n) bs ≡ record_texts n bs
+    ++ record_text (drop (record_size * n) bs)
 unfolding record_texts
 texts_suc zero bs = append-nil (record_text bs)
 texts_suc (suc n) bs =

@@ -9,7 +9,8 @@ use native.Mathlib.Nat.{add-zero, mul-suc, mul-le-mul_left}
 use borrow.Author.Tests.{ltb-true, leb-true, eqb-false, not-true}
 use lib.Dec.{ltb, leb, eqb}
 use lib.ListN.{length, get_or, take, drop, set, length-set, length-take, length-drop, take-append-drop}
-use lib.Seq.{get_or-set_same, get_or-set_other, get_or-take, get_or-drop, drop_at, take_at, take-add, length-take-le, ext_get_or}
+use lib.Seq.{get_or-set_same, get_or-set_other, get_or-take, get_or-drop, drop_at, take_at, take-add, length-take-le}
+use lib.Seq.{ext_get_or}
 use lib.Seq.{sets}
 use lib.Seq.{sets-eq, length-sets}
 use Rattle.rules.specs.Words.{row}
@@ -78,7 +79,8 @@ pub moved_word : (ws : List ℕ) (f t n j : ℕ) → t ≤ f → f + n ≤ lengt
     → get_or (move_words ws f t n) (t + j) 0 ≡ get_or ws (f + j) 0
 moved_word ws f t n j h l p =
     let long = length-take-le n (drop f ws) (omega (arith, length-drop f ws)) in
-    sets_in (take n (drop f ws)) ws t j (omega arith) (omega arith) ∙ get_or-take n (drop f ws) j 0 p ∙ get_or-drop f ws j 0
+    sets_in (take n (drop f ws)) ws t j (omega arith) (omega arith) ∙ get_or-take n (drop f ws) j 0 p
+        ∙ get_or-drop f ws j 0
 
 -- words that are moved to the front: those that are still to be moved stand where they stood
 pub move_more : (ws : List ℕ) (f t n k : ℕ) → t ≤ f → f + n ≤ length ws → k < n

@@ -17,13 +17,19 @@ use Rattle.rules.specs.declared.Txn.{Txn}
 use Rattle.rules.specs.declared.TxnId.{TxnId}
 use Rattle.rules.specs.Frame.{is_take, is_if_exists, look_up_op}
 use Rattle.rules.specs.Numbers.{forever, max_entries, max_txns, max_waits, max_registrations}
-use Rattle.rules.specs.State.{Model, holding, with_entries, with_txns, with_waits, with_clock, with_next_entry, with_next_txn}
+use Rattle.rules.specs.State.{Model, holding, with_entries, with_txns, with_waits, with_clock, with_next_entry}
+use Rattle.rules.specs.State.{with_next_txn}
 use Rattle.rules.specs.State.{with_registrations, with_next_registration}
-use Rattle.rules.specs.Words.{registration_words, registration_of, registrations, next_registration_at, registration_count_at}
-use Rattle.rules.specs.Words.{registration_count, registrations_at, registration_width, until_of, until_word, entry_words}
-use Rattle.rules.specs.Words.{txn_words, wait_words, entry_of, txn_of, wait_of, entries, row, txns, waits, view, clock_at}
-use Rattle.rules.specs.Words.{next_entry_at, next_txn_at, entry_count_at, txn_count_at, wait_count_at, entry_count, txn_count}
-use Rattle.rules.specs.Words.{wait_count, entries_at, entry_width, txns_at, txn_width, waits_at, wait_width, space_words}
+use Rattle.rules.specs.Words.{registration_words, registration_of, registrations, next_registration_at}
+use Rattle.rules.specs.Words.{registration_count_at}
+use Rattle.rules.specs.Words.{registration_count, registrations_at, registration_width, until_of, until_word}
+use Rattle.rules.specs.Words.{entry_words}
+use Rattle.rules.specs.Words.{txn_words, wait_words, entry_of, txn_of, wait_of, entries, row, txns, waits, view}
+use Rattle.rules.specs.Words.{clock_at}
+use Rattle.rules.specs.Words.{next_entry_at, next_txn_at, entry_count_at, txn_count_at, wait_count_at, entry_count}
+use Rattle.rules.specs.Words.{txn_count}
+use Rattle.rules.specs.Words.{wait_count, entries_at, entry_width, txns_at, txn_width, waits_at, wait_width}
+use Rattle.rules.specs.Words.{space_words}
 use Rattle.rules.proofs.NumberLaws.{three_bytes}
 use Rattle.rules.proofs.BoolLaws.{cond_cases}
 use Rattle.words.specs.Rows.{entry_row, txn_row, wait_row, registration_row, field_at, FitsWord, byte_values}
@@ -109,7 +115,8 @@ module _ (ws : List ℕ) (v : ℕ) (l : length ws ≡ space_words) where
       view_but (but_set next_entry_at 0 0 ws v) ∙ ap (λ n. with_next_entry n (view ws)) (new next_entry_at (lit< tt))
 
   pub view-next-txn : view (set ws next_txn_at v) ≡ with_next_txn v (view ws)
-  view-next-txn = view_but (but_set next_txn_at 0 0 ws v) ∙ ap (λ n. with_next_txn n (view ws)) (new next_txn_at (lit< tt))
+  view-next-txn = view_but (but_set next_txn_at 0 0 ws v)
+      ∙ ap (λ n. with_next_txn n (view ws)) (new next_txn_at (lit< tt))
 
   pub view-next_registration : view (set ws next_registration_at v) ≡ with_next_registration v (view ws)
   view-next_registration =
@@ -165,7 +172,8 @@ unfolding entry_of
 field_word ws i k h =
     go k h ∙ row_word entries_at entry_width i (1 + k) ws (omega arith) ∙ ap (λ j. get_or ws j 0) (omega arith)
   where
-    go : (k : ℕ) → k < 4 → field_at k (bare (entry_row ws i).fields) ≡ get_or (row entries_at entry_width ws i) (1 + k) 0
+    go : (k : ℕ) → k < 4 → field_at k (bare (entry_row ws i).fields)
+        ≡ get_or (row entries_at entry_width ws i) (1 + k) 0
     go zero h = refl
     go (suc zero) h = refl
     go (suc (suc zero)) h = refl

@@ -4,7 +4,8 @@ ghost use Rattle.std.specs.Prelude.{◌≡◌, ◌+◌, ◌*◌, ◌≤◌, ◌<
 ghost use Rattle.std.proofs.lemmas.List.Edits.{sets};
 ghost use Rattle.rules.specs.Frame.{is_take, is_if_exists, look_up_op};
 ghost use Rattle.rules.specs.Numbers.{max_entries, max_txns, max_waits, max_registrations};
-ghost use Rattle.rules.specs.State.{empty, with_entries, with_txns, with_waits, with_registrations, with_clock, with_next_entry};
+ghost use Rattle.rules.specs.State.{empty, with_entries, with_txns, with_waits, with_registrations, with_clock};
+ghost use Rattle.rules.specs.State.{with_next_entry};
 ghost use Rattle.rules.specs.State.{with_next_txn, with_next_registration};
 ghost use Rattle.rules.specs.Template.{bare};
 ghost use Rattle.rules.specs.Words.{until_of, until_word, entry_count, txn_count, wait_count, registration_count, view};

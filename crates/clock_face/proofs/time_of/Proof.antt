@@ -15,7 +15,8 @@ returns-2 : tie.Need-returns-then-place-lt-MINUTES
 unfolding time_of_place hour_of minute_of
 returns-2 c =
     let p = c.args.place in
-    rw (lt-ltb p places c.if-place-ge-PLACES.false, lt-ltb p 60 c.if-place-lt-MINUTES.true) (omega (arith, c.if-place-lt-MINUTES.true))
+    rw (lt-ltb p places c.if-place-ge-PLACES.false, lt-ltb p 60 c.if-place-lt-MINUTES.true)
+        (omega (arith, c.if-place-lt-MINUTES.true))
 
 returns-3 : tie.Need-returns
 unfolding time_of_place hour_of minute_of

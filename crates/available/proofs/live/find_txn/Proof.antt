@@ -48,5 +48,6 @@ returns-2 c =
 pub find_txn_spec : {M : Type 1} → statement M
 find_txn_spec =
     tie.close
-    (tie.spec invariant-loop decreases-loop (λ c κs. tt) (λ c. (omega arith, search_start)) (λ c κs. omega arith) returns
+    (tie.spec invariant-loop decreases-loop (λ c κs. tt) (λ c. (omega arith, search_start)) (λ c κs. omega arith)
+        returns
     (λ c. omega arith) (λ c. omega arith) loop-again returns-2)

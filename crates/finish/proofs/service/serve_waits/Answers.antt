@@ -1,4 +1,5 @@
--- `finish::service::serve_waits`: each look-up in turn finds an entry, or waits on. In the search for its entry the turns
+-- `finish::service::serve_waits`: each look-up in turn finds an entry, or waits on. In the search for its entry the
+-- turns
 -- so far stand still (`turns-still`), and it is the turn of one that waits (`same_turn`).
 use Rattle.std.proofs.Common.{refl, arith}
 use Rattle.words.proofs.SearchLaws.{from_start}

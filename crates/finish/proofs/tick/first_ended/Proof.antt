@@ -11,7 +11,8 @@ use Rattle.finish.proofs.tick.first_ended.Statement.{statement}
 use Rattle.finish.proofs.tick.first_ended.Tie as tie
 
 abbrev invariant-loop : tie.invariant-loop-i
-invariant-loop space now n i₀ i = (i ≤ n) × Searching (λ t. reached now t.end) (txn_row space) i × (now ≡ (view space).clock)
+invariant-loop space now n i₀ i = (i ≤ n) × Searching (λ t. reached now t.end) (txn_row space) i
+    × (now ≡ (view space).clock)
 
 abbrev decreases-loop : tie.decreases-loop-i
 decreases-loop space now n i₀ i = n - i

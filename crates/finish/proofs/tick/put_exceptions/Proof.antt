@@ -1,4 +1,5 @@
--- `finish::tick::put_exceptions` meets its contract. The loop's invariant: of the transactions passed, those that end now
+-- `finish::tick::put_exceptions` meets its contract. The loop's invariant: of the transactions passed, those that end
+-- now
 -- have their exceptions. Assumes nothing.
 use Prim.Native.Nat.{ℕ, ◌≤◌, ◌-◌}
 use mathlib.Core.Bool.{Bool}
@@ -21,7 +22,8 @@ ends now t = reached now t.end
 
 abbrev invariant-loop : tie.invariant-loop-i
 invariant-loop space answers₀ count now txns done₀ i₀ answers done i =
-    (i ≤ txns) × Answered (ends now) exception (txn_row space) answers₀ answers count done i × (now ≡ (view space).clock)
+    (i ≤ txns) × Answered (ends now) exception (txn_row space) answers₀ answers count done i
+        × (now ≡ (view space).clock)
 
 abbrev decreases-loop : tie.decreases-loop-i
 decreases-loop space answers₀ count now txns done₀ i₀ answers done i = txns - i
@@ -66,6 +68,7 @@ pub put_exceptions_spec : {M : Type 1} → statement M
 put_exceptions_spec =
     tie.close
     (tie.spec
-    invariant-loop decreases-loop (λ c κs. tt) (λ c κs. tt) loop-holds (λ c κs. omega arith) (λ c. omega arith) (λ c κs. tt)
+    invariant-loop decreases-loop (λ c κs. tt) (λ c κs. tt) loop-holds (λ c κs. omega arith) (λ c. omega arith)
+        (λ c κs. tt)
     (λ c. omega arith) loop-again (λ c κs. tt) add-record-requires (λ c. omega arith) loop-again-2 same_length
     returns)

@@ -18,7 +18,8 @@ use Rattle.holds.proofs.endings.leave_waits.Statement.{statement}
 use Rattle.holds.proofs.endings.leave_waits.Tie as tie
 
 abbrev invariant-loop : tie.invariant-loop-i
-invariant-loop space₀ l count i₀ n₀ space i n = (i ≤ count) × Leaving wait_table (stays (view space₀) l) space₀ space i n
+invariant-loop space₀ l count i₀ n₀ space i n = (i ≤ count)
+    × Leaving wait_table (stays (view space₀) l) space₀ space i n
 
 abbrev decreases-loop : tie.decreases-loop-i
 decreases-loop space₀ l count i₀ n₀ space i n = count - i

@@ -46,7 +46,8 @@ returns-3 c =
     let u = sym c.is_marked.ensures ∙ c.if-is_marked.false in
     let z = eqb-true p no_slot (not-false (eqb p no_slot) (or_right a.w.takes no u)) in
     let t = sym c.is_removed.ensures ∙ c.if-is_removed.false in (
-      handed_unmarked a.space.now a.w p c.slot_of-p.ensures.0 a.e t a.row (entry_in a.space.now a.row a.e c.requires.0 ∙ sym c.requires.1) z
+      handed_unmarked a.space.now a.w p c.slot_of-p.ensures.0 a.e t a.row
+          (entry_in a.space.now a.row a.e c.requires.0 ∙ sym c.requires.1) z
           (or_left a.w.takes no u),
       c.whole.ensures,
     )

@@ -52,5 +52,6 @@ pub free_slot_spec : {M : Type 1} → statement M
 free_slot_spec =
     tie.close
     (tie.spec
-    invariant-loop decreases-loop (λ c κs. tt) (λ c. (omega arith, search_start)) (λ c κs. omega arith) returns (λ c. omega arith)
+    invariant-loop decreases-loop (λ c κs. tt) (λ c. (omega arith, search_start)) (λ c κs. omega arith) returns
+        (λ c. omega arith)
     (λ c. omega arith) loop-again returns-2)

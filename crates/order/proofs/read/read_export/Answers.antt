@@ -7,7 +7,8 @@ pub returns-then-words-eq0 : goal.returns-then-words-eq0
 returns-then-words-eq0 c = refuse c.no_export-broken.ensures (λ ts e few. no_words _ c.if-words-eq0.true ts e)
 
 pub returns-then-n-gt-MAX_TXNS : goal.returns-then-n-gt-MAX_TXNS
-returns-then-n-gt-MAX_TXNS c = refuse c.no_export-broken.ensures (too_many _ _ c.size-n.ensures.0 c.if-n-gt-MAX_TXNS.true)
+returns-then-n-gt-MAX_TXNS c = refuse c.no_export-broken.ensures
+    (too_many _ _ c.size-n.ensures.0 c.if-n-gt-MAX_TXNS.true)
 
 pub loop-t-init : goal.loop-t-init
 loop-t-init c = (omega arith, omega arith, omega arith, no_txns_read _)

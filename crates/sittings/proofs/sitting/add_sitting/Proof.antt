@@ -17,7 +17,8 @@ invariant-loop report₀ tray count space₀ hints₀ answers₀ waits₀ clock�
     × (length answers ≡ step_area)
 
 abbrev decreases-loop : tie.decreases-loop-i
-decreases-loop report₀ tray count space₀ hints₀ answers₀ waits₀ clock₀ i₀ report space hints answers waits clock i = count - i
+decreases-loop report₀ tray count space₀ hints₀ answers₀ waits₀ clock₀ i₀ report space hints answers waits clock
+    i = count - i
 
 loop-holds : tie.Need-loop-i-init invariant-loop decreases-loop
 loop-holds c =

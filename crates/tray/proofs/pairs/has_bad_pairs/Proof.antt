@@ -48,5 +48,6 @@ pub has_bad_pairs_spec : {M : Type 1} → statement M
 has_bad_pairs_spec =
     tie.close
     (tie.spec
-    invariant-loop decreases-loop (λ c κs. search rules) (λ c κs. search rules) loop-holds pair-at-requires (λ c κs. search rules)
+    invariant-loop decreases-loop (λ c κs. search rules) (λ c κs. search rules) loop-holds pair-at-requires
+        (λ c κs. search rules)
     returns (λ c. search rules) (λ c. search rules) loop-again returns-2)

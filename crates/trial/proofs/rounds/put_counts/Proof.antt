@@ -77,6 +77,7 @@ pub put_counts_spec : {M : Type 1} → statement M
 put_counts_spec =
     tie.close
     (tie.spec
-    invariant-loop decreases-loop loop-holds mul_x array_copy_out_x mul-counts mul-counts_2 slice_write-counts mul-counts_3
+    invariant-loop decreases-loop loop-holds mul_x array_copy_out_x mul-counts mul-counts_2 slice_write-counts
+    mul-counts_3
     add-counts mul-counts_4 slice_write-counts_2 mul-counts_5 add-counts_2 mul-counts_6 slice_write-counts_3 add_i
     loop-less loop-again same_length returns)
