@@ -110,7 +110,7 @@ pub record Through (fs : List (List ℕ)) (r : TrayOutcome) : Type 0 where
 
 enough : (fs : List (List ℕ)) (ahead area : ℕ) (m : Model) → Before ahead m
     → record_size * (owed m + records_from ahead fs) + (step_area - record_size) ≤ area
-        → Through fs (run_frames m area fs)
+    → Through fs (run_frames m area fs)
 unfolding run_frames
 enough [] ahead area m b h = record { number = refl; frames = refl }
 enough (f ∷ fs) ahead area m b h =

@@ -14,7 +14,7 @@ use Rattle.bounds.specs.WrongBounds.{WrongBounds}
 abbrev long : ℕ → ℕ → List ℕ
 long op time =
     (op ∷ 1 ∷ 0 ∷ 0 ∷ []) ++ four_bytes 0 ++ four_bytes time ++ four_bytes 0 ++ four_bytes 0 ++ four_bytes 0
-        ++ four_bytes 0
+    ++ four_bytes 0
 
 abbrev create : List ℕ
 create = (op_create ∷ 1 ∷ 0 ∷ 0 ∷ []) ++ four_bytes 0 ++ four_bytes 1
@@ -36,7 +36,7 @@ wrong_bounds =
       -- the notify comes behind the write
       with_all_notifies = λ same.
           let more : ◌≡◌ {A = ℕ} 3 2 = same (long op_write forever ∷ long op_notify forever ∷ []) in omega
-              (arith, more);
+          (arith, more);
       -- 28 bytes for a tick; 699
       records_alone = λ enough. let stops : ◌≡◌ {A = ℕ} 1 0 = enough (tick ∷ []) in omega (arith, stops);
       a_byte_less = λ enough. let stops : ◌≡◌ {A = ℕ} 1 0 = enough (tick ∷ tick ∷ []) in omega (arith, stops);

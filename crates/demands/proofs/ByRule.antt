@@ -100,4 +100,4 @@ module _ (S : Machine) (f : Follows S) where
   pub made-sound : {t : S.State} {log : List Logged} → Made S log t → Sound (S.view t)
   made-sound r =
       subst⁻¹ Sound (run_of r).model
-          (made_keep Sound (λ i m s. sound-step m i.frame i.area s) sound_empty (inputs_of r))
+      (made_keep Sound (λ i m s. sound-step m i.frame i.area s) sound_empty (inputs_of r))

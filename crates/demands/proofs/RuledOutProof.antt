@@ -218,7 +218,7 @@ each-ruled_out =
       puts_back_late_lem = λ d.
           let s =
           by_serial puts_back_late d (write_by 1 0 1 E ∷ create_by 1 9 ∷ take_by 1 1 0 7 ∷ a_tick ∷ abort_by 1 1 ∷ [])
-              in
+          in
           Memᴰ.not-nil ((s.same (record { number = 1; fields = mark_of 0 E; end = Tick 1 })).1
           (Memᴰ.head refl));
       own_read_bars_lem = λ d.
@@ -227,7 +227,7 @@ each-ruled_out =
       -- party 2's take is given nothing in the tick that gives the entry back
       nothing_first_lem = λ d.
           by_said nothing_first d (write_by 1 0 9 E ∷ create_by 1 1 ∷ take_by 1 1 0 7 ∷ take_by 2 0 1 7 ∷ []) a_tick
-              refl
+          refl
           refl (kind_at 2) (λ (q : 2 ≡ 3). omega arith);
       -- the found stands before the commit of what it finds: the serial run fails
       shows_private_lem = λ d.
@@ -271,7 +271,7 @@ each-ruled_out =
           let fs = create_by 1 9 ∷ take_by 1 1 9 7 ∷ abort_by 1 1 ∷ [] in
           let b =
           d.booked (log_of keeps_withdrawn empty fs) (last_of keeps_withdrawn empty fs) (from_empty keeps_withdrawn fs)
-              in
+          in
           let q : ◌≡◌ {A = ℕ} 0 1 = ap length b.waiting in omega arith;
       withdrawn_gets_nothing_lem = λ d.
           by_said withdrawn_gets_nothing d (create_by 1 9 ∷ take_by 1 1 9 7 ∷ []) (abort_by 1 1) refl refl length
@@ -283,12 +283,12 @@ each-ruled_out =
       -- the entry that party 2 asks for is taken by the transaction that wrote it: no point in waiting on
       waits_in_vain_lem = λ d.
           by_said waits_in_vain d (create_by 1 9 ∷ write_by 1 1 9 E ∷ read_if_exists_by 2 0 9 7 ∷ []) (take_by 1 1 0 7)
-              refl
+          refl
           refl length (λ (q : 2 ≡ 1). omega arith);
       -- it is committed: found, where it would be given up before service
       gives_up_first_lem = λ d.
           by_said gives_up_first d (create_by 1 9 ∷ write_by 1 1 9 E ∷ read_if_exists_by 2 0 9 7 ∷ []) (commit_by 1 1)
-              refl
+          refl
           refl (kind_at 1) (λ (q : 2 ≡ 3). omega arith);
       -- party 3 asked before party 2
       nothings_by_party_lem = λ d.
@@ -323,12 +323,12 @@ each-ruled_out =
           arith;
       renews_anothers_lem = λ d.
           let q : ◌≡◌ {A = ℕ} 0 19 = by_judged renews_anothers d (write_by 1 0 9 E ∷ []) (renew_by 2 1 5) in omega
-              arith;
+          arith;
       -- what is told ends now, and is stored
       leaves_lease_0 = λ d.
           let fs = write_by 1 0 9 E ∷ renew_by 1 1 0 ∷ [] in
           let s = d.told (log_of leaves_lease0 empty fs) (last_of leaves_lease0 empty fs) (from_empty leaves_lease0 fs)
-              in
+          in
           Memᴰ.not-nil (s.stored_told _ (Memᴰ.head refl)).1;
       forgets_writer_lem = λ d.
           let fs = create_by 1 9 ∷ write_by 1 1 9 E ∷ commit_by 1 1 ∷ [] in

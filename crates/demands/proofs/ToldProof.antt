@@ -42,13 +42,13 @@ in_list : (t : ℕ) (ps : List Pending) (p : Pending) → Memᴰ p ps → p.txn 
     → Memᴰ p.operation (listed ps t)
 in_list t ps p i e =
     mathlib.Core.List.Memᴰ.map (λ (p : Pending). p.operation)
-        (filter_mem (λ (p : Pending). eqb p.txn t) i (eq-eqb p.txn t e))
+    (filter_mem (λ (p : Pending). eqb p.txn t) i (eq-eqb p.txn t e))
 
 of_list : (t : ℕ) (ps : List Pending) (o : Operation) → Memᴰ o (listed ps t)
     → (p : Pending) × Memᴰ p ps × (p.txn ≡ t) × (p.operation ≡ o)
 of_list t ps o i =
     let p = mathlib.Core.List.Memᴰ.of_map (λ (p : Pending). p.operation) (filterb (λ (p : Pending). eqb p.txn t) ps) i
-        in
+    in
     let r = mem_filter (λ (p : Pending). eqb p.txn t) ps p.1 in
     (p.0, r.0, eqb-true p.0.txn t r.1, p.2)
 
@@ -58,7 +58,7 @@ in_who q t ps e =
     let p = of_list t ps o.0 o.1 in
     mathlib.Core.List.Memᴰ.cast (sym p.2)
     (mathlib.Core.List.Memᴰ.map (λ (p : Pending). p.txn)
-        (filter_mem (λ (p : Pending). q p.operation) p.1 (ap q p.3 ∙ o.2)))
+    (filter_mem (λ (p : Pending). q p.operation) p.1 (ap q p.3 ∙ o.2)))
 
 who_in : (q : Operation → Bool) (t : ℕ) (ps : List Pending) → Memᴰ t (who q ps) → anyb q (listed ps t) ≡ true
 who_in q t ps i =
@@ -84,7 +84,7 @@ after-added (o ∷ os) ks k i = ⊎_elim (one o) (λ h. inr (mathlib.Core.List.M
     one : (o : Operation) → Memᴰ k (after o ks) → Memᴰ k ks ⊎ Memᴰ (adds k) (o ∷ os)
     one (adds j) h =
         ⊎_elim inl (λ l. inr (mathlib.Core.List.Memᴰ.head (ap adds (mathlib.Core.List.Memᴰ.eq_of_singleton l))))
-            (mathlib.Core.List.Memᴰ.append_cases ks h)
+        (mathlib.Core.List.Memᴰ.append_cases ks h)
     one (finds true n x) h = inl (mem_filter (λ j. not (is_kept n x j)) ks h).0
     one (finds false n x) h = inl h
 
@@ -93,7 +93,7 @@ added-after : (os : List Operation) (ks : List Kept) (k : Kept) → Memᴰ (adds
 added-after [] ks k i h = absurd (mathlib.Core.List.Memᴰ.not-nil i)
 added-after (o ∷ os) ks k i h =
     ⊎_elim (here o) (λ j. added-after os (after o ks) k j (λ p l. h p (mathlib.Core.List.Memᴰ.tail l)))
-        (mathlib.Core.List.Memᴰ.cases_cons i)
+    (mathlib.Core.List.Memᴰ.cases_cons i)
   where
     here : (o : Operation) → adds k ≡ o → Memᴰ k (after_all os (after o ks))
     here o e =
@@ -101,7 +101,7 @@ added-after (o ∷ os) ks k i h =
         let there = subst (λ (p : Operation). Memᴰ k (after p ks)) e last in
         let lasts = ap not (all_false (takes_it k) os (λ p l. h p (mathlib.Core.List.Memᴰ.tail l))) in
         subst⁻¹ (Memᴰ k) (after_split os (after o ks))
-            (mathlib.Core.List.Memᴰ.append_left _ (filter_mem (survives os) there lasts))
+        (mathlib.Core.List.Memᴰ.append_left _ (filter_mem (survives os) there lasts))
 
 -- what a list takes is among the taken
 taken-one : (n : ℕ) (o : Operation) (r : Run) → CanOne o r.kept
@@ -132,7 +132,7 @@ joined-all : {A B : Type 0} (Q : B → Type 0) (g : A → List B) (xs : List A) 
 joined-all Q g [] h = all_none Q
 joined-all Q g (x ∷ xs) h =
     all_append (g x) (h x (mathlib.Core.List.Memᴰ.head refl))
-        (joined-all Q g xs (λ z i. h z (mathlib.Core.List.Memᴰ.tail i)))
+    (joined-all Q g xs (λ z i. h z (mathlib.Core.List.Memᴰ.tail i)))
 
 in_joined : {A B : Type 0} (g : A → List B) {x : A} {xs : List A} {y : B} → Memᴰ x xs → Memᴰ y (g x)
     → Memᴰ y (joined (map g xs))
@@ -234,8 +234,11 @@ module _ (m : Model) (r : Run) (s : Consistent m) (h : TracksIn m r) where
       record {
         kept = refl;
         private_to = o;
-        taken_by = λ u y. ((λ q. let n = free.0 in absurd (omega arith)), λ j. absurd
-            (mathlib.Core.List.Memᴰ.not-nil j));
+        taken_by = λ u y. (
+          (λ q. let n = free.0 in absurd (omega arith)),
+          λ j. absurd
+              (mathlib.Core.List.Memᴰ.not-nil j),
+        );
         readers = λ x j. ((λ b. absurd (unread x b)), λ l. absurd (mathlib.Core.List.Memᴰ.not-nil l));
       }
     where
@@ -270,9 +273,9 @@ module _ (m : Model) (r : Run) (s : Consistent m) (h : TracksIn m r) where
       in_set : 1 ≤ count (is_number n) (carry_out_all os r).kept
       in_set =
           subst⁻¹ (λ (ks : List Kept). 1 ≤ count (is_number n) ks)
-              ((carry_out_all_can os r c).0 ∙ after_split os r.kept)
+          ((carry_out_all_can os r c).0 ∙ after_split os r.kept)
           (count_mem (is_number n) (mathlib.Core.List.Memᴰ.append_right (filterb (survives os) r.kept) l)
-              (eq-eqb n n refl))
+          (eq-eqb n n refl))
 
   module _ (lasts : All (λ e. reached m.clock e.end ≡ false) m.entries) where
     abbrev lasting-told : Told → Bool
@@ -298,7 +301,7 @@ module _ (m : Model) (r : Run) (s : Consistent m) (h : TracksIn m r) where
         committed : e.private_to.0 ≡ 0 → (x : Told) × Memᴰ x (told r) × AsTold m.txns e x
         committed o =
             let there = mathlib.Core.List.Memᴰ.append_left private_told_lem
-                (mathlib.Core.List.Memᴰ.map (committed_told r) (h.agree.set.stored-kept e i o)) in
+            (mathlib.Core.List.Memᴰ.map (committed_told r) (h.agree.set.stored-kept e i o)) in
             (committed_told r (kept_of e), filter_mem lasting-told there (not-over e i), as_committed e i o)
 
         private : Live e.private_to.0 m.txns → (x : Told) × Memᴰ x (told r) × AsTold m.txns e x
@@ -307,7 +310,7 @@ module _ (m : Model) (r : Run) (s : Consistent m) (h : TracksIn m r) where
             let l = (h.agree.own y.0 y.1).stored-kept e i (sym y.2) in
             let none = not_taken y.0 y.1 (kept_of e) l in
             let a = ⊎_elim (λ j. absurd (mathlib.Core.List.Memᴰ.not-nil j)) (λ j. j)
-                (after-added (listed ps t) [] (kept_of e) l) in
+            (after-added (listed ps t) [] (kept_of e) l) in
             let p = of_list t ps (adds (kept_of e)) a in
             let z = s.txns_ok.above y.0 y.1 in
             let q = p.2 in

@@ -98,7 +98,7 @@ pub record WrongTallies : Type 0 where
   -- a withdrawn look-up counted as one that got nothing, too
   pub withdrawn_as_nothing : Explains (counting
       (λ log. said is_nothing_kind log + number (λ k. eqb k kind_aborted) (fates log))
-          (λ log. number by_txn (fates log))) → ⊥
+      (λ log. number by_txn (fates log))) → ⊥
   -- exceptions alone
   pub without_aborts : Explains
       (counting (said is_nothing_kind) (λ log. number (λ k. eqb k kind_exception) (fates log))) → ⊥

@@ -134,7 +134,7 @@ module _ (ws ws₀ cs : List ℕ) (i : ℕ)
 
     pub heard-row : (ws' : List ℕ) {g x : Registration} {limit : ℕ} → limit ≡ (view ws₀).next_entry
         → i < registration_count ws₀ → i < length cs → g ≡ registration_row ws i → x
-            ≡ heard_once limit (get_or cs i 0) g
+        ≡ heard_once limit (get_or cs i 0) g
         → view ws' ≡ with_registrations (set (view ws).registrations i x) (view ws)
         → view ws'
         ≡ with_registrations (heard_by (view ws₀).next_entry (take (i + 1) cs) (view ws₀).registrations) (view ws₀)

@@ -156,7 +156,7 @@ module _ (kinds numbers codes : List ℕ) (written : List Bool) (len j slot : �
   unfolding a
   kind_is =
       sym (get_or-take len kinds j 0 h) ∙ ap (λ l. get_or l j 0) b.are_kinds
-          ∙ get_d_map kind_of acts j (reads 0) 0 within
+      ∙ get_d_map kind_of acts j (reads 0) 0 within
 
   number_is : get_or numbers j 0 ≡ number_of a
   unfolding a

@@ -100,14 +100,14 @@ module _ (ms : List ℕ) where
   unfolding after_code code_in
   after_is a flags =
       ap₂ (λ k s. set flags s (not (eqb k 3))) (kind_in (slot_in ms (number_of a)) a)
-          (slot_in_lem (slot_in ms (number_of a)) a)
+      (slot_in_lem (slot_in ms (number_of a)) a)
 
   -- what becomes of the flags and of the run
   module _ (flags : List Bool) (r : Run) (agrees : Agrees ms flags (in_set r)) where
     abbrev Follows : Action → Run → Type 0
     Follows a q =
         (q.succeeds ≡ r.succeeds)
-            × Agrees ms (set flags (slot_in ms (number_of a)) (not (eqb (kind_of a) 3))) (in_set q)
+        × Agrees ms (set flags (slot_in ms (number_of a)) (not (eqb (kind_of a) 3))) (in_set q)
 
     pub step_none : (a : Action) → Known a → misses (code_in ms a) flags ≡ true
         → (carry_out (operation_of a) r).succeeds ≡

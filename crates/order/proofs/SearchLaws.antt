@@ -35,7 +35,7 @@ module _ (codes : List ℕ) (to : ℕ) (fits : to ≤ length codes) where
 
   pub carried : (j : ℕ) → j < to → (present : List Bool) → misses (get_or codes j 0) present ≡ false
       → after_codes (slice j to codes) present
-          ≡ after_codes (slice (j + 1) to codes) (after_code (get_or codes j 0) present)
+      ≡ after_codes (slice (j + 1) to codes) (after_code (get_or codes j 0) present)
   unfolding after_codes
   carried j h present m = first_code j h present ∙ rw m
 
@@ -132,7 +132,7 @@ module _ (codes starts : List ℕ) (n d : ℕ) (left present : List Bool) where
 
   module _ (p : ℕ) (t : Tried p) (after : List Bool) (ok : Bool)
       (e : told ok after ≡ after_codes (slice (get_or starts p 0) (get_or starts (p + 1) 0) codes) present)
-          (run : ok ≡ true)
+      (run : ok ≡ true)
       {good : Bool} {order : List ℕ} (s : Searched codes starts n (d + 1) (set left p false) after good order) where
     pub not_found : good ≡ false → Tried (p + 1)
     not_found f = go s f

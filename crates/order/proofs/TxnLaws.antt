@@ -250,7 +250,7 @@ module _ (words kinds numbers starts : List ℕ) (at len t n : ℕ) (r : Reading
           let tail = joined (map txn_words rest) in
           let size = length-append (joined (map action_words acts)) tail in
           wrong acts tail (sym (get_or-drop at words 0 0 ∙ ap (λ m. get_or words m 0) (add-zero at))
-              ∙ ap (λ l. get_or l 0 0)
+          ∙ ap (λ l. get_or l 0 0)
           stand)
           (omega (arith, ap length stand, length-drop at words, words_length acts))
           (sym (drop-drop 1 at words) ∙ ap (drop 1) stand)

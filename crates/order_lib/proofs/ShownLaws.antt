@@ -88,7 +88,7 @@ positions (found ts h ps f) e =
     behind : (k : ℕ) → get_or (ps ++ drop (length ts) zeros) (length ps + k) 0 ≡ 0
     behind k =
         get_or-append-add ps (drop (length ts) zeros) k 0 ∙ get_or-drop (length ts) zeros k 0
-            ∙ all_same 6 0 (length ts + k)
+        ∙ all_same 6 0 (length ts + k)
 
     digit : (j : ℕ) → Dec (j < length ps) → get_or (ps ++ drop (length ts) zeros) j 0 < 10
     digit j (yes l) =

@@ -113,12 +113,12 @@ pub abort_gone : (t : ℕ) (m : Model) → Gone t m → abort t m ≡ m
 unfolding abort without_txn live_txn
 abort_gone t m g =
     ap (λ es. with_entries es
-        (with_txns (without_txn t m.txns) (with_waits (filterb (λ w. not (eqb w.txn.0 t)) m.waits) m)))
+    (with_txns (without_txn t m.txns) (with_waits (filterb (λ w. not (eqb w.txn.0 t)) m.waits) m)))
     (ap (map (released m.txns t))
-        (filter_pass (λ e. not (is_private_to t e)) m.entries (λ e i. ap not (g.not_private e i)))
+    (filter_pass (λ e. not (is_private_to t e)) m.entries (λ e i. ap not (g.not_private e i)))
     ∙ map_same (released m.txns t) m.entries
     (λ e i. released-same m.txns t e (g.not_private e i) (g.not_taken e i)
-        (find_fail (λ x. eqb x.id.0 t) m.txns g.not_live)))
+    (find_fail (λ x. eqb x.id.0 t) m.txns g.not_live)))
     ∙ ap₂ (λ ts ws. with_entries m.entries (with_txns ts (with_waits ws m)))
     (filter_pass (λ x. not (eqb x.id.0 t)) m.txns (λ x i. ap not (g.not_live x i)))
     (filter_pass (λ w. not (eqb w.txn.0 t)) m.waits (λ w i. ap not (g.not_inside w i)))
@@ -132,10 +132,10 @@ abort_rest t (u ∷ us) m g = go (bool_cases (eqb u.id.0 t)) (λ n h. abort_rest
     go : (eqb u.id.0 t ≡ true) ⊎ (eqb u.id.0 t ≡ false)
         → ((n : Model) → Gone t n → abort_all us n ≡ abort_all (without_txn t us) n)
         → abort_all us (abort u.id.0 m)
-            ≡ abort_all (cond (not (eqb u.id.0 t)) (u ∷ without_txn t us) (without_txn t us)) m
+        ≡ abort_all (cond (not (eqb u.id.0 t)) (u ∷ without_txn t us) (without_txn t us)) m
     go (inl e) below =
         rw e (ap (λ k. abort_all us (abort k m)) (eqb-true u.id.0 t e) ∙ ap (abort_all us) (abort_gone t m g)
-            ∙ below m g)
+        ∙ below m g)
     go (inr e) below = rw e (below (abort u.id.0 m) (gone_still u.id.0 m t g))
 
 -- the first that ends now is aborted; then those that are left

@@ -19,7 +19,7 @@ pub area-length : (rs : List Record) (area : List ℕ) → record_size * length 
 unfolding area_after
 area-length rs area h =
     length-append (answer_bytes rs) (drop (record_size * length rs) area)
-        ∙ omega (arith, length-drop (record_size * length rs) area, bytes-length rs)
+    ∙ omega (arith, length-drop (record_size * length rs) area, bytes-length rs)
 
 pub area-front : (rs : List Record) (area : List ℕ) → take (record_size * length rs) (area_after rs area)
     ≡ answer_bytes rs
@@ -42,7 +42,7 @@ bytes-append (r ∷ rs) qs = ap (λ l. record_bytes r ++ l) (bytes-append rs qs)
 -- records written into the part that the ones before left
 pub area-then : (rs qs : List Record) (area : List ℕ)
     → take (record_size * length rs) (area_after rs area)
-        ++ area_after qs (drop (record_size * length rs) (area_after rs area)) ≡ area_after (rs ++ qs) area
+    ++ area_after qs (drop (record_size * length rs) (area_after rs area)) ≡ area_after (rs ++ qs) area
 unfolding area_after
 area-then rs qs area =
     ap₂ (λ x y. x ++ area_after qs y) (area-front rs area) (area_rest rs area) ∙ joined
@@ -50,9 +50,9 @@ area-then rs qs area =
     joined : answer_bytes rs ++ area_after qs (drop (record_size * length rs) area) ≡ area_after (rs ++ qs) area
     joined =
         let sum : record_size * length rs + record_size * length qs
-            ≡ record_size * length (rs ++ qs) = omega (arith, length-append rs qs) in
+        ≡ record_size * length (rs ++ qs) = omega (arith, length-append rs qs) in
         ap (λ l. answer_bytes rs ++ (answer_bytes qs ++ l))
-            (drop-drop (record_size * length qs) (record_size * length rs) area)
+        (drop-drop (record_size * length qs) (record_size * length rs) area)
         ∙ sym (append_assoc (answer_bytes rs) (answer_bytes qs)
-            (drop (record_size * length rs + record_size * length qs) area))
+        (drop (record_size * length rs + record_size * length qs) area))
         ∙ ap₂ (λ x k. x ++ drop k area) (sym (bytes-append rs qs)) sum

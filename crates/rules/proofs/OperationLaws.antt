@@ -9,7 +9,7 @@ use Rattle.rules.specs.Frame.{layout_of, frame_length, is_operation, look_up_op}
 -- what holds of every operation
 pub op_cases : (P : ℕ → Type 0) (op : ℕ) → is_operation op ≡ true
     → P op_write → P op_read → P op_take → P op_read_if_exists → P op_take_if_exists → P op_create → P op_commit
-        → P op_abort
+    → P op_abort
     → P op_tick → P op_notify → P op_renew
     → P op
 unfolding layout_of

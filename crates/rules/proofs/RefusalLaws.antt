@@ -126,12 +126,12 @@ first-append (x ∷ xs) ys e =
 pub refusal_parts : (m : Model) (bs : List ℕ) (area : ℕ)
     → refusal m bs area
     ≡ cond (ltb area step_area) area_refused
-        (cond (eqb (form_refusal bs) 0) (space_refusal m (decode bs)) (form_refusal bs))
+    (cond (eqb (form_refusal bs) 0) (space_refusal m (decode bs)) (form_refusal bs))
 unfolding refusal form_refusal space_refusal
 refusal_parts m bs area =
     let f = decode bs in
     ap (λ n. cond (ltb area step_area) area_refused n)
-        (first-append (form_rows bs f) (admission_rows m f ++ room_rows m f)
+    (first-append (form_rows bs f) (admission_rows m f ++ room_rows m f)
     refl)
 
 -- no frame's bytes, and no frame against the space, are refused with 1

@@ -247,7 +247,7 @@ count-all q i s h = ap (count q) (stand-all i s h)
 
 pub heard-next : {clock : ℕ} {r os r' os' r'' os'' area : List ℕ} {n : ℕ} {rs : List Record} (i : ℕ)
     → Stand area n rs → i < n → Heard clock r os (take i rs) r' os' → {a : Record} → a
-        ≡ record_at area (record_size * i)
+    ≡ record_at area (record_size * i)
     → Heard clock r' os' (a ∷ []) r'' os'' → Heard clock r os (take (i + 1) rs) r'' os''
 heard-next {clock} {r} {os} {r'' = r''} {os''} {rs = rs} i s h x e y =
     subst⁻¹ (λ qs. Heard clock r os qs r'' os'') (stand-next i s h ∙ ap (λ a. take i rs ++ (a ∷ [])) (sym e))
@@ -331,7 +331,7 @@ module _ (l : Logged) {op party : ℕ} (is-op : op ≡ (decode l.frame).op)
       → k ≡ one (not (was_refused l.records)) → g ≡ figures_for k 0 [] → Gained r (only party g) r'
       → n ≡ count (λ (a : Record). eqb a.kind kind_waiting) l.records → (n ≡ 0 → ⊥) → txn ≡ (decode l.frame).txn
       → ((q : ℕ) → wait_at os' q ≡ cond (eqb party q) (a_wait true clock txn) (wait_at os q))
-          → Asked clock r os l r' os'
+      → Asked clock r os l r' os'
   asked-waits {clock} {n = n} {txn} {os = os} t e x gained c d z left =
       asked_so {b = true} t e x gained (said n c ∙ ap not (ne_eqb n 0 d))
       (λ q. left q ∙ go (eqb party q) q ∙ ap (λ i. cond (eqb party q && true) (a_wait true clock i) (wait_at os q)) z)

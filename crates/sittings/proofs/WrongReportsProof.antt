@@ -62,7 +62,7 @@ wrong_reports =
       exception_unseen = λ keeps.
           let fs = create_by 1 1 ∷ read_by 1 1 5 7 ∷ a_tick ∷ a_tick ∷ [] in
           let z : ◌≡◌ {A = ℕ} 2 1 = same_word (end_unseen kind_exception) keeps (tray_of fs) longest in omega
-              (arith, z);
+          (arith, z);
       -- created; waiting; aborted; ticked
       abort_unseen = λ keeps.
           let fs = create_by 1 9 ∷ read_by 1 1 5 7 ∷ abort_by 1 1 ∷ a_tick ∷ [] in

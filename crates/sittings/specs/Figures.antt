@@ -41,7 +41,7 @@ abbrev pub figures_at : List ℕ → ℕ → Figures
 figures_at ws p =
     let o = place_of p in
     five (slice_index ws o) (slice_index ws (o + 1)) (slice_index ws (o + 2)) (slice_index ws (o + 3))
-        (slice_index ws (o + 4))
+    (slice_index ws (o + 4))
 
 abbrev pub words_of : Figures → List ℕ
 words_of a = a.asked ∷ a.founds ∷ a.longest ∷ a.total ∷ a.count ∷ []

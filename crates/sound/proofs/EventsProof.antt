@@ -269,7 +269,7 @@ serve-lasting clock ts =
     (cond_cases (All lasts) (removes w e) (λ _. all_filter (λ x. not (is_entry e x)) es (λ x i _. h x i))
     (λ _. all_map lasts (λ x. cond (is_entry e x) (marked ts w x) x) es
     (λ x i. cond_cases lasts (is_entry e x) (λ _. mark_cases ts w x lasts (λ _. h x i) (λ b _ _. h x i))
-        (λ _. h x i)))))
+    (λ _. h x i)))))
   where
     lasts : Entry → Type 0
     lasts e = reached clock e.end ≡ false

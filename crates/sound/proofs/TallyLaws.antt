@@ -139,7 +139,7 @@ commit_private ts t es z =
     count_more (λ e. is_private (released ts t e)) (λ e. not (is_private_to t e) && is_private e)
     (λ e q. let r = released_private ts t e q in
     rw (and_right (is_private e) (not (is_private_to t e)) r, and_left (is_private e) (not (is_private_to t e)) r)) left
-        in
+    in
     omega (
       arith,
       own,

@@ -243,7 +243,7 @@ module _ {ws bs area ws' area' : List ℕ} {returned : ℕ} where
       -- where the code goes by the frame's kind, and service from a row on; with the bells behind
       module _ {ws₁ a₁ : List ℕ} {own : Record} {n : ℕ} (k : ℕ) (e : space_refusal (view ws) (frame_of q) ≡ 0)
           (c : (Sound (view ws) → Carries (own_part (view ws) (frame_of q)) ws₁ own)
-              × SameBefore k (view ws) (view ws₁))
+          × SameBefore k (view ws) (view ws₁))
           (a : Adds (own ∷ []) area a₁ 0 n) (x : Ending) (y : EndsAs (frame_of q) x) where
         pub stepped-done : (Sound (view ws) → Silent (view ws) (frame_of q))
             → Does (finished_by x k (view ws₁)) ws' a₁ area' n returned → Stepped ws bs area ws' returned area'

@@ -271,7 +271,7 @@ trying-none {ws} {hints = hints} {xs} e h each =
       few = omega arith;
       panes =
           ap (map in_trier) (ap (triers 1) (as_up_to (pane_at ws) (pane_count ws))
-              ∙ triers-up_to (pane_at ws) (pane_count ws))
+          ∙ triers-up_to (pane_at ws) (pane_count ws))
           ∙ map-up_to in_trier (λ i. record { party = suc i; pane = pane_at ws i; stage = Creates }) (pane_count ws)
           ∙ up_to_ext (λ i. in_trier (record { party = suc i; pane = pane_at ws i; stage = Creates }))
           (λ i. trier_at ws i (at xs i)) (pane_count ws) (λ i l. ap (trier_at ws i) (sym (each i l)));

@@ -66,6 +66,6 @@ wrong_trials =
       rounds_first = λ after t. omega (arith, t.number);
       refused_and_changed = λ t.
           let kept : ◌≡◌ {A = ℕ} 0 9 = ap (λ l. get_or l 0 0) (t.refused (λ e. omega (arith, e))) in omega
-              (arith, kept);
+          (arith, kept);
       word_behind = λ t. let kept : ◌≡◌ {A = ℕ} 0 9 = ap (λ l. get_or l 3 0) (t.counted refl) in omega (arith, kept);
     }

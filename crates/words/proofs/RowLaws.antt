@@ -80,7 +80,7 @@ pub moved_word : (ws : List ℕ) (f t n j : ℕ) → t ≤ f → f + n ≤ lengt
 moved_word ws f t n j h l p =
     let long = length-take-le n (drop f ws) (omega (arith, length-drop f ws)) in
     sets_in (take n (drop f ws)) ws t j (omega arith) (omega arith) ∙ get_or-take n (drop f ws) j 0 p
-        ∙ get_or-drop f ws j 0
+    ∙ get_or-drop f ws j 0
 
 -- words that are moved to the front: those that are still to be moved stand where they stood
 pub move_more : (ws : List ℕ) (f t n k : ℕ) → t ≤ f → f + n ≤ length ws → k < n

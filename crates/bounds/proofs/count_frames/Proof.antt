@@ -97,6 +97,6 @@ count_frames_spec =
     tie.close
     (tie.spec
     invariant-loop decreases-loop (λ c κs. search rules) (λ c κs. search rules) loop-holds pair-at-requires
-        (λ c κs. search rules)
+    (λ c κs. search rules)
     (λ c. search rules) (λ c. search rules) returns first-byte-requires count-frame-requires (λ c. search rules)
     (λ c. search rules) loop-again packed-requires returns-2)

@@ -16,7 +16,7 @@ unfolding time_of_place hour_of minute_of
 returns-2 c =
     let p = c.args.place in
     rw (lt-ltb p places c.if-place-ge-PLACES.false, lt-ltb p 60 c.if-place-lt-MINUTES.true)
-        (omega (arith, c.if-place-lt-MINUTES.true))
+    (omega (arith, c.if-place-lt-MINUTES.true))
 
 returns-3 : tie.Need-returns
 unfolding time_of_place hour_of minute_of

@@ -27,8 +27,12 @@ returns-3 : tie.Need-returns-then-registration_count-ge-MAX_REGISTRATIONS
 unfolding no_lease too_late entries_full txns_full registrations_full layout_of
 returns-3 c =
     rw (ne_eqb _ _ c.if-q-eq0.false, sym c.too_late.ensures ∙ c.if-too_late.false)
-    (rw (length-registrations, sym c.registration_count.ensures.0, le-leb _ _
-        c.if-registration_count-ge-MAX_REGISTRATIONS.true))
+    (rw (
+      length-registrations,
+      sym c.registration_count.ensures.0,
+      le-leb _ _
+          c.if-registration_count-ge-MAX_REGISTRATIONS.true,
+    ))
 
 -- 13 is left
 last : (c : tie.After-next_registration)

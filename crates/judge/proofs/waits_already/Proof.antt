@@ -48,5 +48,5 @@ waits_already_spec =
     tie.close
     (tie.spec
     invariant-loop decreases-loop (λ c κs. tt) returns (λ c κs. tt) loop-holds (λ c κs. omega arith) (λ c κs. tt)
-        returns-2
+    returns-2
     (λ c. omega arith) (λ c. omega arith) loop-again returns-3)

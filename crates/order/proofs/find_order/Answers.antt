@@ -11,12 +11,12 @@ returns-then-order-n c = no_room _ _ c.plan_of-plan.ensures (not-false _ c.if-no
 pub returns-then-not-found : goal.returns-then-not-found
 returns-then-not-found c =
     (looked _ _ _ _ c.plan_of-plan.ensures (not-false _ c.if-not-plan.false) c.if-order-n.false
-        c.search-found.ensures).0
+    c.search-found.ensures).0
     (not-true _ c.if-not-found.true)
 
 pub returns : goal.returns
 returns c =
     rw c.copy_from_slice.ensures.after
     ((looked _ _ _ _ c.plan_of-plan.ensures (not-false _ c.if-not-plan.false) c.if-order-n.false
-        c.search-found.ensures).1
+    c.search-found.ensures).1
     (not-false _ c.if-not-found.false))

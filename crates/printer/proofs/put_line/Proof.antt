@@ -46,12 +46,11 @@ add-next c =
     omega (arith, within c.before.before.before, lining_length _ _ _ _ _ _ c.loop-i.invariant.1, c.well_formed.0.0)
 
 loop-again : tie.Need-loop-i-preserved invariant-loop decreases-loop
-loop-again c =
-    (
-      omega arith,
-      lining_next _ _ _ _ _ _ c.loop-i.invariant.1 c.loop-i-test.true c.requires.1 _ _ _ c.put_decimal-next.ensures
-          c.after.ensures,
-    )
+loop-again c = (
+  omega arith,
+  lining_next _ _ _ _ _ _ c.loop-i.invariant.1 c.loop-i-test.true c.requires.1 _ _ _ c.put_decimal-next.ensures
+      c.after.ensures,
+)
 
 same_length : tie.Need-shape_of-out invariant-loop decreases-loop
 same_length c = lining_length _ _ _ _ _ _ c.loop-i.invariant.1

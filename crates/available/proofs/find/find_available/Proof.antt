@@ -50,12 +50,11 @@ loop-less : tie.Need-loop-i-smaller invariant-loop decreases-loop
 loop-less c = omega (arith, c.next_row-i-in-loop-i.ensures.0)
 
 returns-2 : tie.Need-returns invariant-loop decreases-loop
-returns-2 c =
-    (
-      sym (search_none (entries-read c.args.space.now) c.loop-i.invariant
-          (omega arith)),
-      tt,
-    )
+returns-2 c = (
+  sym (search_none (entries-read c.args.space.now) c.loop-i.invariant
+      (omega arith)),
+  tt,
+)
 
 pub find_available_spec : {M : Type 1} → statement M
 find_available_spec =

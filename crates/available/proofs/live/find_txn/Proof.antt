@@ -49,5 +49,5 @@ pub find_txn_spec : {M : Type 1} → statement M
 find_txn_spec =
     tie.close
     (tie.spec invariant-loop decreases-loop (λ c κs. tt) (λ c. (omega arith, search_start)) (λ c κs. omega arith)
-        returns
+    returns
     (λ c. omega arith) (λ c. omega arith) loop-again returns-2)

@@ -4,7 +4,7 @@ use Rattle.codec.proofs.bytes.whole_fields.Statement.{statement}
 use Rattle.codec.proofs.bytes.whole_fields.Tie as tie
 
 returns : tie.Need-returns
-returns c = 
+returns c =
     rw (
       c.whole_number.ensures,
       c.whole_number-2.ensures,

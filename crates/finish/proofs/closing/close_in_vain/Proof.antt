@@ -6,7 +6,7 @@ use Rattle.finish.proofs.closing.close_in_vain.Statement.{statement}
 use Rattle.finish.proofs.closing.close_in_vain.Tie as tie
 
 returns : tie.Need-returns-then-any_if_exists
-returns c = 
+returns c =
     rw (sym c.any_if_exists.ensures ∙ c.if-any_if_exists.true) c.close_waits.ensures
 
 returns-2 : tie.Need-returns-else-any_if_exists

@@ -58,6 +58,6 @@ put_nothings_spec =
     tie.close
     (tie.spec
     invariant-loop decreases-loop (λ c κs. tt) (λ c. (omega arith, answered-start)) (λ c κs. omega arith)
-        (λ c κs. omega arith)
+    (λ c κs. omega arith)
     (λ c. omega arith) (λ c. omega arith) loop-again (λ c κs. tt) add-record-requires (λ c. omega arith) loop-again-2
     same_length returns)

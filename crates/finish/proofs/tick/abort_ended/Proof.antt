@@ -25,7 +25,7 @@ returns c =
 
 -- one is aborted: fewer live, and the rest is still to be done
 turn : (c : tie.After-abort_txn invariant-loop decreases-loop)
-    → 
+    →
     let m = view c.abort_txn.new.space in
     Aborting (view c.args.space.now) m × (length m.txns < length (view c.loop-t.space).txns)
 turn c =

@@ -23,7 +23,7 @@ ends now t = reached now t.end
 abbrev invariant-loop : tie.invariant-loop-i
 invariant-loop space answers₀ count now txns done₀ i₀ answers done i =
     (i ≤ txns) × Answered (ends now) exception (txn_row space) answers₀ answers count done i
-        × (now ≡ (view space).clock)
+    × (now ≡ (view space).clock)
 
 abbrev decreases-loop : tie.decreases-loop-i
 decreases-loop space answers₀ count now txns done₀ i₀ answers done i = txns - i
@@ -69,6 +69,6 @@ put_exceptions_spec =
     tie.close
     (tie.spec
     invariant-loop decreases-loop (λ c κs. tt) (λ c κs. tt) loop-holds (λ c κs. omega arith) (λ c. omega arith)
-        (λ c κs. tt)
+    (λ c κs. tt)
     (λ c. omega arith) loop-again (λ c κs. tt) add-record-requires (λ c. omega arith) loop-again-2 same_length
     returns)

@@ -23,8 +23,7 @@ returns-2 : tie.Need-returns
 returns-2 c =
     let f = c.flag_party.ensures in
     let l = c.lower.ensures in
-    let s = c.wait_end.ensures in
-    (
+    let s = c.wait_end.ensures in (
       weaker-then l.0 f.0,
       λ vs w e.
           let r = row_last (waits-read c.args.space.now) vs w e in

@@ -44,5 +44,5 @@ txns_end_spec =
     tie.close
     (tie.spec
     invariant-loop decreases-loop (λ c κs. tt) loop-holds (λ c κs. omega arith) (λ c κs. tt) (λ c. omega arith)
-        (λ c. omega arith)
+    (λ c. omega arith)
     loop-again returns)

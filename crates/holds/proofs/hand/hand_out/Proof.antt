@@ -1,10 +1,10 @@
 -- `holds::hand::hand_out` meets its contract. Assumes nothing.
 use borrow.Author.Rules.{rules}
 use mathlib.Core.Bool.{not}
-use mathlib.Core.Path.{◌≡◌, sym, ap, ◌∙◌}
+use mathlib.Core.Path.{sym, ap, ◌∙◌}
 use borrow.Author.Tests.{not-false, eqb-true}
 use lib.Dec.{eqb}
-use lib.ListN.{get_or, set}
+use lib.ListN.{set}
 use Rattle.rules.specs.LookUp.{removes}
 use Rattle.rules.specs.State.{with_entries}
 use Rattle.rules.specs.Words.{row, entries_at, entry_width, view}

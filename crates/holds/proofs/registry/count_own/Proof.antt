@@ -50,5 +50,5 @@ count_own_spec =
     tie.close
     (tie.spec
     invariant-loop decreases-loop (λ c κs. tt) (λ c. (omega arith, counted_none)) (λ c κs. omega arith)
-        (λ c. omega arith)
+    (λ c. omega arith)
     (λ c κs. tt) add-count (λ c. omega arith) loop-again (λ c. omega arith) loop-again-2 returns)

@@ -54,7 +54,7 @@ drop_registrations_spec =
     tie.close
     (tie.spec
     invariant-loop decreases-loop (λ c κs. tt) (λ c κs. tt) (λ c. (omega arith, compact_start)) (λ c κs. omega arith)
-        (λ c κs. tt)
+    (λ c κs. tt)
     (λ c. omega arith) (λ c. omega arith) loop-again (λ c κs. omega arith) (λ c. omega arith) (λ c. omega arith)
     (λ c. omega arith) loop-again-2
     (λ c κs. omega (arith, c.loop-i.invariant.1.behind)) returns)

@@ -46,5 +46,5 @@ pub find_entry_spec : {M : Type 1} → statement M
 find_entry_spec =
     tie.close
     (tie.spec invariant-loop decreases-loop (λ c κs. search rules) (λ c. (omega arith, search_start))
-        (λ c κs. omega arith)
+    (λ c κs. omega arith)
     (λ c κs. omega arith) returns (λ c. omega arith) (λ c. omega arith) loop-again returns-2)

@@ -53,5 +53,5 @@ free_slot_spec =
     tie.close
     (tie.spec
     invariant-loop decreases-loop (λ c κs. tt) (λ c. (omega arith, search_start)) (λ c κs. omega arith) returns
-        (λ c. omega arith)
+    (λ c. omega arith)
     (λ c. omega arith) loop-again returns-2)

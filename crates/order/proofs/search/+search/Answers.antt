@@ -13,14 +13,14 @@ pub loop-next-preserved-then-not-ran : goal.loop-next-preserved-then-not-ran
 loop-next-preserved-then-not-ran t c =
     let ran = c.run_codes-ran in
     not_run _ _ _ _ _ _ _ c.loop-next.invariant ran.result.present ran.result.ok ran.ensures
-        (not-true _ c.if-not-ran.true)
+    (not-true _ c.if-not-ran.true)
 
 pub returns-then-found : goal.returns-then-found
 returns-then-found t c =
     let ran = c.run_codes-ran in
     let six : length c.search-found.result.order ≡ 6 = omega arith in
     is_found _ _ _ _ _ _ _ c.loop-next.invariant ran.result.present ran.result.ok ran.ensures
-        (not-false _ c.if-not-ran.false)
+    (not-false _ c.if-not-ran.false)
     c.search-found.ensures c.loop-next-test.true c.if-not-left-p.false c.if-found.true
     (omega (arith, c.if-d-n.false, c.requires)) (omega (arith, c.requires))
 
@@ -28,7 +28,7 @@ pub loop-next-preserved : goal.loop-next-preserved
 loop-next-preserved t c =
     let ran = c.run_codes-ran in
     not_found _ _ _ _ _ _ _ c.loop-next.invariant ran.result.present ran.result.ok ran.ensures
-        (not-false _ c.if-not-ran.false)
+    (not-false _ c.if-not-ran.false)
     c.search-found.ensures c.if-found.false
 
 pub returns : goal.returns

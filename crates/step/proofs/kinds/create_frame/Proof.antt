@@ -10,13 +10,12 @@ take-create-requires c κs =
     (c.requires.0, c.requires.1, weaker-reliable c.note_lease.ensures.0 c.requires.2)
 
 returns : tie.Need-returns
-returns c =
-    (
-      c.take_create.ensures,
-      stays-reliable c.requires.0 c.take_create.ensures c.requires.2
-          (follows-create c.args.party c.args.lease c.clock.ensures
-          c.note_lease.ensures),
-    )
+returns c = (
+  c.take_create.ensures,
+  stays-reliable c.requires.0 c.take_create.ensures c.requires.2
+      (follows-create c.args.party c.args.lease c.clock.ensures
+      c.note_lease.ensures),
+)
 
 pub create_frame_spec : {M : Type 1} → statement M
 create_frame_spec =

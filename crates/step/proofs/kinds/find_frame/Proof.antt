@@ -10,12 +10,11 @@ take-find-requires c κs =
     (c.requires.0, c.requires.1, weaker-reliable c.note_acted.ensures.0 c.requires.2)
 
 returns : tie.Need-returns
-returns c =
-    (
-      c.take_find-r.ensures,
-      stays-reliable c.requires.0 c.take_find-r.ensures c.requires.2
-          (follows_find c.args.l c.note_acted.ensures c.note_last.ensures),
-    )
+returns c = (
+  c.take_find-r.ensures,
+  stays-reliable c.requires.0 c.take_find-r.ensures c.requires.2
+      (follows_find c.args.l c.note_acted.ensures c.note_last.ensures),
+)
 
 pub find_frame_spec : {M : Type 1} → statement M
 find_frame_spec =

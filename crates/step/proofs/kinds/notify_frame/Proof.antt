@@ -10,13 +10,12 @@ take-notify-requires c κs =
     (c.requires.0, c.requires.1, weaker-reliable c.note_lease.ensures.0 c.requires.2)
 
 returns : tie.Need-returns
-returns c =
-    (
-      c.take_notify.ensures,
-      stays-reliable c.requires.0 c.take_notify.ensures c.requires.2
-          (follows-notify c.args.q c.clock.ensures
-          c.note_lease.ensures),
-    )
+returns c = (
+  c.take_notify.ensures,
+  stays-reliable c.requires.0 c.take_notify.ensures c.requires.2
+      (follows-notify c.args.q c.clock.ensures
+      c.note_lease.ensures),
+)
 
 pub notify_frame_spec : {M : Type 1} → statement M
 notify_frame_spec =

@@ -10,13 +10,12 @@ take-renew-requires c κs =
     (c.requires.0, c.requires.1, weaker-reliable c.note_stored.ensures.0 c.requires.2)
 
 returns : tie.Need-returns
-returns c =
-    (
-      c.take_renew.ensures,
-      stays-reliable c.requires.0 c.take_renew.ensures c.requires.2
-          (follows-renew c.args.party c.args.id c.args.lease c.clock.ensures
-          c.note_stored.ensures),
-    )
+returns c = (
+  c.take_renew.ensures,
+  stays-reliable c.requires.0 c.take_renew.ensures c.requires.2
+      (follows-renew c.args.party c.args.id c.args.lease c.clock.ensures
+      c.note_stored.ensures),
+)
 
 pub renew_frame_spec : {M : Type 1} → statement M
 renew_frame_spec =

@@ -12,13 +12,12 @@ take-write-requires c κs =
     (c.requires.0, c.requires.1, weaker-reliable weaker c.requires.2)
 
 returns : tie.Need-returns
-returns c =
-    (
-      c.take_write.ensures,
-      stays-reliable c.requires.0 c.take_write.ensures c.requires.2
-          (follows-write c.args.w c.clock.ensures c.note_stored.ensures
-          c.note_acted.ensures),
-    )
+returns c = (
+  c.take_write.ensures,
+  stays-reliable c.requires.0 c.take_write.ensures c.requires.2
+      (follows-write c.args.w c.clock.ensures c.note_stored.ensures
+      c.note_acted.ensures),
+)
 
 pub write_frame_spec : {M : Type 1} → statement M
 write_frame_spec =

@@ -9,11 +9,10 @@ end-of-requires c κs = rw c.clock.ensures c.requires
 
 returns : tie.Need-returns
 unfolding new_entry
-returns c =
-    (
-      rw (c.next_entry.ensures, c.mark_of-fields.ensures, c.end_of-end.ensures.0, c.clock.ensures),
-      c.end_of-end.ensures.1,
-    )
+returns c = (
+  rw (c.next_entry.ensures, c.mark_of-fields.ensures, c.end_of-end.ensures.0, c.clock.ensures),
+  c.end_of-end.ensures.1,
+)
 
 pub new_entry_spec : {M : Type 1} → statement M
 new_entry_spec =

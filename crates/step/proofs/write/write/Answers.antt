@@ -1,14 +1,12 @@
 -- `step::write::write`: the new entry has the next number, which is used up; it is stored unless its lease is 0.
-use Rattle.std.proofs.Common.{ℕ, ◌≡◌, ◌+◌, ◌++◌, [], ◌∷◌, length, take, ap, ◌∙◌, arith}
+use Rattle.std.proofs.Common.{◌≡◌, ◌+◌, ◌++◌, [], ◌∷◌, length, take, ap, ◌∙◌, arith}
 use mathlib.Core.Path.{ap₂}
 use borrow.Author.Tests.{eq-eqb, ne_eqb}
 use lib.Seq.{take-append-le}
 use Rattle.rules.specs.declared.Entry.{Entry}
 use Rattle.rules.specs.declared.Record.{Record}
-use Rattle.rules.specs.declared.Request.TheVariants.{Write}
 use Rattle.rules.specs.Frame.{Frame}
 use Rattle.rules.specs.Records.{written}
-use Rattle.rules.specs.Requests.{frame_of}
 use Rattle.rules.specs.State.{Model, with_entries, with_next_entry}
 use Rattle.rules.specs.Words.{view}
 use Rattle.rules.specs.Write.{new_entry, stored, write}

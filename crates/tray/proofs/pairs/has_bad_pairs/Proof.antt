@@ -49,5 +49,5 @@ has_bad_pairs_spec =
     tie.close
     (tie.spec
     invariant-loop decreases-loop (λ c κs. search rules) (λ c κs. search rules) loop-holds pair-at-requires
-        (λ c κs. search rules)
+    (λ c κs. search rules)
     returns (λ c. search rules) (λ c. search rules) loop-again returns-2)

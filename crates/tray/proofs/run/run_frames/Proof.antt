@@ -88,7 +88,7 @@ run_frames_spec =
     tie.close
     (tie.spec
     invariant-loop decreases-loop (λ c κs. tt) (λ c κs. tt) (λ c κs. tt) loop-holds (λ c. omega arith)
-        (λ c. omega arith)
+    (λ c. omega arith)
     packed-requires (λ c. search rules) returns pair-at-requires (λ c. omega arith) (λ c. omega arith)
     part_step_hinted_end (λ c. omega arith) (λ c. omega arith) (λ c. omega arith) step-hinted-requires
     (λ c. omega arith) (λ c. omega arith) (λ c. omega arith) loop-again packed-requires-2 (λ c. search rules)

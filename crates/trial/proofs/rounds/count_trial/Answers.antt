@@ -1,5 +1,5 @@
 -- `trial::rounds::count_trial`: the starting entries are written, then the rounds are run; the counts are of those.
-use Rattle.std.proofs.Common.{ℕ, List, ◌≡◌, ◌+◌, ◌*◌, ◌++◌, [], ◌∷◌, length, drop, ap, ◌∙◌, arith}
+use Rattle.std.proofs.Common.{ℕ, List, ◌≡◌, ◌+◌, ◌*◌, ◌++◌, [], ◌∷◌, drop, ap, ◌∙◌, arith}
 use Rattle.rules.specs.Lists.{joined}
 use Rattle.rules.specs.State.{empty}
 use Rattle.rules.specs.Words.{up_to, view}

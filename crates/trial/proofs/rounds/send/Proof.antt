@@ -1,11 +1,8 @@
 -- `trial::rounds::send` meets its contract. Assumes nothing.
-use Prim.Native.Nat.{◌≤◌}
-use mathlib.Core.Path.{◌≡◌, refl, sym}
+use mathlib.Core.Path.{refl, sym}
 use native.Mathlib.Omega.{arith}
 use borrow.Author.Rules.{rules}
-use lib.ListN.{length, take}
 use lib.Seq.{length-take-le}
-use Rattle.rules.specs.Frame.{frame_bytes}
 use Rattle.rules.specs.Requests.{frame_of}
 use Rattle.trial.proofs.FrameLaws.{put_front}
 use Rattle.trial.proofs.TryingLaws.{answered-few, room_for, trying-sent}

@@ -14,7 +14,7 @@ returns c =
     let n = c.entry_count-n in
     view-entries _ _
     (appended entry_table c.args.space.now n.result (entry_words c.args.e) refl
-        (omega (arith, length-entries c.args.space.now, c.requires.0))
+    (omega (arith, length-entries c.args.space.now, c.requires.0))
     (omega (arith, n.ensures.1))
     n.ensures.0
     (entry_back c.args.e

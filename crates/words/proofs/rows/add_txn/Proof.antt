@@ -14,7 +14,7 @@ returns c =
     let n = c.txn_count-n in
     view-txns _ _
     (appended txn_table c.args.space.now n.result (txn_words c.args.t) refl
-        (omega (arith, length-txns c.args.space.now, c.requires.0))
+    (omega (arith, length-txns c.args.space.now, c.requires.0))
     (omega (arith, n.ensures.1))
     n.ensures.0 (txn_back c.args.t (record {
       party-fits = omega (arith, c.well_formed);
