@@ -1,7 +1,12 @@
--- Each kind by its number; any other kind is none of them.
+-- A kind that is none of those with a stage of its own.
 use borrow.Author.Tests.{ne_eqb}
 use Rattle.trial.specs.Panes.{hears}
 use Rattle.trial.proofs.machine.hears.Goals as goal
+
+-- An exception, by hand: a wrong stage is refused for what it is, and not at a limit of the search.
+pub returns-in-8 : goal.returns-in-8
+unfolding hears
+returns-in-8 c = rw c.in-8.is
 
 pub returns-in_default : goal.returns-in_default
 unfolding hears
