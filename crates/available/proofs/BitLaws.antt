@@ -10,7 +10,7 @@ use lib.Count.{ones, ones_in, count_trailing_zeros}
 use Rattle.rules.specs.Template.{bit}
 use Rattle.rules.specs.Holds.{drop_reader}
 use Rattle.rules.specs.Numbers.{max_txns}
-use Rattle.words.specs.Rows.{byte_values}
+use Rattle.tables.specs.Rows.{byte_values}
 use Rattle.available.specs.Live.{no_slot}
 use Rattle.available.specs.Readers.{drop_at}
 use Rattle.rules.proofs.BoolLaws.{and_left, and_right}

@@ -1,5 +1,5 @@
 -- What the code does to read holders by the slot of a live transaction is what the rules do by its number.
-use Prim.Native.Nat.{ℕ, zero, suc, ◌-◌, ◌^◌, ◌<◌}
+use Prim.Native.Nat.{ℕ, zero, suc, ◌-◌, ◌^◌, ◌<◌, ◌≤◌}
 use mathlib.Core.Bool.{Bool, true, false, not, ◌&&◌}
 use mathlib.Core.Option.{Option, none, some}
 use mathlib.Core.Path.{◌≡◌, refl, sym, ap, ◌∙◌, fun_ext, subst}
@@ -14,13 +14,13 @@ use Rattle.rules.specs.Template.{bit}
 use Rattle.rules.specs.Holds.{live_txn, drop_reader, add_reader_of, drop_reader_of}
 use Rattle.rules.specs.Words.{up_to, txn_of, txn_count, txns, view}
 use Rattle.rules.proofs.BoolLaws.{cond_cases}
-use Rattle.words.specs.Rows.{txn_row}
-use Rattle.words.proofs.SearchLaws.{find_append-none, find_append_some}
+use Rattle.tables.specs.Rows.{txn_row}
+use Rattle.tables.proofs.SearchLaws.{find_append-none, find_append_some}
 use Rattle.available.specs.Live.{no_slot, slot_of}
 use Rattle.available.specs.Readers.{add_at, drop_at, left_over}
 
 -- ---- a live transaction's slot is one of eight
-abbrev LowSlot : Option Txn → Type 0
+abbrev pub LowSlot : Option Txn → Type 0
 LowSlot none = Unit {0}
 LowSlot (some t) = t.slot < max_txns
 
@@ -35,9 +35,13 @@ module _ (p : Txn → Bool) where
   all-low f h zero = tt
   all-low f h (suc n) = last-low (f n) (h n) (findb p (up_to f n)) (all-low f h n) (up_to f n) refl
 
-live-low : (t : ℕ) (ws : List ℕ) → LowSlot (live_txn t (view ws).txns)
+pub live-low : (t : ℕ) (ws : List ℕ) → LowSlot (live_txn t (view ws).txns)
 unfolding live_txn view txns txn_of
 live-low t ws = all-low (λ x. eqb x.id.0 t) (txn_row ws) (λ k. omega arith) (txn_count ws)
+
+pub low-slot : (o : Option Txn) → LowSlot o → slot_of o ≤ no_slot
+low-slot none l = omega arith
+low-slot (some t) l = omega arith
 
 drop_of : (o : Option Txn) → LowSlot o → (r : ℕ) → drop_reader_of o r ≡ drop_at (slot_of o) r
 drop_of none l r = refl

@@ -1,104 +1,88 @@
 // The search of the entries for a look-up, and whether it waits in vain.
-ghost use Rattle.std.specs.Prelude.{false, not, ◌≡◌, ◌+◌, ◌≤◌, ◌<◌};
-ghost use Rattle.rules.specs.Numbers.{max_entries, max_waits};
-ghost use Rattle.rules.specs.Words.{view};
-ghost use Rattle.words.specs.Rows.{wait_row};
+ghost use Rattle.std.specs.Prelude.{false, ◌≡◌, ◌+◌, ◌≤◌, ◌<◌, Bool, MatchOption};
 ghost use Rattle.rules.specs.Closing.{is_over};
 ghost use Rattle.rules.specs.Holds.{oldest, some_conflicts};
-ghost use Rattle.available.specs.Find.{match_of, InRow, Asks, has_field, Passes, PassesAsked};
+ghost use Rattle.rules.specs.Numbers.{max_entries, max_waits};
+ghost use Rattle.rules.specs.Words.{view};
+ghost use Rattle.rules.specs.declared.Entry.{Entry};
+ghost use Rattle.tables.specs.Rows.{wait_row};
+ghost use Rattle.available.specs.Find.{match_of, Finds, InRow, Asks, has_field, Only, Passes, PassesAsked};
 
-use crate::holds::{has_bit, is_available, is_conflicting};
+use crate::asked::Asked;
+use crate::holds::{is_available, is_conflicting};
+use rules::bits::has_bit;
 use rules::{Entry, Fields, LookUp};
-use words::rows::{Words, clock, entry_at, entry_count, field_at, wait_at, wait_fields, wait_mask};
-use words::time::reached_at;
+use words::row::Row;
+use words::rows::{Words, clock, field_at, row_at, row_count};
 
-// An available entry with its row, or none.
-#[derive(Clone, Copy)]
-pub enum Match {
-    At(Entry, usize),
-    None,
-}
-
-// What a template asks first: the field at a column, counted from 0, and its value; at the column NONE it asks for
-// none.
-#[derive(Clone, Copy)]
-pub struct Asked {
-    column: usize,
-    want: u32,
-}
-
-const NONE: usize = 4;
-
-pub fn asked_of(mask: u8, fields: Fields) -> Asked
+// The first field that a template asks for, if it asks for any.
+pub fn asked_of(mask: u8, fields: Fields) -> Option<Asked>
     ensures { Asks result mask fields }
 {
+    // Kept: four tests: the loop over an array took 8 instructions a look-up more (docs/PERFORMANCE.md).
     if has_bit(mask, 0) {
-        return Asked {
+        return Some(Asked {
             column: 0,
             want: fields.kind,
-        };
+        });
     }
     if has_bit(mask, 1) {
-        return Asked {
+        return Some(Asked {
             column: 1,
             want: fields.side,
-        };
+        });
     }
     if has_bit(mask, 2) {
-        return Asked {
+        return Some(Asked {
             column: 2,
             want: fields.image,
-        };
+        });
     }
     if has_bit(mask, 3) {
-        return Asked {
+        return Some(Asked {
             column: 3,
             want: fields.place,
-        };
+        });
     }
-    Asked {
-        column: NONE,
-        want: 0,
-    }
+    None
 }
 
 // What the look-up that waits in row i asks first.
-pub fn asked_at(space: &Words, i: usize) -> Asked
+pub fn asked_at(space: &Words, i: usize) -> Option<Asked>
     requires { i < max_waits }
     ensures { Asks result (wait_row space.now i).mask (wait_row space.now i).fields }
 {
-    let mask = wait_mask(space, i);
-    let fields = wait_fields(space, i);
-    asked_of(mask, fields)
+    let w = row_at::<LookUp>(space, i);
+    asked_of(w.mask, w.fields)
 }
 
 // How many rows are looked at in one go: a loop of so many turns is unrolled.
 const BLOCK: usize = 8;
 
-// The first of the eight rows from `from` on that has x in the column, or else the row behind them.
-pub(crate) fn row_in_block(space: &Words, column: usize, x: u32, from: usize) -> usize
-    requires { (column < 4) × (from + 8 ≤ max_entries) }
-    ensures { (result ≤ from + 8) × Passes (has_field column x) space.now from result }
+// The first of the eight rows from `from` on that has what is asked.
+pub(crate) fn row_in_block(space: &Words, a: Asked, from: usize) -> Option<usize>
+    requires { (from + 8 ≤ max_entries) }
+    ensures { MatchOption result (Passes (has_field a.column a.want) space.now from (from + 8))
+        (λ r. (r < from + 8) × Passes (has_field a.column a.want) space.now from r) }
 {
-    let mut k: usize = 0;
-    while k < BLOCK {
-        if field_at(space, from + k, column) == x {
-            return from + k;
+    for k in from..from + BLOCK {
+        if field_at(space, k, a.column) == a.want {
+            return Some(k);
         }
-        k += 1;
     }
-    from + BLOCK
+    None
 }
 
-// The first row from `from` on that has x in the column, or where fewer than eight are left.
-pub(crate) fn skip_blocks(space: &Words, column: usize, x: u32, from: usize, n: usize) -> usize
-    requires { (column < 4) × (from ≤ max_entries) × (n ≤ max_entries) }
-    ensures { Passes (has_field column x) space.now from result }
+// The first row from `from` on that has what is asked, or where fewer than eight are left.
+// Kept: no Option, since either row is where the search goes on; two bounds, which a loop that goes on has as numbers.
+pub(crate) fn skip_blocks(space: &Words, a: Asked, from: usize, n: usize) -> usize
+    requires { (from ≤ max_entries) × (n ≤ max_entries) }
+    ensures { Passes (has_field a.column a.want) space.now from result }
 {
+    // Kept: the row where the blocks end is the answer, which a `for` over them would have to work out again.
     let mut i = from;
     while i + BLOCK <= n {
-        let r = row_in_block(space, column, x, i);
-        if r < i + BLOCK {
+        if let Some(r) = row_in_block(space, a, i) {
             return r;
         }
         i += BLOCK;
@@ -106,91 +90,77 @@ pub(crate) fn skip_blocks(space: &Words, column: usize, x: u32, from: usize, n: 
     i
 }
 
-// The first of the rows from `from` on that has x in the column, or else one behind them.
-pub(crate) fn row_with(space: &Words, column: usize, x: u32, from: usize, n: usize) -> usize
-    requires { (column < 4) × (from ≤ max_entries) × (n ≤ max_entries) }
-    ensures { Passes (has_field column x) space.now from result }
+// The first of the rows from `from` on that has what is asked, or else one behind them.
+// Kept: no Option, as in `next_row`, which hands it on.
+pub(crate) fn row_with(space: &Words, a: Asked, from: usize, n: usize) -> usize
+    requires { (from ≤ max_entries) × (n ≤ max_entries) }
+    ensures { Passes (has_field a.column a.want) space.now from result }
 {
-    let mut i = skip_blocks(space, column, x, from, n);
-    while i < n {
-        if field_at(space, i, column) == x {
+    let first = skip_blocks(space, a, from, n);
+    for i in first..n {
+        if field_at(space, i, a.column) == a.want {
             return i;
         }
-        i += 1;
     }
-    i
+    first.max(n)
 }
 
 // A row from `from` on, of n rows, up to which none matches a template that asks so: the next to look at.
-pub fn next_row(space: &Words, a: Asked, from: usize, n: usize) -> usize
+// Kept: one past the end for none: a search's loop tests its row anyway, and has two calls with an Option too.
+pub fn next_row(space: &Words, asked: Option<Asked>, from: usize, n: usize) -> usize
     requires { (from ≤ max_entries) × (n ≤ max_entries) }
-    ensures { (from ≤ result) × PassesAsked a space.now from result }
+    ensures { (from ≤ result) × ((mask : _) (want : _) → Asks asked mask want
+        → PassesAsked mask want space.now from result) }
 {
-    if NONE <= a.column {
-        return from;
+    match asked {
+        Some(a) => row_with(space, a, from, n),
+        None => from,
     }
-    row_with(space, a.column, a.want, from, n)
 }
 
-// The oldest entry that is available to the look-up.
-pub fn find_available(space: &Words, w: LookUp) -> Match
-    ensures { (match_of result ≡ oldest (view space.now).txns w (view space.now).entries)
-        × InRow space.now result }
+// The first entry that passes a test, and its row. None passes it that does not match the look-up's template.
+pub(crate) fn first_passing<F: Fn(Entry) -> bool>(
+    space: &Words,
+    w: LookUp,
+    passes: F,
+) -> Option<(Entry, usize)>
+    requires { F.IsAlwaysCallable passes }
+    ensures { (q : Entry → Bool) → Only w q → ((e : Entry) (r : Bool) → F.post passes e r → r ≡ q e)
+        → Finds q space.now result }
 {
-    let n = entry_count(space);
+    let n = row_count::<Entry>(space);
     let asked = asked_of(w.mask, w.fields);
+    // Kept: an iterator that leaps would wrap the same `next_row`, with laws of its own: no plainer.
     let mut i = next_row(space, asked, 0, n);
     while i < n {
-        let e = entry_at(space, i);
-        if is_available(space, e, w) {
-            return Match::At(e, i);
+        let e = row_at::<Entry>(space, i);
+        if passes(e) {
+            return Some((e, i));
         }
         i = next_row(space, asked, i + 1, n);
     }
-    Match::None
+    None
+}
+
+// The oldest entry that is available to the look-up, and its row.
+pub fn find_available(space: &Words, w: LookUp) -> Option<(Entry, usize)>
+    ensures { (match_of result ≡ oldest (view space.now).txns w (view space.now).entries)
+        × InRow space.now result }
+{
+    first_passing(space, w, |e| is_available(space, e, w))
 }
 
 // Whether some entry conflicts with the look-up.
 pub fn any_conflict(space: &Words, w: LookUp) -> bool
     ensures { result ≡ some_conflicts (view space.now).txns w (view space.now).entries }
 {
-    let n = entry_count(space);
-    let asked = asked_of(w.mask, w.fields);
-    let mut i = next_row(space, asked, 0, n);
-    while i < n {
-        let e = entry_at(space, i);
-        if is_conflicting(space, e, w) {
-            return true;
-        }
-        i = next_row(space, asked, i + 1, n);
-    }
-    false
+    first_passing(space, w, |e| is_conflicting(space, e, w)).is_some()
 }
 
-// Whether no entry conflicts with the look-up that waits in row i.
-pub(crate) fn lacks_conflict(space: &Words, i: usize) -> bool
-    requires { i < max_waits }
-    ensures { result ≡ not (some_conflicts (view space.now).txns (wait_row space.now i)
-        (view space.now).entries) }
+// Whether a look-up that waits is over: its deadline is reached, or it is of an IfExists kind and no entry conflicts.
+#[tactic(auto, unfolding(rules::specs::Closing::is_over))]
+pub fn is_over(space: &Words, w: LookUp) -> bool
+    ensures { result ≡ is_over (view space.now) w }
 {
-    let w = wait_at(space, i);
-    !any_conflict(space, w)
-}
-
-// Whether the look-up that waits in row i is over: its deadline is reached, or it is of an IfExists kind and no entry
-// conflicts. The whole row is read for such a kind only.
-pub fn is_over(space: &Words, i: usize) -> bool
-    requires { i < max_waits }
-    ensures { result ≡ is_over (view space.now) (wait_row space.now i) }
-{
-    let w = wait_at(space, i);
-    let deadline = w.deadline;
-    if reached_at(clock(space), deadline) {
-        return true;
-    }
-    if w.if_exists {
-        lacks_conflict(space, i)
-    } else {
-        false
-    }
+    w.deadline.is_reached(clock(space)) || (w.if_exists && !any_conflict(space, w))
 }

@@ -2,6 +2,7 @@
 // change nothing.
 #![tactic(auto)]
 
+pub mod asked;
 pub mod find;
 pub mod holds;
 pub mod live;

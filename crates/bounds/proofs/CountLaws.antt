@@ -1,16 +1,14 @@
 -- Frames counted one after another, and what the counts say of a tray.
-use Prim.Native.Nat.{ℕ, ◌+◌, ◌*◌, ◌≤◌, ◌<◌}
+use Prim.Native.Nat.{ℕ, ◌+◌, ◌*◌, ◌≤◌, ◌<◌, min}
 use mathlib.Core.Bool.{Bool, true, false, ◌||◌}
 use mathlib.Core.Path.{◌≡◌, refl, sym, ap, ap₂, ◌∙◌, subst⁻¹}
 use mathlib.Core.List.{List, [], ◌∷◌, ◌++◌}
 use native.Mathlib.Nat.{le_trans, min-le_left}
 use native.Mathlib.Omega.{arith}
-use borrow.Author.Tests.{leb-false}
-use lib.Dec.{leb}
-use lib.ListN.{length, get_or, take, drop, length-append, length-take}
-use lib.Seq.{take_all, get_or-take, get_or-drop}
+use lib.ListN.{length, take, length-append, length-take}
+use lib.Seq.{take_all}
 use Rattle.rules.specs.Numbers.{max_entries, max_registrations, max_frames, tray_refused, pairs_refused}
-use Rattle.rules.specs.Frame.{byte_at, is_write, is_look_up, is_create, is_commit, is_notify}
+use Rattle.rules.specs.Frame.{is_write, is_look_up, is_create, is_commit, is_notify}
 use Rattle.rules.specs.Tray.{frames_of, frame_count, bad_tray, tray_refusal, frame_at}
 use Rattle.rules.proofs.BoolLaws.{cond_cases}
 use Rattle.rules.proofs.ListLaws.{count-append, count_cons, length-filter}
@@ -19,7 +17,7 @@ use Rattle.tray.specs.Pairs.{pair_at}
 use Rattle.tray.proofs.PairLaws.{frames-length, frames-next}
 use Rattle.tray.proofs.PairsJudged.{verdict}
 use Rattle.bounds.specs.declared.Counts.{Counts}
-use Rattle.bounds.specs.Bounds.{kind_of, many, lesser, entries_bound, bells_bound, records_bound, bounds_number}
+use Rattle.bounds.specs.Bounds.{kind_of, many, entries_bound, bells_bound, records_bound, bounds_number}
 use Rattle.bounds.specs.Counts.{rings, share, counts_of, counting, FewFrames}
 use Rattle.bounds.proofs.Shares.{many_cons}
 
@@ -32,11 +30,11 @@ many_snoc p fs f =
     omega (arith, count-append test fs (f ∷ []), count_cons test f [])
 
 bells_snoc : (ahead : ℕ) (fs : List (List ℕ)) (f : List ℕ) {n : ℕ} → ahead + many is_notify fs ≡ n
-    → bells_bound ahead (fs ++ (f ∷ [])) ≡ bells_bound ahead fs + rings (kind_of f) (lesser max_registrations n)
+    → bells_bound ahead (fs ++ (f ∷ [])) ≡ bells_bound ahead fs + rings (kind_of f) (min max_registrations n)
 unfolding bells_bound many
 bells_snoc ahead [] f {n} q =
     let all : ahead ≡ n = omega (arith, q) in
-    omega (arith, ap (λ k. rings (kind_of f) (lesser max_registrations k)) all)
+    omega (arith, ap (λ k. rings (kind_of f) (min max_registrations k)) all)
 bells_snoc ahead (g ∷ fs) f {n} q =
     let so_many : ahead + one (is_notify (kind_of g)) + many is_notify fs ≡ n =
     omega (arith, q, many_cons is_notify g fs) in
@@ -54,23 +52,17 @@ records_snoc fs f =
       bells_snoc 0 fs f {n = many is_notify fs} (omega arith),
     )
 
-abbrev counts : ℕ → ℕ → ℕ → Counts
-counts w n r = record { writes = w; notifies = n; records = r }
-
 pub counts_snoc : (fs : List (List ℕ)) (f : List ℕ) → counting (kind_of f) (counts_of fs) ≡ counts_of (fs ++ (f ∷ []))
 counts_snoc fs f = rw (many_snoc is_write fs f, many_snoc is_notify fs f, records_snoc fs f) refl
 
 -- ---- there are few
-lesser-left : (a b : ℕ) → lesser a b ≤ a
-lesser-left a b = cond_cases (λ n. n ≤ a) (leb a b) (λ _. omega arith) (λ e. omega (arith, leb-false a b e))
-
 few-bells : (ahead : ℕ) (fs : List (List ℕ)) → bells_bound ahead fs ≤ max_registrations * length fs
 unfolding bells_bound
 few-bells ahead [] = omega arith
 few-bells ahead (f ∷ fs) =
-    let ring : rings (kind_of f) (lesser max_registrations ahead) ≤ max_registrations =
+    let ring : rings (kind_of f) (min max_registrations ahead) ≤ max_registrations =
     cond_cases (λ n. n ≤ max_registrations) (is_write (kind_of f) || is_commit (kind_of f))
-    (λ _. lesser-left max_registrations ahead) (λ _. omega arith) in
+    (λ _. omega arith) (λ _. omega arith) in
     omega (arith, few-bells (ahead + one (is_notify (kind_of f))) fs, ring)
 
 few_of : (p : ℕ → Bool) (fs : List (List ℕ)) → many p fs ≤ length fs
@@ -86,15 +78,6 @@ few-counts fs h =
       records = omega (arith, few_of is_look_up fs, few_of is_create fs, few-bells 0 fs);
     }
 
--- ---- the first byte of a frame
-pub byte_of_part : (tray : List ℕ) (at n : ℕ) → 0 < n → get_or tray at 0 ≡ byte_at (take n (drop at tray)) 0
-byte_of_part tray at n h =
-    let here : at ≡ at + 0 = omega arith in
-    sym (get_or-take n (drop at tray) 0 0 h ∙ get_or-drop at tray 0 0 ∙ ap (λ i. get_or tray i 0) (sym here))
-
-pub no_byte : (l : List ℕ) {n : ℕ} → n ≡ 0 → 0 ≡ byte_at (take n l) 0
-no_byte l e = rw e refl
-
 -- ---- what they say of a tray
 module _ (tray : List ℕ) where
   pub by_15 : bad_tray tray ≡ true → 4294967296 * tray_refused ≡ bounds_number tray
@@ -107,7 +90,7 @@ module _ (tray : List ℕ) where
 
   pub by_counts : bad_tray tray ≡ false → verdict tray ≡ false
       → let c = counts_of (frames_of tray) in
-      lesser max_entries c.writes + 65536 * c.records ≡ bounds_number tray
+      min max_entries c.writes + 65536 * c.records ≡ bounds_number tray
   unfolding bounds_number tray_refusal entries_bound
   by_counts e v = rw (e, v) refl
 
@@ -115,10 +98,6 @@ module _ (tray : List ℕ) where
 -- i of them
 abbrev pub counted : List ℕ → ℕ → Counts
 counted tray i = counts_of (take i (frames_of tray))
-
-pub counted_none : (tray : List ℕ) → counts 0 0 0 ≡ counted tray 0
-unfolding many records_bound bells_bound
-counted_none tray = refl
 
 module _ (tray : List ℕ) {i : ℕ} (l : i < frame_count tray) where
   pub counted_more : {c : Counts} {op : ℕ} → c ≡ counted tray i → op ≡ kind_of (frame_at tray (pair_at tray i))

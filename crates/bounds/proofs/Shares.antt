@@ -1,11 +1,11 @@
 -- What one frame adds to the bounds, and what its step adds to the tables and records.
-use Prim.Native.Nat.{ℕ, ◌+◌, ◌≤◌}
+use Prim.Native.Nat.{ℕ, ◌+◌, ◌≤◌, min}
 use mathlib.Core.Bool.{Bool, true, false, not, cond, ◌&&◌, ◌||◌}
 use mathlib.Core.Logic.{⊎_elim}
 use mathlib.Core.Path.{◌≡◌}
 use mathlib.Core.List.{List, ◌∷◌}
 use native.Mathlib.Omega.{arith}
-use lib.Dec.{eqb, leb}
+use lib.Dec.{eqb}
 use lib.ListN.{length, length-append}
 use Rattle.rules.specs.declared.Record.{Record}
 use Rattle.rules.specs.Numbers.{max_registrations, area_refused}
@@ -21,7 +21,7 @@ use Rattle.rules.proofs.NotifyLaws.{none-rung, rings-length, finish-registration
 use Rattle.rules.proofs.RefusalLaws.{clear, is_one}
 use Rattle.rules.proofs.Growth.{one, own_grown, finish_paid}
 use Rattle.bounds.specs.Counts.{rings, share}
-use Rattle.bounds.specs.Bounds.{kind_of, many, lesser, bells_bound}
+use Rattle.bounds.specs.Bounds.{kind_of, many, bells_bound}
 
 -- ---- the bounds
 -- the records of some frames, where some notify frames are ahead of all
@@ -37,10 +37,6 @@ pub records_cons : (ahead : ℕ) (f : List ℕ) (fs : List (List ℕ))
     ≡ share (kind_of f) ahead + records_from (ahead + one (is_notify (kind_of f))) fs
 unfolding bells_bound
 records_cons ahead f fs = omega (arith, many_cons is_look_up f fs, many_cons is_create f fs)
-
--- the lesser of two is at least what both are
-pub at_most_both : {k : ℕ} (a b : ℕ) → k ≤ a → k ≤ b → k ≤ lesser a b
-at_most_both {k} a b x y = cond_cases (λ n. k ≤ n) (leb a b) (λ _. x) (λ _. y)
 
 rings_more : (op : ℕ) {k n : ℕ} → k ≤ n → rings op k ≤ rings op n
 rings_more op h = go (is_write op || is_commit op) h
@@ -128,4 +124,5 @@ step_grown m bs area = step_cases (StepGrown m bs) m bs area refused done
 pub within-share : (op : ℕ) {n ahead : ℕ} → n ≤ max_registrations → n ≤ ahead
     → 1 + one (is_look_up op) + one (is_create op) + rings op n ≤ share op ahead
 within-share op {n} {ahead} x y =
-    omega (arith, rings_more op (at_most_both max_registrations ahead x y))
+    let within : n ≤ min max_registrations ahead = omega arith in
+    omega (arith, rings_more op within)

@@ -26,7 +26,7 @@ use Rattle.tray.proofs.TrayLaws.{runs}
 use Rattle.bounds.specs.Bounds.{kind_of, many, entries_bound, records_bound}
 use Rattle.bounds.specs.Counts.{share}
 use Rattle.bounds.specs.Within.{moments, area_for, BoundsAreKept}
-use Rattle.bounds.proofs.Shares.{records_from, many_cons, records_cons, at_most_both, owed, own-entries}
+use Rattle.bounds.proofs.Shares.{records_from, many_cons, records_cons, owed, own-entries}
 use Rattle.bounds.proofs.Shares.{step_grown, within-share}
 
 -- what is known of a space before a frame: it is sound, and has no more registrations than there were notify frames
@@ -146,7 +146,7 @@ bounds_are_kept tray area fine =
     record {
       entries = λ m i.
           let w = few-entries fs 0 area (many is_write fs) empty before_empty (omega arith) m i in
-          at_most_both max_entries (many is_write fs) w.0 w.1;
+          omega (arith, w);
       records = rw run (omega (arith, few-records fs 0 area empty before_empty));
       not_stopped = λ h. (through h).number;
       all_done = λ h. (through h).frames ∙ frames-length tray;

@@ -1,5 +1,5 @@
 -- "From the tray alone, without running it, give two bounds" (document 02, T-10).
-use Rattle.std.specs.Prelude.{ℕ, ◌+◌, ◌*◌, Bool, cond, ◌||◌, List, [], ◌∷◌, leb, length}
+use Rattle.std.specs.Prelude.{ℕ, ◌+◌, ◌*◌, min, Bool, cond, ◌||◌, List, [], ◌∷◌, leb, length}
 use Rattle.rules.specs.Lists.{filterb}
 use Rattle.rules.specs.Numbers.{max_entries, max_registrations}
 use Rattle.rules.specs.Frame.{byte_at, is_write, is_look_up, is_create, is_commit, is_notify}
@@ -14,18 +14,15 @@ kind_of f = byte_at f 0
 unfoldable pub many : (ℕ → Bool) → List (List ℕ) → ℕ
 many p fs = length (filterb (λ f. p (kind_of f)) fs)
 
-abbrev pub lesser : ℕ → ℕ → ℕ
-lesser a b = cond (leb a b) a b
-
 -- "entries stored together at most, the lesser of 64 and the writes"
 unfoldable pub entries_bound : List (List ℕ) → ℕ
-entries_bound fs = lesser max_entries (many is_write fs)
+entries_bound fs = min max_entries (many is_write fs)
 
 -- "for each write or commit the lesser of 8 and the notify frames ahead of it", where some are ahead of all
 unfoldable pub bells_bound : ℕ → List (List ℕ) → ℕ
 bells_bound ahead [] = 0
 bells_bound ahead (f ∷ fs) =
-    cond (is_write (kind_of f) || is_commit (kind_of f)) (lesser max_registrations ahead) 0
+    cond (is_write (kind_of f) || is_commit (kind_of f)) (min max_registrations ahead) 0
     + bells_bound (ahead + cond (is_notify (kind_of f)) 1 0) fs
 
 -- "records, at most frames + look-ups + creates + .."

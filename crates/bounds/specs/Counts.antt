@@ -1,10 +1,10 @@
 -- What is counted of a tray's frames, one after another.
-use Rattle.std.specs.Prelude.{ℕ, ◌+◌, ◌-◌, ◌*◌, ◌≤◌, cond, ◌||◌, List, take, drop}
+use Rattle.std.specs.Prelude.{ℕ, ◌+◌, ◌-◌, ◌*◌, ◌≤◌, min, cond, ◌||◌, List, take, drop}
 use Rattle.rules.specs.Numbers.{max_frames, max_registrations}
 use Rattle.rules.specs.Frame.{byte_at, is_write, is_look_up, is_create, is_commit, is_notify}
 use Rattle.tray.specs.declared.pairs.Pair.{Pair}
 use Rattle.bounds.specs.declared.Counts.{Counts}
-use Rattle.bounds.specs.Bounds.{many, lesser, records_bound}
+use Rattle.bounds.specs.Bounds.{many, records_bound}
 
 -- a frame's bells, where so many may ring
 abbrev pub rings : ℕ → ℕ → ℕ
@@ -13,7 +13,7 @@ rings op n = cond (is_write op || is_commit op) n 0
 -- a frame's share of the records, where some notify frames are ahead of it
 abbrev pub share : ℕ → ℕ → ℕ
 share op ahead =
-    1 + cond (is_look_up op) 1 0 + cond (is_create op) 1 0 + rings op (lesser max_registrations ahead)
+    1 + cond (is_look_up op) 1 0 + cond (is_create op) 1 0 + rings op (min max_registrations ahead)
 
 -- some frames, counted
 abbrev pub counts_of : List (List ℕ) → Counts

@@ -1,17 +1,19 @@
 // How big an area a tray wants: two bounds, from the tray alone, in one pass over its pairs.
 #![tactic(auto)]
 
-ghost use Rattle.std.specs.Prelude.{false, cond, ◌≡◌, ◌+◌, ◌≤◌, ◌*◌, length};
+ghost use Rattle.std.specs.Prelude.{min, ◌≡◌, ◌+◌, ◌≤◌, ◌*◌, length, MatchResult};
 ghost use Rattle.rules.specs.Numbers.{max_entries, max_registrations};
-ghost use Rattle.rules.specs.Tray.{bad_tray};
-ghost use Rattle.bounds.specs.Bounds.{lesser, bounds_number};
-ghost use Rattle.bounds.specs.Counts.{rings, share, counting, first_byte, FewFrames};
+ghost use Rattle.rules.specs.Requests.{number};
+ghost use Rattle.bounds.specs.Bounds.{bounds_number};
+ghost use Rattle.bounds.specs.Counts.{rings, share, counting, FewFrames};
 
+use codec::byte_at;
+use rules::Refusal;
 use rules::numbers::{
     MAX_ENTRIES, MAX_REGISTRATIONS, OP_COMMIT, OP_CREATE, OP_NOTIFY, OP_READ, OP_TAKE_IF_EXISTS,
-    OP_WRITE, PAIRS_REFUSED, TRAY_REFUSED,
+    OP_WRITE,
 };
-use tray::pairs::{Pair, is_bad_tray, is_misplaced, pair_at, pair_count, pairs_end};
+use tray::pairs::{Pair, frames_in, pairs_end, placed_at};
 
 // The units of the number that is returned.
 const RECORDS: u64 = 65536;
@@ -19,41 +21,29 @@ const RECORDS: u64 = 65536;
 const NUMBER: u64 = 4294967296;
 
 // Of the frames so far: the writes, the notify frames, and the records that all may give.
-#[derive(Clone, Copy)]
+#[derive(Clone, Copy, Default)]
 pub struct Counts {
     pub writes: u32,
     pub notifies: u32,
     pub records: u32,
 }
 
-fn min_of(a: u32, b: u32) -> u32
-    ensures { (result ≡ lesser a b) × (result ≤ a) }
-{
-    if a <= b { a } else { b }
-}
-
-fn one_if(holds: bool) -> u32
-    ensures { (result ≡ cond holds 1 0) × (result ≤ 1) }
-{
-    if holds { 1 } else { 0 }
-}
-
 // The registrations that a write or a commit may ring; no other frame rings any.
 fn bells_of(op: u8, notifies: u32) -> u32
-    ensures { (result ≡ rings op (lesser max_registrations notifies)) × (result ≤ max_registrations) }
+    ensures { (result ≡ rings op (min max_registrations notifies)) × (result ≤ max_registrations) }
 {
-    if (op == OP_WRITE) | (op == OP_COMMIT) {
-        return min_of(MAX_REGISTRATIONS as u32, notifies);
+    match op {
+        OP_WRITE | OP_COMMIT => (MAX_REGISTRATIONS as u32).min(notifies),
+        _ => 0,
     }
-    0
 }
 
 // The records that a frame may give: its own, a later answer to a look-up, an exception of a transaction, bells.
 fn records_of(op: u8, notifies: u32) -> u32
     ensures { (result ≡ share op notifies) × (result ≤ 11) }
 {
-    let answer = one_if((OP_READ <= op) & (op <= OP_TAKE_IF_EXISTS));
-    let exception = one_if(op == OP_CREATE);
+    let answer = u32::from(OP_READ <= op && op <= OP_TAKE_IF_EXISTS);
+    let exception = u32::from(op == OP_CREATE);
     1 + answer + exception + bells_of(op, notifies)
 }
 
@@ -63,60 +53,42 @@ fn count_frame(counts: Counts, op: u8) -> Counts
     ensures { result ≡ counting op counts }
 {
     Counts {
-        writes: counts.writes + one_if(op == OP_WRITE),
-        notifies: counts.notifies + one_if(op == OP_NOTIFY),
+        writes: counts.writes + u32::from(op == OP_WRITE),
+        notifies: counts.notifies + u32::from(op == OP_NOTIFY),
         records: counts.records + records_of(op, counts.notifies),
     }
 }
 
-// A frame's first byte; 0 if it is empty.
-fn first_byte(tray: &[u8], pair: Pair) -> u8
-    requires { pair.end ≤ length tray.now }
-    ensures { result ≡ first_byte tray.now pair }
-{
-    let at = pair.offset;
-    if at < pair.end { tray[at] } else { 0 }
-}
-
+// Kept: a number, since the space hands it on to C as it is.
 fn packed(counts: Counts) -> u64
     requires { FewFrames counts }
-    ensures { result ≡ lesser max_entries counts.writes + 65536 * counts.records }
+    ensures { result ≡ min max_entries counts.writes + 65536 * counts.records }
 {
-    min_of(MAX_ENTRIES as u32, counts.writes) as u64 + RECORDS * counts.records as u64
+    u64::from((MAX_ENTRIES as u32).min(counts.writes)) + RECORDS * u64::from(counts.records)
 }
 
-// Each pair is judged, and its frame is counted.
-fn count_frames(tray: &[u8]) -> u64
-    requires { bad_tray tray.now ≡ false }
-    ensures { result ≡ bounds_number tray.now }
+// Each pair is judged, and its frame is counted: both bounds, or the refusal, 15 or 16.
+fn count_frames(tray: &[u8]) -> Result<u64, Refusal>
+    ensures { MatchResult result
+        (λ n. n ≡ bounds_number tray.now)
+        (λ r. 4294967296 * number r ≡ bounds_number tray.now) }
 {
-    let len = tray.len();
-    let count = pair_count(tray);
+    let count = frames_in(tray)?;
     let mut free = pairs_end(count);
-    let mut counts = Counts {
-        writes: 0,
-        notifies: 0,
-        records: 0,
-    };
-    let mut i: u32 = 0;
-    while i < count {
-        let pair = pair_at(tray, i);
-        if is_misplaced(pair, free, len) {
-            return NUMBER * PAIRS_REFUSED as u64;
-        }
-        counts = count_frame(counts, first_byte(tray, pair));
-        free = pair.end;
-        i += 1;
+    let mut counts = Counts::default();
+    // Kept: beside the loop of `tray::pairs::refusal`: both judge by `placed_at`; a walk with a closure is no plainer.
+    for i in 0..count {
+        let Pair { offset, end } = placed_at(tray, i, free)?;
+        counts = count_frame(counts, byte_at(&tray[offset..end], 0));
+        free = end;
     }
-    packed(counts)
+    Ok(packed(counts))
 }
 
 // Entries + 65,536 × records + 4,294,967,296 × the number by which the tray is refused.
+// Kept: a number, since the space hands it on to C as it is.
 pub fn tray_bounds(tray: &[u8]) -> u64
     ensures { result ≡ bounds_number tray.now }
 {
-    if is_bad_tray(tray) {
-        return NUMBER * TRAY_REFUSED as u64;
-    }
-    count_frames(tray)
+    count_frames(tray).unwrap_or_else(|refused| NUMBER * u64::from(refused.number()))
 }

@@ -1,6 +1,6 @@
 -- Bytes past the end; the form of a frame, operation by operation.
 use Prim.Native.Nat.{ℕ, ◌+◌, ◌-◌, ◌≤◌}
-use mathlib.Core.Bool.{Bool, true, false, cond, not, ◌&&◌, ◌||◌, or-false, or-true, or_assoc, true≢false}
+use mathlib.Core.Bool.{Bool, true, false, cond, not, ◌&&◌, ◌||◌, or-false, or_assoc, true≢false}
 use mathlib.Core.Path.{◌≡◌, refl, sym, ap, ap₂, ◌∙◌}
 use mathlib.Core.Logic.{⊎_elim}
 use mathlib.Core.List.{List, [], ◌∷◌, ◌++◌, append-nil}
@@ -8,18 +8,18 @@ use native.Mathlib.Omega.{arith}
 use lib.Dec.{eqb, ltb}
 use lib.ListN.{length}
 use borrow.Author.Tests.{le-leb, eq-eqb, ne_eqb, eqb-true, eqb-false}
-use Rattle.rules.specs.declared.Fields.{Fields}
+use Rattle.std.proofs.lemmas.Bool.Decides.{nat_tests}
 use Rattle.rules.specs.Numbers.{op_write, op_read, op_take_if_exists, op_create, op_commit, op_abort, op_notify}
 use Rattle.rules.specs.Numbers.{length_refused}
 use Rattle.rules.specs.Numbers.{form_refused, party_refused, place_refused}
 use Rattle.rules.specs.Frame.{Frame, frame_length, decode, byte_at, number_at, fields_at, is_operation, Layout}
 use Rattle.rules.specs.Frame.{layout_of}
 use Rattle.rules.specs.Frame.{has_template, has_blanks, names_no_txn}
-use Rattle.rules.specs.Records.{no_fields, plain, record_at}
+use Rattle.rules.specs.Records.{no_fields}
 use Rattle.rules.specs.Refusals.{no_operation, wrong_length, bad_template, bad_blanks, bad_arc, malformed, wrong_party}
 use Rattle.rules.specs.Refusals.{wrong_arc}
 use Rattle.rules.specs.Requests.{form_refusal}
-use Rattle.rules.proofs.ReadBack.{number_behind, fields_behind, record_behind}
+use Rattle.rules.proofs.ReadBack.{number_behind, fields_behind}
 use Rattle.rules.proofs.BoolLaws.{bool_cases}
 use Rattle.rules.proofs.LayoutLaws.{look_up-layout, write_form}
 use Rattle.codec.specs.Head.{no_party, head_refusal, template_refusal}
@@ -38,15 +38,7 @@ pub fields_past : (bs : List ℕ) (i : ℕ) → length bs ≤ i → fields_at bs
 unfolding number_at
 fields_past = past fields_at fields_behind
 
-pub record_past : (bs : List ℕ) (i : ℕ) → length bs ≤ i → record_at bs i ≡ plain 0 0 0
-unfolding record_at number_at
-record_past = past record_at record_behind
-
 -- ---- operations
--- what has a layout that is an operation's is one
-as_operation : (op n : ℕ) → layout_of op ≡ layout_of n → is_operation n ≡ true → is_operation op ≡ true
-as_operation op n e t = ap (λ (y : Layout). not (eqb y.size 0)) e ∙ t
-
 -- an abort is laid out as a commit
 ending-layout : (op : ℕ) → op_commit ≤ op → op ≤ op_abort → layout_of op ≡ layout_of op_commit
 unfolding layout_of
@@ -57,34 +49,23 @@ ending-layout op l h =
 
 pub looks_up : (op : ℕ) → op_read ≤ op → op ≤ op_take_if_exists → is_operation op ≡ true
 unfolding layout_of
-looks_up op l h = as_operation op op_read (look_up-layout op (rw (le-leb _ _ l, le-leb _ _ h))) refl
+looks_up op l h = grind (arith, nat_tests)
 
 pub ends-one : (op : ℕ) → op_commit ≤ op → op ≤ op_abort → is_operation op ≡ true
 unfolding layout_of
-ends-one op l h = as_operation op op_commit (ending-layout op l h) refl
+ends-one op l h = grind (arith, nat_tests)
 
 -- ---- refusal 4: with a template, with blanks, with a transaction that must be 0, and with none of these
--- a mask that is 0 is not above 15
-low_mask : (b : Bool) (mask : ℕ) → eqb mask 0 ≡ b → (ltb 15 mask || not b) ≡ not b
-low_mask true mask e = rw (eqb-true mask 0 e)
-low_mask false mask e = or-true (ltb 15 mask)
-
 module _ (f : Frame) where
   pub find_form : op_read ≤ f.op → f.op ≤ op_take_if_exists
       → malformed f ≡ (not (eqb f.byte3 0) || ltb 23 f.mask || bad_template f.mask f.fields)
   unfolding malformed layout_of
   find_form l h = rw (look_up-layout f.op (rw (le-leb _ _ l, le-leb _ _ h))) (simp or-false)
 
+  -- a mask that is 0 is not above 15
   no_mask : (not (eqb f.byte3 0) || ltb 15 f.mask || not (eqb f.mask 0))
       ≡ (not (eqb f.byte3 0) || not (eqb f.mask 0))
-  no_mask =
-      or_assoc (not (eqb f.byte3 0)) (ltb 15 f.mask) (not (eqb f.mask 0))
-      ∙ ap (λ b. not (eqb f.byte3 0) || b) (low_mask (eqb f.mask 0) f.mask refl)
-
-  pub create_form : f.op ≡ op_create
-      → malformed f ≡ (not (eqb f.byte3 0) || not (eqb f.mask 0) || not (eqb f.txn 0))
-  unfolding malformed layout_of
-  create_form e = rw e (simp or-false (ap (λ b. b || not (eqb f.txn 0)) no_mask))
+  no_mask = grind (arith, nat_tests)
 
   pub notify_form : f.op ≡ op_notify
       → malformed f
@@ -117,12 +98,12 @@ form_is (x ∷ bs) op p a b c y =
 
 -- look-ups are as long as a read, and an abort as a commit
 pub find_length : (op : ℕ) → op_read ≤ op → op ≤ op_take_if_exists → frame_length op ≡ frame_length op_read
-unfolding frame_length
-find_length op l h = ap (λ (y : Layout). y.size) (look_up-layout op (rw (le-leb _ _ l, le-leb _ _ h)))
+unfolding frame_length layout_of
+find_length op l h = grind (arith, nat_tests)
 
 pub ending-length : (op : ℕ) → op_commit ≤ op → op ≤ op_abort → frame_length op ≡ frame_length op_commit
-unfolding frame_length
-ending-length op l h = ap (λ (y : Layout). y.size) (ending-layout op l h)
+unfolding frame_length layout_of
+ending-length op l h = grind (arith, nat_tests)
 
 -- so where it has another length, or the length of its operation
 module _ (bs : List ℕ) (op : ℕ) (is : (op ≡ byte_at bs 0) × (is_operation op ≡ true)) where
@@ -153,9 +134,7 @@ module _ (bs : List ℕ) (op : ℕ) (is : (op ≡ byte_at bs 0) × (is_operation
           → cond f form_refused (cond p party_refused (cond a place_refused 0))
           ≡ cond (eqb (cond f form_refused (cond p party_refused 0)) 0) (cond a place_refused 0)
           (cond f form_refused (cond p party_refused 0))
-      last true p a = refl
-      last false true a = refl
-      last false false a = refl
+      last f p a = grind (arith, nat_tests)
 
   pub find_head : op_read ≤ op → op ≤ op_take_if_exists → length bs ≡ frame_length op
       → form_refusal bs ≡ template_refusal bs op (fields_at bs 12) false
@@ -170,10 +149,8 @@ module _ (bs : List ℕ) (op : ℕ) (is : (op ≡ byte_at bs 0) × (is_operation
 
   pub create_head : op ≡ op_create → length bs ≡ frame_length op
       → form_refusal bs ≡ head_refusal bs op (not (eqb (byte_at bs 2) 0) || not (eqb (number_at bs 4) 0))
-  unfolding decode layout_of
-  create_head e h =
-      right-length _ (ap has_template e) h (create_form (decode bs) (sym is.0 ∙ e)
-      ∙ or_assoc (not (eqb (byte_at bs 3) 0)) (not (eqb (byte_at bs 2) 0)) (not (eqb (number_at bs 4) 0)))
+  unfolding form_refusal wrong_length no_operation malformed wrong_party wrong_arc decode frame_length layout_of
+  create_head e h = grind (arith, nat_tests)
 
   pub notify_head : op ≡ op_notify → length bs ≡ frame_length op
       → form_refusal bs ≡ template_refusal bs op (fields_at bs 12) (not (eqb (number_at bs 4) 0))
@@ -207,22 +184,3 @@ module _ (bs : List ℕ) (op : ℕ) (is : (op ≡ byte_at bs 0) × (is_operation
   ending_head l m =
       plain_head (ap (λ (y : Layout). y.template) (ending-layout op l m))
       (ap (λ (y : Layout). y.blanks) (ending-layout op l m)) (ap (λ (y : Layout). y.outside) (ending-layout op l m))
-
--- ---- 4 and 5, and then 21, of a frame with a template
-module _ (bs : List ℕ) (op : ℕ) (fields : Fields) (bad : Bool) where
-  abbrev head : ℕ
-  head = head_refusal bs op (ltb 23 (byte_at bs 2) || bad_template (byte_at bs 2) fields || bad)
-
-  abbrev arc : Bool → ℕ
-  arc b = cond b place_refused 0
-
-  pub head_first : {n : ℕ} → n ≡ head → (n ≡ 0 → ⊥) → n ≡ template_refusal bs op fields bad
-  head_first {n} e z =
-      let then = arc (bad_arc (byte_at bs 2) fields.place) in
-      sym (ap (λ k. cond (eqb k 0) then k) (sym e) ∙ ap (λ b. cond b then n) (ne_eqb n 0 z))
-
-  pub arc_last : {n : ℕ} → n ≡ head → n ≡ 0 → {b : Bool} → b ≡ bad_arc (byte_at bs 2) fields.place
-      → arc b ≡ template_refusal bs op fields bad
-  arc_last {n} e z q =
-      ap arc q
-      ∙ sym (ap (λ k. cond (eqb k 0) (arc (bad_arc (byte_at bs 2) fields.place)) k) (sym e ∙ z))

@@ -5,8 +5,8 @@ use mathlib.Core.Path.{◌≡◌, sym, ap, ◌∙◌}
 use mathlib.Core.List.{List, [], ◌∷◌, ◌++◌}
 use native.Mathlib.Nat.{add-zero, zero-add}
 use native.Mathlib.Omega.{arith}
-use lib.ListN.{length, take, drop, set}
-use lib.Seq.{take_at, sets-eq}
+use lib.ListN.{length, drop, set}
+use lib.Seq.{sets-eq}
 use borrow.Author.Tests.{le-ltb}
 use Rattle.rules.specs.declared.Record.{Record}
 use Rattle.rules.specs.Numbers.{record_size}
@@ -27,6 +27,11 @@ pub over-next : (old mid new r q : List ℕ) (i : ℕ) → mid ≡ over old i r 
     → new ≡ over old i (r ++ q)
 over-next old mid new r q i p e = e ∙ ap (λ l. over l (i + length r) q) p ∙ over-append old r q i
 
+-- and where the second call's place is told otherwise
+pub over_then : (old mid new r q : List ℕ) (i j : ℕ) → j ≡ i + length r → mid ≡ over old i r → new ≡ over mid j q
+    → new ≡ over old i (r ++ q)
+over_then old mid new r q i j k p e = over-next old mid new r q i p (e ∙ ap (λ n. over mid n q) k)
+
 pub over-front : (bs old : List ℕ) → length bs ≤ length old → over old 0 bs ≡ bs ++ drop (length bs) old
 unfolding over
 over-front bs old h = sets-eq bs old 0 (omega arith) ∙ ap (λ k. bs ++ drop k old) (zero-add (length bs))
@@ -39,10 +44,6 @@ pub front-all : (room : Bool) (bs old new : List ℕ) (n : ℕ) → room ≡ tru
     → n ≤ length old
     → InFront room bs old new n
 front-all room bs old new n e p l h = record { bytes = rw e (p ∙ over-front bs old (omega arith)); count = rw e l }
-
--- so many bytes of the slice are then those
-pub front-take : (bs old new : List ℕ) (n : ℕ) → InFront true bs old new n → take n new ≡ bs
-front-take bs old new n p = ap (take n) p.bytes ∙ take_at bs (drop (length bs) old) n (sym p.count)
 
 -- ---- a record's bytes
 pub put_fits : (r : Record) (area : List ℕ) → record_size ≤ length area

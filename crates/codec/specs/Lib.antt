@@ -2,3 +2,4 @@
 pub mod Area
 pub mod Lengths
 pub mod Head
+pub mod Parts

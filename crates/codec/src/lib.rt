@@ -4,7 +4,7 @@
 mod bytes;
 mod encode;
 mod frames;
-mod places;
+pub mod places;
 pub mod records;
 
 pub use bytes::{byte_at, number_at, whole_number};

@@ -1,12 +1,12 @@
 // Where the parts of a frame and of an answer record begin.
-pub(crate) const PARTY_AT: usize = 1;
+pub const PARTY_AT: usize = 1;
 
-pub(crate) const TXN_AT: usize = 4;
+pub const TXN_AT: usize = 4;
 
 pub(crate) const FIELDS_AT: usize = 12;
 
 // Where the fields end, and all 28 bytes.
-pub(crate) const FIELDS_END: usize = 28;
+pub const FIELDS_END: usize = 28;
 
 // Of a frame.
 pub(crate) const MASK_AT: usize = 2;

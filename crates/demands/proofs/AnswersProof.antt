@@ -13,8 +13,8 @@ use lib.ListN.{length}
 use Rattle.rules.specs.declared.Entry.{Entry}
 use Rattle.rules.specs.declared.Record.{Record}
 use Rattle.rules.specs.declared.LookUp.{LookUp}
-use Rattle.rules.specs.declared.Until.{Until}
-use Rattle.rules.specs.declared.Until.TheVariants.{Tick}
+use Rattle.rules.specs.declared.until.Until.{Until}
+use Rattle.rules.specs.declared.until.Until.TheVariants.{Tick}
 use Rattle.rules.specs.Numbers.{forever}
 use Rattle.rules.specs.Lists.{filterb, anyb}
 use Rattle.rules.specs.Time.{until, reached}

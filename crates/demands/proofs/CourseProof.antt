@@ -7,7 +7,7 @@ use mathlib.Core.List.{List, [], ◌∷◌, ◌++◌, map}
 use lib.ListN.{take, drop}
 use Rattle.rules.specs.declared.LookUp.{LookUp}
 use Rattle.rules.specs.declared.Record.{Record}
-use Rattle.rules.specs.declared.Until.TheVariants.{Forever}
+use Rattle.rules.specs.declared.until.Until.TheVariants.{Forever}
 use Rattle.rules.specs.Numbers.{op_read, op_notify, forever}
 use Rattle.rules.specs.State.{Model, empty, with_waits, with_clock, with_next_entry, with_next_txn}
 use Rattle.rules.specs.State.{with_next_registration}

@@ -10,7 +10,7 @@ use lib.Dec.{eqb, leb, ltb}
 use lib.ListN.{length, replicate, get_or}
 use Rattle.rules.specs.declared.Entry.{Entry}
 use Rattle.rules.specs.declared.Record.{Record}
-use Rattle.rules.specs.declared.Until.TheVariants.{Tick}
+use Rattle.rules.specs.declared.until.Until.TheVariants.{Tick}
 use Rattle.rules.specs.Lists.{anyb}
 use Rattle.rules.specs.State.{Model, empty}
 use Rattle.rules.specs.Frame.{decode, four_bytes}

@@ -10,8 +10,8 @@ use borrow.Author.Tests.{eqb-true, eqb-false, eq-eqb, ne_eqb, not-true, leb-true
 use lib.Dec.{eqb}
 use Rattle.rules.specs.declared.Entry.{Entry}
 use Rattle.rules.specs.declared.Txn.{Txn}
-use Rattle.rules.specs.declared.Until.{Until}
-use Rattle.rules.specs.declared.Until.TheVariants.{Tick, Forever}
+use Rattle.rules.specs.declared.until.Until.{Until}
+use Rattle.rules.specs.declared.until.Until.TheVariants.{Tick, Forever}
 use Rattle.rules.specs.Lists.{filterb, anyb, All}
 use Rattle.rules.specs.Time.{reached}
 use Rattle.rules.specs.State.{Model, with_clock}

@@ -10,7 +10,7 @@ use borrow.Author.Tests.{eq-eqb, ne_eqb}
 use lib.Dec.{eqb}
 use Rattle.rules.specs.declared.Entry.{Entry}
 use Rattle.rules.specs.declared.Txn.{Txn}
-use Rattle.rules.specs.declared.Until.{Until}
+use Rattle.rules.specs.declared.until.Until.{Until}
 use Rattle.rules.specs.Time.{until, reached}
 use Rattle.rules.specs.Template.{bit}
 use Rattle.rules.specs.State.{Model}

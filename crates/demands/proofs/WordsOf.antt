@@ -13,8 +13,8 @@ use Rattle.rules.specs.declared.Entry.{Entry}
 use Rattle.rules.specs.declared.Txn.{Txn}
 use Rattle.rules.specs.declared.LookUp.{LookUp}
 use Rattle.rules.specs.declared.Registration.{Registration}
-use Rattle.rules.specs.declared.Until.{Until}
-use Rattle.rules.specs.declared.Until.TheVariants.{Tick, Forever}
+use Rattle.rules.specs.declared.until.Until.{Until}
+use Rattle.rules.specs.declared.until.Until.TheVariants.{Tick, Forever}
 use Rattle.rules.specs.Numbers.{forever, max_entries, max_txns, max_waits, max_registrations}
 use Rattle.rules.specs.Lists.{joined, All}
 use Rattle.rules.specs.State.{Model, Bounded}

@@ -5,7 +5,7 @@ use Rattle.rules.specs.declared.Entry.{Entry}
 use Rattle.rules.specs.declared.LookUp.{LookUp}
 use Rattle.rules.specs.declared.Record.{Record}
 use Rattle.rules.specs.declared.Txn.{Txn}
-use Rattle.rules.specs.declared.Until.{Until}
+use Rattle.rules.specs.declared.until.Until.{Until}
 use Rattle.rules.specs.Numbers.{kind_written, kind_found, kind_nothing, kind_created, kind_committed, kind_aborted}
 use Rattle.rules.specs.Numbers.{kind_exception, kind_ticked}
 use Rattle.rules.specs.Lists.{filterb}

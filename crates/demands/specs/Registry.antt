@@ -4,7 +4,7 @@ use Rattle.std.specs.Prelude.{ℕ, ◌+◌, Bool, true, not, cond, ◌&&◌, ◌
 use Rattle.rules.specs.declared.Fields.{Fields}
 use Rattle.rules.specs.declared.Record.{Record}
 use Rattle.rules.specs.declared.Registration.{Registration}
-use Rattle.rules.specs.declared.Until.{Until}
+use Rattle.rules.specs.declared.until.Until.{Until}
 use Rattle.rules.specs.Numbers.{kind_written, kind_committed, kind_ticked, kind_notified}
 use Rattle.rules.specs.Lists.{filterb, anyb}
 use Rattle.rules.specs.Time.{until, reached}

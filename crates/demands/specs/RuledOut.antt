@@ -9,8 +9,8 @@ use Rattle.rules.specs.declared.Entry.{Entry}
 use Rattle.rules.specs.declared.LookUp.{LookUp}
 use Rattle.rules.specs.declared.Record.{Record}
 use Rattle.rules.specs.declared.Registration.{Registration}
-use Rattle.rules.specs.declared.Until.{Until}
-use Rattle.rules.specs.declared.Until.TheVariants.{Tick, Forever}
+use Rattle.rules.specs.declared.until.Until.{Until}
+use Rattle.rules.specs.declared.until.Until.TheVariants.{Tick, Forever}
 use Rattle.rules.specs.Numbers.{not_writer_refused, held_refused, max_waits, op_create, op_commit, operation_refused}
 use Rattle.rules.specs.Numbers.{form_refused, waiting_refused, places}
 use Rattle.rules.specs.Lists.{filterb, findb, joined}

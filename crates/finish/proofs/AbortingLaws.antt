@@ -12,7 +12,7 @@ use Rattle.rules.specs.Time.{reached}
 use Rattle.rules.specs.Transactions.{abort}
 use Rattle.rules.proofs.ListLaws.{find_some, any-filter, none_any}
 use Rattle.rules.proofs.AbortLaws.{abort-first, abort_fewer}
-use Rattle.words.proofs.SearchLaws.{find_head}
+use Rattle.tables.proofs.SearchLaws.{find_head}
 
 -- what is left to abort gives what the rules give
 pub record Aborting (m₀ m : Model) : Type 0 where

@@ -1,66 +1,35 @@
 -- A record for each row that passes a test, one after another.
-use Prim.Native.Nat.{ℕ, ◌+◌, ◌*◌, ◌≤◌}
-use mathlib.Core.Bool.{Bool, true, false}
-use mathlib.Core.Path.{◌≡◌, sym, ap, ◌∙◌, subst}
-use mathlib.Core.List.{List, [], ◌∷◌, map}
-use native.Mathlib.Omega.{arith}
-use native.Mathlib.Numerals.{add-one}
-use lib.ListN.{length, length-map}
+use Prim.Native.Nat.{ℕ, ◌*◌, ◌≤◌}
+use mathlib.Core.Bool.{Bool, true, false, cond}
+use mathlib.Core.Path.{◌≡◌, refl, sym, ◌∙◌, subst}
+use mathlib.Core.List.{List, [], ◌∷◌, ◌++◌, map}
+use lib.ListN.{length}
+use Rattle.std.specs.Prelude.{Option, Some, None}
+use Rattle.std.proofs.lemmas.Option.{none-some}
 use Rattle.rules.specs.declared.Record.{Record}
 use Rattle.rules.specs.Lists.{filterb}
 use Rattle.rules.specs.Numbers.{record_size}
-use Rattle.rules.specs.Words.{up_to}
-use Rattle.rules.proofs.ListLaws.{length-filter}
-use Rattle.rules.proofs.ViewLaws.{length-up_to}
-use Rattle.words.proofs.CompactLaws.{more_kept, more_passed}
-use Rattle.words.proofs.SearchLaws.{Rows}
+use Rattle.tables.proofs.CompactLaws.{more_kept, more_passed}
 use Rattle.finish.specs.Does.{Adds}
-use Rattle.finish.proofs.AddsLaws.{adds_none, adds-length, adds_then}
+use Rattle.finish.proofs.AddsLaws.{adds_then}
 
--- of the rows that a loop reads by f the first i are gone through: each that passes q has its record, behind the c that
--- stood in the area a₀; they are d in all
-pub record Answered {A : Type 0} (q : A → Bool) (answer : A → Record) (f : ℕ → A) (a₀ a : List ℕ) (c d i : ℕ)
-    : Type 0 where
-  pub adds : Adds (map answer (filterb q (up_to f i))) a₀ a c d
+-- of the rows xs each that passes q has its record; one more is gone through, which gets no record, or one
+module _ {A : Type 0} (q : A → Bool) (answer : A → Record) {a₀ a : List ℕ} {c d : ℕ} (xs : List A)
+    (h : Adds (map answer (filterb q xs)) a₀ a c d) {x : A} where
+  pub over_passed : q x ≡ false → Adds (map answer (filterb q (xs ++ (x ∷ [])))) a₀ a c d
+  over_passed t = rw (more_passed q answer xs x t) h
 
-module _ {A : Type 0} {q : A → Bool} {answer : A → Record} {f : ℕ → A} where
-  pub answered-start : {a : List ℕ} {c : ℕ} → Answered q answer f a a c c 0
-  answered-start {a} {c} = record { adds = adds_none a c }
+  pub over-more : {a' : List ℕ} {d' : ℕ} {r : Record} → q x ≡ true → r ≡ answer x → record_size * c ≤ length a₀
+      → Adds (r ∷ []) a a' d d' → Adds (map answer (filterb q (xs ++ (x ∷ [])))) a₀ a' c d'
+  over-more {a' = a'} {d' = d'} t s room p =
+      rw (more_kept q answer xs x t) (adds_then room h (subst (λ y. Adds (y ∷ []) a a' d d') s p))
 
-  module _ {a₀ a : List ℕ} {c d i : ℕ} (h : Answered q answer f a₀ a c d i) where
-    -- so there is room for one record more, where there is room for i + 1
-    few : d ≤ c + i
-    few =
-        omega (
-          arith,
-          h.adds.counts,
-          length-map (filterb q (up_to f i)) answer,
-          length-filter q (up_to f i),
-          length-up_to f i,
-        )
+-- what is given where the test says so
+pub none_given : {A : Type 0} (b : Bool) (x : A) {r : Option A} → r ≡ None → r ≡ cond b (Some x) None → b ≡ false
+none_given true x n e = absurd (none-some x (sym n ∙ e))
+none_given false x n e = refl
 
-    pub answered-length : record_size * (c + i) ≤ length a₀ → length a ≡ length a₀
-    answered-length room = adds-length h.adds (omega (arith, few))
-
-    pub answered-room : record_size * (c + (i + 1)) ≤ length a₀ → record_size * (d + 1) ≤ length a
-    answered-room room = omega (arith, few, answered-length (omega arith))
-
-    pub answered_passed : {x : A} → x ≡ f i → q x ≡ false → Answered q answer f a₀ a c d (i + 1)
-    answered_passed e t =
-        record { adds = rw (add-one, more_passed q answer (up_to f i) (f i) (ap q (sym e) ∙ t)) h.adds }
-
-    pub answered_more : {x : A} {a' : List ℕ} {d' : ℕ} {r : Record} → x ≡ f i → q x ≡ true → r ≡ answer x
-        → record_size * c ≤ length a₀ → Adds (r ∷ []) a a' d d'
-        → Answered q answer f a₀ a' c d' (i + 1)
-    answered_more {a' = a'} {d' = d'} e t s room p =
-        let more = subst (λ x. Adds (x ∷ []) a a' d d') (s ∙ ap answer e) p in
-        record {
-          adds = rw (add-one, more_kept q answer (up_to f i) (f i) (ap q (sym e) ∙ t))
-              (adds_then room h.adds more);
-        }
-
-  -- all are gone through
-  pub answered-all : {n : ℕ} {xs : List A} {a₀ a : List ℕ} {c d i : ℕ} → Rows xs f n → i ≡ n
-      → Answered q answer f a₀ a c d i → Adds (map answer (filterb q xs)) a₀ a c d
-  answered-all {a₀ = a₀} {a = a} {c = c} {d = d} r e h =
-      subst (λ xs. Adds (map answer (filterb q xs)) a₀ a c d) (ap (up_to f) e ∙ sym r.is) h.adds
+pub one_given : {A : Type 0} (b : Bool) (x : A) {r : Option A} {y : A} → r ≡ Some y → r ≡ cond b (Some x) None
+    → (b ≡ true) × (y ≡ x)
+one_given {A} true x {y = y} s e = let same : y ≡ x = cc in (refl, same)
+one_given {A} false x {y = y} s e = absurd (none-some y (sym e ∙ s))

@@ -1,14 +1,15 @@
 -- Bells: what the code counts is what the rules say.
-use Prim.Native.Nat.{ℕ, zero, suc, ◌+◌, ◌≤◌, ◌<◌}
+use Prim.Native.Nat.{ℕ, ◌+◌, ◌*◌, ◌≤◌, ◌<◌}
 use mathlib.Core.Bool.{Bool, true, false, not, cond, ◌&&◌, and-false}
 use mathlib.Core.Logic.{⊎_elim}
 use mathlib.Core.Path.{◌≡◌, refl, sym, ap, ap₂, ◌∙◌}
-use mathlib.Core.List.{List, [], ◌∷◌, ◌++◌, map, Memᴰ}
+use mathlib.Core.List.{List, [], ◌∷◌, ◌++◌, map, append-nil, Memᴰ}
 use native.Mathlib.Omega.{arith}
 use borrow.Author.Tests.{eqb-true, eq-eqb, ne_eqb, not-false, le-leb}
 use lib.Dec.{eqb}
 use lib.ListN.{length, length-map, take, get_or}
 use Rattle.rules.specs.declared.Entry.{Entry}
+use Rattle.rules.specs.declared.Record.{Record}
 use Rattle.rules.specs.declared.Registration.{Registration}
 use Rattle.rules.specs.declared.Request.TheVariants.{Write, Commit}
 use Rattle.rules.specs.declared.TxnId.{TxnId}
@@ -16,6 +17,7 @@ use Rattle.rules.specs.declared.WriteRequest.{WriteRequest}
 use Rattle.rules.specs.Frame.{Frame}
 use Rattle.rules.specs.Lists.{All, filterb}
 use Rattle.rules.specs.Notify.{made_public, matching, with_total, hearing, heard_of, ringing}
+use Rattle.rules.specs.Numbers.{record_size}
 use Rattle.rules.specs.Records.{rung}
 use Rattle.rules.specs.Requests.{frame_of}
 use Rattle.rules.specs.Sound.{Sound, privates}
@@ -23,17 +25,16 @@ use Rattle.rules.specs.State.{Model, with_registrations, Bounded}
 use Rattle.rules.specs.Step.{write_frame, commit_frame}
 use Rattle.rules.specs.Template.{matches, mark_of}
 use Rattle.rules.specs.Transactions.{is_private_to, commit}
-use Rattle.rules.specs.Words.{up_to}
 use Rattle.rules.specs.Write.{new_entry, stored, write}
 use Rattle.rules.proofs.BoolLaws.{and_left, and_cases}
 use Rattle.rules.proofs.ListLaws.{filter_same, length-filter, map_same, mem_filter}
 use Rattle.rules.proofs.NotifyLaws.{rings-none}
-use Rattle.rules.proofs.ViewLaws.{length-up_to}
-use Rattle.words.proofs.SearchLaws.{Rows}
 use Rattle.sound.proofs.TallyLaws.{is_private, count_more}
-use Rattle.holds.specs.declared.registry.Public.TheVariants.{Written, Committed}
-use Rattle.holds.specs.Registry.{is_own, own_matching, count_of, sum_of, heard_once}
+use Rattle.holds.specs.Registry.{is_own, own_matching, match_count, sum_of, heard_once}
 use Rattle.finish.specs.Bells.{beside, rung_by, heard_for, rung_for}
+use Rattle.finish.specs.Does.{Adds}
+use Rattle.finish.proofs.AddsLaws.{adds_none}
+use Rattle.finish.proofs.AnsweredLaws.{over_passed, over-more}
 use Rattle.finish.proofs.FinishLaws.{none_of}
 
 -- ---- by counts, or by what tells them
@@ -72,17 +73,36 @@ beside_snoc (c ∷ []) [] g l = refl
 beside_snoc (c ∷ d ∷ cs) [] g l = refl
 beside_snoc (c ∷ cs) (x ∷ gs) g l = ap (λ xs. (c, x) ∷ xs) (beside_snoc cs gs g (omega arith))
 
-beside-rows : (cs : List ℕ) (f : ℕ → Registration) (n : ℕ) → n ≤ length cs
-    → beside cs (up_to f n) ≡ up_to (λ i. (get_or cs i 0, f i)) n
-beside-rows [] f zero l = refl
-beside-rows (c ∷ cs) f zero l = refl
-beside-rows cs f (suc n) l =
-    beside_snoc cs (up_to f n) (f n) (omega (arith, length-up_to f n))
-    ∙ ap₂ (λ xs k. xs ++ ((get_or cs k 0, f n) ∷ [])) (beside-rows cs f n (omega arith)) (length-up_to f n)
+-- a bell for each row whose count is not 0
+abbrev pub rings : ℕ × Registration → Bool
+rings x = not (eqb x.0 0)
 
-pub counted-rows : (cs : List ℕ) {gs : List Registration} {f : ℕ → Registration} {n : ℕ} → n ≤ length cs → Rows gs f n
-    → Rows (beside cs gs) (λ i. (get_or cs i 0, f i)) n
-counted-rows cs {f = f} {n} l r = record { is = ap (beside cs) r.is ∙ beside-rows cs f n l }
+abbrev pub bell : ℕ × Registration → Record
+bell x = rung x.0 x.1
+
+-- the registrations passed are the first ones: none of them, or all, or one more, which gets no bell, or one
+pub no_bells : (cs a : List ℕ) (c : ℕ) → Adds (map bell (filterb rings (beside cs []))) a a c c
+no_bells [] a c = adds_none a c
+no_bells (x ∷ cs) a c = adds_none a c
+
+pub all_left : {A : Type 0} (passed : List A) {rest all : List A} → passed ++ rest ≡ all → rest ≡ [] → passed ≡ all
+all_left passed e z = sym (append-nil passed) ∙ ap (λ xs. passed ++ xs) (sym z) ∙ e
+
+module _ (cs : List ℕ) (passed : List Registration) {a₀ a : List ℕ} {c d : ℕ} (i : ℕ) (g : Registration)
+    (l : length passed ≡ i) (k : i < length cs)
+    (h : Adds (map bell (filterb rings (beside cs passed))) a₀ a c d) where
+  one-beside : beside cs (passed ++ (g ∷ [])) ≡ beside cs passed ++ ((get_or cs i 0, g) ∷ [])
+  one-beside =
+      beside_snoc cs passed g (omega (arith, l, k))
+      ∙ ap (λ n. beside cs passed ++ ((get_or cs n 0, g) ∷ [])) l
+
+  pub bells_passed : get_or cs i 0 ≡ 0 → Adds (map bell (filterb rings (beside cs (passed ++ (g ∷ []))))) a₀ a c d
+  bells_passed z = rw one-beside (over_passed rings bell (beside cs passed) h (ap not (eq-eqb _ _ z)))
+
+  pub bells-more : {a' : List ℕ} {d' : ℕ} {r : Record} → (get_or cs i 0 ≡ 0 → ⊥) → r ≡ rung (get_or cs i 0) g
+      → record_size * c ≤ length a₀ → Adds (r ∷ []) a a' d d'
+      → Adds (map bell (filterb rings (beside cs (passed ++ (g ∷ []))))) a₀ a' c d'
+  bells-more z s room p = rw one-beside (over-more rings bell (beside cs passed) h (ap not (ne_eqb _ _ z)) s room p)
 
 -- ---- where the counts are those of some entries, and no total passes the limit
 map_agree : {A B : Type 0} (p q : A → B) (xs : List A) → ((x : A) → Memᴰ x xs → p x ≡ q x) → map p xs ≡ map q xs
@@ -132,7 +152,7 @@ module _ (m : Model) (s : Sound m) (party : ℕ) (id : TxnId) (live : 0 < id.0) 
           ap not (ne_eqb e.private_to.0 0 (λ n. omega arith))
 
   abbrev counts : Registration → ℕ
-  counts = count_of (Committed id) m.entries
+  counts = own_matching id.0 m.entries
 
   abbrev f : Frame
   f = frame_of (Commit party id)
@@ -162,7 +182,7 @@ module _ (m : Model) (s : Sound m) (w : WriteRequest) (out : w.txn.0 ≡ 0) (las
   one_public = rw (eq-eqb w.txn.0 0 out, ne_eqb w.lease 0 lasts)
 
   abbrev tells : Registration → ℕ
-  tells = count_of (Written (mark_of w.blanks w.fields)) (stored m g₀).entries
+  tells = match_count (mark_of w.blanks w.fields)
 
   agrees-write : (g : Registration) → tells g ≡ matching (new_entry m g₀ ∷ []) g
   unfolding matching new_entry

@@ -26,7 +26,7 @@ use Rattle.rules.specs.Sound.{NoneFor}
 use Rattle.rules.proofs.BoolLaws.{option_cases}
 use Rattle.rules.proofs.ListLaws.{none≢some, any_none, all_false, find_some, filter-append, filter_pass}
 use Rattle.rules.proofs.StepCases.{serve-none, serve_some}
-use Rattle.words.proofs.SearchLaws.{find_append-none}
+use Rattle.tables.proofs.SearchLaws.{find_append-none}
 use Rattle.holds.specs.Hand.{hand_at}
 use Rattle.holds.proofs.HandLaws.{by_row}
 use Rattle.sound.proofs.AscendingLaws.{ascend_across}

@@ -7,7 +7,9 @@ use mathlib.Core.List.{List, [], ◌∷◌, ◌++◌}
 use native.Mathlib.Omega.{arith}
 use lib.ListN.{length, take, drop, set}
 use lib.Seq.{length-sets}
+use Rattle.std.specs.Prelude.{Option}
 use Rattle.rules.specs.declared.Entry.{Entry}
+use Rattle.rules.specs.declared.Fields.{Fields}
 use Rattle.rules.specs.declared.Record.{Record}
 use Rattle.rules.specs.declared.LookUp.{LookUp}
 use Rattle.rules.specs.Done.{Done}
@@ -16,12 +18,13 @@ use Rattle.rules.specs.Numbers.{max_waits, record_size}
 use Rattle.rules.specs.Records.{found}
 use Rattle.rules.specs.State.{with_waits}
 use Rattle.rules.specs.Words.{up_to, entry_count, wait_count, wait_count_at, waits, view, space_words}
-use Rattle.words.specs.Rows.{entry_row, wait_row, move_wait}
-use Rattle.words.proofs.SearchLaws.{Rows, SearchingFrom, from_more, from_found, from_none}
-use Rattle.words.proofs.Table.{drop_all, moved, closed}
-use Rattle.words.proofs.UpToLaws.{drop-up_to}
-use Rattle.words.proofs.Tables.{wait_table, view-waits, length-waits, entries-read}
-use Rattle.available.specs.declared.find.Asked.{Asked}
+use Rattle.tables.specs.Rows.{entry_row, wait_row, move_wait}
+use Rattle.tables.proofs.SearchLaws.{Rows, SearchingFrom, from_more, from_found, from_none}
+use Rattle.tables.proofs.Table.{drop_all, moved, closed}
+use Rattle.tables.proofs.UpToLaws.{drop-up_to}
+use Rattle.tables.proofs.Tables.{view-waits, length-waits, entries-read}
+use Rattle.tables.specs.Tables.{wait_table}
+use Rattle.available.specs.declared.asked.Asked.{Asked}
 use Rattle.available.specs.Find.{Asks, PassesAsked}
 use Rattle.holds.specs.Hand.{handed_at}
 use Rattle.available.proofs.FindLaws.{from_on, only-available}
@@ -43,7 +46,8 @@ turns-none from ws a count l =
 
 -- what is known in the search for an entry: nothing has changed since its begin, and none of those up to row j is
 -- available to the look-up of row i
-pub record Looking (from : ℕ) (ws₀ ws a₀ a : List ℕ) (done₀ done i₀ i : ℕ) (asked : Asked) (count j : ℕ) : Type 0 where
+pub record Looking (from : ℕ) (ws₀ ws a₀ a : List ℕ) (done₀ done i₀ i : ℕ) (asked : Option Asked) (count j : ℕ)
+    : Type 0 where
   pub same_words : ws ≡ ws₀
   pub same_area : a ≡ a₀
   pub same-done : done ≡ done₀
@@ -76,10 +80,11 @@ from_row {k = k} {q = q} {f = f} {n = n} r {i} s h l e t =
     )
 
 -- the search goes on to row j
-abbrev Goes : Asked → List ℕ → ℕ → ℕ → Type 0
-Goes asked ws k j = (k ≤ j) × PassesAsked asked ws k j
+abbrev Goes : Option Asked → List ℕ → ℕ → ℕ → Type 0
+Goes asked ws k j =
+    (k ≤ j) × ((mask : ℕ) (want : Fields) → Asks asked mask want → PassesAsked mask want ws k j)
 
-pub looking_on : {from : ℕ} {ws a : List ℕ} {done i : ℕ} {asked : Asked} {count k j : ℕ}
+pub looking_on : {from : ℕ} {ws a : List ℕ} {done i : ℕ} {asked : Option Asked} {count k j : ℕ}
     → Asks asked (wait_row ws i).mask (wait_row ws i).fields → count ≡ entry_count ws → from ≤ k
     → SearchingFrom from (available (view ws).txns (wait_row ws i)) (entry_row ws) k → Goes asked ws k j
     → Looking from ws ws a a done done i i asked count j
@@ -93,11 +98,11 @@ looking_on {ws = ws} {i = i} {asked = asked} q c b s g =
       all = c;
       begun = omega (arith, g.0);
       none_yet =
-          from_on asked (wait_row ws i).mask (wait_row ws i).fields q (available (view ws).txns (wait_row ws i))
-          (only-available (view ws).txns (wait_row ws i)) s g.1;
+          from_on (wait_row ws i).mask (wait_row ws i).fields (available (view ws).txns (wait_row ws i))
+          (only-available (view ws).txns (wait_row ws i)) s (g.1 _ _ q);
     }
 
-module _ {from : ℕ} {ws₀ ws a₀ a : List ℕ} {done₀ done i₀ i : ℕ} {asked : Asked} {count j : ℕ}
+module _ {from : ℕ} {ws₀ ws a₀ a : List ℕ} {done₀ done i₀ i : ℕ} {asked : Option Asked} {count j : ℕ}
     (k : Looking from ws₀ ws a₀ a done₀ done i₀ i asked count j) where
   -- so the turns are as they were
   pub turns-still : {ws₁ a₁ : List ℕ} {c n : ℕ} → Turns from ws₁ ws₀ a₁ a₀ c done₀ i₀ n

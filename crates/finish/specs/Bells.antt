@@ -6,8 +6,7 @@ use Rattle.rules.specs.Done.{Done, ending_with}
 use Rattle.rules.specs.Lists.{filterb}
 use Rattle.rules.specs.Records.{rung}
 use Rattle.rules.specs.State.{Model, with_registrations}
-use Rattle.holds.specs.declared.registry.Public.{Public}
-use Rattle.holds.specs.Registry.{count_of, heard_once}
+use Rattle.holds.specs.Registry.{heard_once}
 use Rattle.finish.specs.From.{service_from}
 
 -- each registration beside its count, and a record for each whose count is not 0
@@ -28,8 +27,6 @@ abbrev pub rung_for : (Registration → ℕ) → Model → List Record
 rung_for v m =
     map (λ g. rung (v g) (heard_once m.next_entry (v g) g)) (filterb (λ g. not (eqb (v g) 0)) m.registrations)
 
--- service from row k on, once p is made public
-unfoldable pub served_and_rung : Public → ℕ → Model → Done
-served_and_rung p k m =
-    let v = count_of p m.entries in
-    ending_with (rung_for v m) (service_from k (heard_for v m))
+-- service from row k on, once what v counts is made public
+unfoldable pub served_and_rung : (Registration → ℕ) → ℕ → Model → Done
+served_and_rung v k m = ending_with (rung_for v m) (service_from k (heard_for v m))

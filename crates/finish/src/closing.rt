@@ -6,27 +6,20 @@ ghost use Rattle.rules.specs.Words.{view};
 ghost use Rattle.finish.specs.Does.{Adds, Does};
 ghost use Rattle.finish.specs.Ending.{some_if_exists, closed_in_vain};
 
-use crate::answers::add_record;
+use crate::answers::add_each;
 use available::find::is_over;
 use codec::records::plain_record;
-use holds::endings::{Leave, leave_waits};
+use holds::endings::leave_over;
+use rules::LookUp;
 use rules::numbers::KIND_NOTHING;
-use words::rows::{Words, wait_at, wait_count};
+use words::iter::rows;
+use words::rows::Words;
 
 // Whether a look-up of an IfExists kind waits.
 pub(crate) fn any_if_exists(space: &Words) -> bool
     ensures { result ≡ some_if_exists (view space.now) }
 {
-    let n = wait_count(space);
-    let mut i: usize = 0;
-    while i < n {
-        let w = wait_at(space, i);
-        if w.if_exists {
-            return true;
-        }
-        i += 1;
-    }
-    false
+    rows::<LookUp>(space).any(|w| w.if_exists)
 }
 
 // A nothing for each waiting look-up that is over, in order of arrival.
@@ -35,20 +28,9 @@ pub(crate) fn put_nothings(space: &Words, answers: &mut [u8], count: usize) -> u
     ensures { Adds (close_waits (view space.now)).records
         answers.old answers.new count result }
 {
-    let waits = wait_count(space);
-    let mut done = count;
-    let mut i: usize = 0;
-    while i < waits {
-        let over = is_over(space, i);
-        let w = wait_at(space, i);
-        i += 1;
-        if !over {
-            continue;
-        }
-        let r = plain_record(KIND_NOTHING, w.party, w.txn);
-        done = add_record(answers, done, r);
-    }
-    done
+    add_each(space, answers, count, |w: LookUp| {
+        is_over(space, w).then_some(plain_record(KIND_NOTHING, w.party, w.txn))
+    })
 }
 
 // Waiting look-ups whose deadline is reached, and those of an IfExists kind with no conflicting entry left, get
@@ -62,7 +44,7 @@ pub(crate) fn close_waits(space: &mut Words, answers: &mut [u8], count: usize) -
     if done == count {
         return done;
     }
-    leave_waits(space, Leave::Over);
+    leave_over(space);
     done
 }
 

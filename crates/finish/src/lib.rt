@@ -17,7 +17,8 @@ ghost use Rattle.finish.specs.From.{service_from};
 use crate::closing::{close_in_vain, close_waits};
 use crate::service::serve_waits;
 use crate::tick::lapse;
-use words::rows::{Words, entry_count};
+use rules::Entry;
+use words::rows::{Words, row_count};
 
 // Service, from a row on.
 pub fn serve(space: &mut Words, answers: &mut [u8], count: usize, from: usize) -> usize
@@ -25,7 +26,7 @@ pub fn serve(space: &mut Words, answers: &mut [u8], count: usize, from: usize) -
     ensures { Does (service_from from (view space.old)) space.new
         answers.old answers.new count result }
 {
-    if entry_count(space) <= from {
+    if row_count::<Entry>(space) <= from {
         return count;
     }
     serve_waits(space, answers, count, from)

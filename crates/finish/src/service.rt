@@ -10,7 +10,8 @@ use available::find::{asked_at, next_row};
 use available::holds::is_available;
 use codec::records::found_record;
 use holds::hand::hand_out;
-use words::rows::{Words, entry_at, entry_count, move_wait, set_wait_count, wait_at, wait_count};
+use rules::{Entry, LookUp};
+use words::rows::{Words, move_row, row_at, row_count, set_row_count};
 
 // The waiting look-ups are gone through once in order of arrival, and each with an available entry is answered found,
 // with the oldest available at its turn, of the entries from row `from` on. `count` records stand in the answers area
@@ -20,30 +21,28 @@ pub(crate) fn serve_waits(space: &mut Words, answers: &mut [u8], count: usize, f
     ensures { Does (service_from from (view space.old)) space.new
         answers.old answers.new count result }
 {
-    let waits = wait_count(space);
+    let waits = row_count::<LookUp>(space);
     let mut done = count;
-    let mut i: usize = 0;
-    let mut n: usize = 0;
-    'waiting: while i < waits {
+    let mut kept = 0;
+    // Kept: compacted by hand: `hand_out` needs the space mutably inside, and `retain_rows` lends it shared.
+    'waiting: for i in 0..waits {
         let asked = asked_at(space, i);
-        let entries = entry_count(space);
+        let entries = row_count::<Entry>(space);
+        // Kept: document 01's form: nested loops, the inner left by label; `next_row` leaps.
         let mut j = next_row(space, asked, from, entries);
         while j < entries {
-            let w = wait_at(space, i);
-            let e = entry_at(space, j);
+            let w = row_at::<LookUp>(space, i);
+            let e = row_at::<Entry>(space, j);
             if is_available(space, e, w) {
                 hand_out(space, j, e, w);
-                let r = found_record(w, e);
-                done = add_record(answers, done, r);
-                i += 1;
+                done = add_record(answers, done, found_record(w, e));
                 continue 'waiting;
             }
             j = next_row(space, asked, j + 1, entries);
         }
-        move_wait(space, i, n);
-        n += 1;
-        i += 1;
+        move_row::<LookUp>(space, i, kept);
+        kept += 1;
     }
-    set_wait_count(space, n);
+    set_row_count::<LookUp>(space, kept);
     done
 }

@@ -9,14 +9,14 @@ ghost use Rattle.rules.specs.Words.{view};
 ghost use Rattle.available.specs.Live.{live_of};
 ghost use Rattle.finish.specs.Does.{Adds, Does};
 
-use crate::answers::add_record;
-use available::live::Live;
+use crate::answers::add_each;
 use codec::records::plain_record;
 use holds::endings::abort_txn;
 use holds::sweep::drop_ended;
+use rules::Txn;
 use rules::numbers::KIND_EXCEPTION;
-use words::rows::{Words, clock, txn_at, txn_count};
-use words::time::reached_at;
+use words::iter::rows;
+use words::rows::{Words, clock};
 
 // An exception for each transaction that ends now, by number.
 pub(crate) fn put_exceptions(space: &Words, answers: &mut [u8], count: usize) -> usize
@@ -25,39 +25,20 @@ pub(crate) fn put_exceptions(space: &Words, answers: &mut [u8], count: usize) ->
         answers.old answers.new count result }
 {
     let now = clock(space);
-    let txns = txn_count(space);
-    let mut done = count;
-    let mut i: usize = 0;
-    while i < txns {
-        let t = txn_at(space, i);
-        let end = t.end;
-        i += 1;
-        if !reached_at(now, end) {
-            continue;
-        }
-        let r = plain_record(KIND_EXCEPTION, t.party, t.id);
-        done = add_record(answers, done, r);
-    }
-    done
+    add_each(space, answers, count, |t: Txn| {
+        t.end
+            .is_reached(now)
+            .then_some(plain_record(KIND_EXCEPTION, t.party, t.id))
+    })
 }
 
 // The first live transaction that ends now.
-pub(crate) fn first_ended(space: &Words) -> Live
+pub(crate) fn first_ended(space: &Words) -> Option<Txn>
     ensures { live_of result
         ≡ findb (λ t. reached (view space.now).clock t.end) (view space.now).txns }
 {
     let now = clock(space);
-    let n = txn_count(space);
-    let mut i: usize = 0;
-    while i < n {
-        let t = txn_at(space, i);
-        let end = t.end;
-        if reached_at(now, end) {
-            return Live::At(t);
-        }
-        i += 1;
-    }
-    Live::None
+    rows::<Txn>(space).find(|t| t.end.is_reached(now))
 }
 
 // The transactions that end now are aborted, by number.
@@ -65,10 +46,7 @@ pub(crate) fn abort_ended(space: &mut Words)
     ensures { view space.new
         ≡ abort_all (ended_txns (view space.old)) (view space.old) }
 {
-    loop {
-        let Live::At(t) = first_ended(space) else {
-            return;
-        };
+    while let Some(t) = first_ended(space) {
         abort_txn(space, t.id);
     }
 }

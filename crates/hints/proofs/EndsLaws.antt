@@ -9,7 +9,7 @@ use mathlib.Core.List.{List, [], ◌∷◌, ◌++◌}
 use borrow.Author.Tests.{ne_eqb}
 use Rattle.rules.specs.declared.Entry.{Entry}
 use Rattle.rules.specs.declared.LookUp.{LookUp}
-use Rattle.rules.specs.declared.Until.{Until}
+use Rattle.rules.specs.declared.until.Until.{Until}
 use Rattle.rules.specs.Lists.{All, filterb}
 use Rattle.rules.specs.Time.{until}
 use Rattle.rules.specs.State.{Model}

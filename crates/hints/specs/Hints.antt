@@ -1,41 +1,23 @@
 -- What is known of a space beside its words, so that a step need not look for it. Hints may say less than is so, never
 -- more.
-use Rattle.std.specs.Prelude.{ℕ, ◌+◌, ◌%◌, ◌≤◌, ◌<◌, false, ◌⊎◌, ◌≡◌, List, [], ◌∷◌, ◌++◌, get_or}
+use Rattle.std.specs.Prelude.{ℕ, ◌%◌, ◌≤◌, ◌<◌, Bool, true, false, ◌⊎◌, ◌≡◌, List, [], ◌∷◌, ◌++◌, get_or}
 use Rattle.rules.specs.declared.Entry.{Entry}
 use Rattle.rules.specs.declared.LookUp.{LookUp}
 use Rattle.rules.specs.declared.Txn.{Txn}
-use Rattle.rules.specs.declared.Until.{Until}
+use Rattle.rules.specs.declared.until.Until.{Until}
 use Rattle.rules.specs.Lists.{All}
 use Rattle.rules.specs.Numbers.{forever}
 use Rattle.rules.specs.State.{Model}
 use Rattle.rules.specs.Template.{bit}
 use Rattle.rules.specs.Time.{reached}
+use Rattle.hints.specs.declared.known.Hints.{Hints}
 
--- a tick before which nothing ends; the greatest number of a transaction that has done anything; and flags of the
--- parties that wait, by the remainder of the party's number
-abbrev pub least_at : ℕ
-least_at = 0
+-- flags of the parties that wait, by the remainder of the party's number
+abbrev pub flag_count : ℕ
+flag_count = 32
 
-abbrev pub acted_at : ℕ
-acted_at = 1
-
-abbrev pub flags_at : ℕ
-flags_at = 2
-
-abbrev pub flags : ℕ
-flags = 32
-
-abbrev pub hint_words : ℕ
-hint_words = flags_at + flags
-
-abbrev pub least : List ℕ → ℕ
-least hs = get_or hs least_at 0
-
-abbrev pub acted : List ℕ → ℕ
-acted hs = get_or hs acted_at 0
-
-abbrev pub flag : List ℕ → ℕ → ℕ
-flag hs party = get_or hs (flags_at + party % flags) 0
+abbrev pub has_flag : Hints → ℕ → Bool
+has_flag hs party = get_or hs.flags (party % flag_count) false
 
 -- no clock before the tick n has reached the end
 abbrev pub NotBefore : ℕ → Until → Type 0
@@ -49,19 +31,19 @@ pub record EndsFrom (n : ℕ) (m : Model) : Type 0 where
   pub registrations : All (λ g. NotBefore n g.end) m.registrations
 
 -- the party of a look-up has a flag
-abbrev pub Flagged : List ℕ → LookUp → Type 0
-Flagged hs w = flag hs w.party ≡ 0 → ⊥
+abbrev pub Flagged : Hints → LookUp → Type 0
+Flagged hs w = has_flag hs w.party ≡ true
 
 -- hints that say no more than others
-pub record Weaker (hs hs' : List ℕ) : Type 0 where
-  pub falls : least hs' ≤ least hs
-  pub stays : (party : ℕ) → (flag hs party ≡ 0 → ⊥) → flag hs' party ≡ 0 → ⊥
-  pub grows : acted hs ≤ acted hs'
+pub record Weaker (hs hs' : Hints) : Type 0 where
+  pub falls : hs'.least ≤ hs.least
+  pub stays : (party : ℕ) → has_flag hs party ≡ true → has_flag hs' party ≡ true
+  pub grows : hs.acted ≤ hs'.acted
 
 -- they know of the look-up that waits last
-abbrev pub Knows : List ℕ → List LookUp → Type 0
+abbrev pub Knows : Hints → List LookUp → Type 0
 Knows hs ws =
-    (vs : List LookUp) (w : LookUp) → ws ≡ vs ++ (w ∷ []) → NotBefore (least hs) w.deadline × Flagged hs w
+    (vs : List LookUp) (w : LookUp) → ws ≡ vs ++ (w ∷ []) → NotBefore hs.least w.deadline × Flagged hs w
 
 -- the transaction has nothing of the entry
 pub record Apart (t : Txn) (e : Entry) : Type 0 where
@@ -78,16 +60,16 @@ abbrev pub IdleAbove : ℕ → Model → Type 0
 IdleAbove n m = All (λ t. n < t.id.0 → Idle m t) m.txns
 
 -- what the hints say is so of the space
-pub record Reliable (hs : List ℕ) (m : Model) : Type 0 where
-  pub ends : EndsFrom (least hs) m
+pub record Reliable (hs : Hints) (m : Model) : Type 0 where
+  pub ends : EndsFrom hs.least m
   pub flagged : All (Flagged hs) m.waits
-  pub idle : acted hs < forever → IdleAbove (acted hs) m
+  pub idle : hs.acted < forever → IdleAbove hs.acted m
 
 -- ends and flags told from the space anew; or hints left as they are
-pub record Anew (hs : List ℕ) (m : Model) (hs' : List ℕ) : Type 0 where
-  pub ends : EndsFrom (least hs') m
+pub record Anew (hs : Hints) (m : Model) (hs' : Hints) : Type 0 where
+  pub ends : EndsFrom hs'.least m
   pub flagged : All (Flagged hs') m.waits
-  pub same : acted hs' ≡ acted hs
+  pub same : hs'.acted ≡ hs.acted
 
-abbrev pub Renewed : List ℕ → Model → List ℕ → Type 0
+abbrev pub Renewed : Hints → Model → Hints → Type 0
 Renewed hs m hs' = (hs' ≡ hs) ⊎ Anew hs m hs'

@@ -1,160 +1,123 @@
 // Hints: asked, and kept as frames bring new leases, look-ups and transactions. They may say less than is so, never
 // more.
-ghost use Rattle.std.specs.Prelude.{true, false, ◌≡◌, ◌≤◌, ◌<◌, length};
+ghost use Rattle.std.specs.Prelude.{true, ◌≡◌, ◌≤◌, ◌<◌};
 ghost use Rattle.rules.specs.Numbers.{forever};
 ghost use Rattle.rules.specs.State.{empty};
 ghost use Rattle.rules.specs.Time.{until};
 ghost use Rattle.rules.specs.Words.{view};
-ghost use Rattle.hints.specs.Hints.{hint_words, least, acted, flag, NotBefore, Weaker, Knows, Reliable};
+ghost use Rattle.hints.specs.Hints.{has_flag, NotBefore, Weaker, Knows, Reliable};
 
-use rules::TxnId;
 use rules::numbers::FOREVER;
-use words::rows::{Words, wait_at, wait_count, wait_end};
+use rules::{LookUp, TxnId};
+use words::rows::{Words, row_at, row_count};
 
-pub const HINTS: usize = FLAGS_AT + FLAGS;
-
-pub type Hints = [u32; HINTS];
-
-const LEAST_AT: usize = 0;
-
-const ACTED_AT: usize = 1;
-
-const FLAGS_AT: usize = 2;
-
+// One for each party, and more.
 const FLAGS: usize = 32;
 
-// Does nothing. A call tells the proof of what stands around it how many words there are, which it has from no index.
-pub(crate) fn whole(hints: &Hints)
-    ensures { length hints.now ≡ hint_words }
-{
-    let all = &hints[..];
-    all.len();
+#[derive(Clone, Copy)]
+pub struct Hints {
+    // A tick before which nothing ends.
+    // Kept: a word: FOREVER is later than every tick, so `min` and `<` need no order on `Until`.
+    pub(crate) least: u32,
+    // The greatest number of a transaction that has done anything.
+    // Kept: 0 if none has, FOREVER if that is unknown: as a number one comparison tells all three (`is_idle`).
+    pub(crate) acted: u32,
+    // Who may wait, by the remainder of the party's number.
+    pub(crate) flags: [bool; FLAGS],
 }
 
-// Of the empty space: nothing ends, no transaction has done anything, nobody waits.
-pub fn know_empty(hints: &mut Hints)
-    ensures { Reliable hints.new empty }
-{
-    *hints = [0; HINTS];
-    hints[LEAST_AT] = FOREVER;
-}
-
-// Nothing is known: true of any space.
-pub fn know_nothing(hints: &mut Hints)
-    ensures { (m : _) → Reliable hints.new m }
-{
-    *hints = [FOREVER; HINTS];
-    hints[LEAST_AT] = 0;
-}
-
-// A tick before which nothing ends.
-pub fn least_end(hints: &Hints) -> u32
-    ensures { result ≡ least hints.now }
-{
-    hints[LEAST_AT]
-}
-
-// Whether the transaction is known to have done nothing.
-pub fn is_idle(hints: &Hints, id: TxnId) -> bool
-    ensures { result ≡ true → (acted hints.now < id.0) × (acted hints.now < forever) }
-{
-    hints[ACTED_AT] < id.0
-}
-
-// Whether the party may wait.
-pub fn may_wait(hints: &Hints, party: u8) -> bool
-    ensures { result ≡ false → flag hints.now party ≡ 0 }
-{
-    hints[FLAGS_AT + party as usize % FLAGS] != 0
-}
-
-// Of two ticks the sooner: not after either.
-pub(crate) fn sooner(a: u32, b: u32) -> u32
-    ensures { (result ≤ a) × (result ≤ b) }
-{
-    if b < a { b } else { a }
-}
-
-// Something new ends at the tick, or later.
-pub(crate) fn lower(hints: &mut Hints, tick: u32)
-    ensures { Weaker hints.old hints.new × (least hints.new ≤ tick) }
-{
-    whole(hints);
-    if tick < hints[LEAST_AT] {
-        hints[LEAST_AT] = tick;
+impl Hints {
+    // Of the empty space: nothing ends, no transaction has done anything, nobody waits.
+    pub fn of_empty() -> Hints
+        ensures { Reliable result empty }
+    {
+        Hints {
+            least: FOREVER,
+            acted: 0,
+            flags: [false; FLAGS],
+        }
     }
-}
 
-// A tick before which a lease from the clock on does not end. (One that ends behind the last clock is refused.)
-pub(crate) fn tick_of(clock: u32, lease: u32) -> u32
-    ensures { NotBefore result (until clock lease) }
-{
-    if FOREVER - clock <= lease {
-        FOREVER
-    } else {
-        clock + lease
+    // Nothing is known: true of any space.
+    pub fn unknown() -> Hints
+        ensures { (m : _) → Reliable result m }
+    {
+        Hints {
+            least: 0,
+            acted: FOREVER,
+            flags: [true; FLAGS],
+        }
     }
-}
 
-// A lease from the clock on.
-pub fn note_lease(hints: &mut Hints, clock: u32, lease: u32)
-    ensures { Weaker hints.old hints.new
-        × NotBefore (least hints.new) (until clock lease) }
-{
-    lower(hints, tick_of(clock, lease));
-}
-
-// An entry's: with lease 0 none is stored.
-pub fn note_stored(hints: &mut Hints, clock: u32, lease: u32)
-    ensures { Weaker hints.old hints.new
-        × ((lease ≡ 0 → ⊥) → NotBefore (least hints.new) (until clock lease)) }
-{
-    if lease == 0 {
-        return;
+    // A tick before which nothing ends.
+    pub fn least_end(&self) -> u32
+        ensures { result ≡ self.now.least }
+    {
+        self.least
     }
-    note_lease(hints, clock, lease);
-}
 
-// Something is done in the transaction.
-pub fn note_acted(hints: &mut Hints, id: TxnId)
-    ensures { Weaker hints.old hints.new × (id.0 ≤ acted hints.new) }
-{
-    whole(hints);
-    if hints[ACTED_AT] < id.0 {
-        hints[ACTED_AT] = id.0;
+    // Whether the transaction is known to have done nothing.
+    pub fn is_idle(&self, id: TxnId) -> bool
+        ensures { result ≡ true → (self.now.acted < id.0) × (self.now.acted < forever) }
+    {
+        self.acted < id.0
     }
-}
 
-pub(crate) fn flag_party(hints: &mut Hints, party: u8)
-    ensures { Weaker hints.old hints.new × (flag hints.new party ≡ 0 → ⊥)
-        × (least hints.new ≡ least hints.old)
-        × (acted hints.new ≡ acted hints.old) }
-{
-    whole(hints);
-    hints[FLAGS_AT + party as usize % FLAGS] = 1;
-}
-
-// Ends by the tick, and no flag: those who wait are flagged next.
-pub(crate) fn set_least(hints: &mut Hints, tick: u32)
-    ensures { (least hints.new ≡ tick) × (acted hints.new ≡ acted hints.old) }
-{
-    let acted = hints[ACTED_AT];
-    *hints = [0; HINTS];
-    hints[LEAST_AT] = tick;
-    hints[ACTED_AT] = acted;
-}
-
-// The look-up that waits last, if anyone waits.
-pub fn note_last(space: &Words, hints: &mut Hints)
-    ensures { Weaker hints.old hints.new
-        × Knows hints.new (view space.now).waits }
-{
-    let n = wait_count(space);
-    if n == 0 {
-        return;
+    // Whether the party may wait.
+    pub fn may_wait(&self, party: u8) -> bool
+        ensures { result ≡ has_flag self.now party }
+    {
+        self.flags[usize::from(party) % FLAGS]
     }
-    let i = n - 1;
-    let w = wait_at(space, i);
-    lower(hints, wait_end(space, i));
-    flag_party(hints, w.party);
+
+    // Something new ends at the tick, or later.
+    fn lower(&mut self, tick: u32)
+        ensures { Weaker self.old self.new × (self.new.least ≤ tick) }
+    {
+        self.least = self.least.min(tick);
+    }
+
+    // A lease from the clock on. (One that ends behind the last clock is refused.)
+    pub fn note_lease(&mut self, clock: u32, lease: u32)
+        ensures { Weaker self.old self.new × NotBefore self.new.least (until clock lease) }
+    {
+        self.lower(clock.saturating_add(lease));
+    }
+
+    // An entry's: with lease 0 none is stored.
+    pub fn note_stored(&mut self, clock: u32, lease: u32)
+        ensures { Weaker self.old self.new
+            × ((lease ≡ 0 → ⊥) → NotBefore self.new.least (until clock lease)) }
+    {
+        if lease != 0 {
+            self.note_lease(clock, lease);
+        }
+    }
+
+    // Something is done in the transaction.
+    pub fn note_acted(&mut self, id: TxnId)
+        ensures { Weaker self.old self.new × (id.0 ≤ self.new.acted) }
+    {
+        self.acted = self.acted.max(id.0);
+    }
+
+    pub(crate) fn flag_party(&mut self, party: u8)
+        ensures { Weaker self.old self.new × (has_flag self.new party ≡ true)
+            × (self.new.least ≡ self.old.least)
+            × (self.new.acted ≡ self.old.acted) }
+    {
+        self.flags[usize::from(party) % FLAGS] = true;
+    }
+
+    // The look-up that waits last, if anyone waits.
+    pub fn note_last(&mut self, space: &Words)
+        ensures { Weaker self.old self.new × Knows self.new (view space.now).waits }
+    {
+        let Some(last) = row_count::<LookUp>(space).checked_sub(1) else {
+            return;
+        };
+        let w = row_at::<LookUp>(space, last);
+        self.lower(u32::from(w.deadline));
+        self.flag_party(w.party);
+    }
 }

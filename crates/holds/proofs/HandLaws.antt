@@ -6,6 +6,7 @@ use mathlib.Core.List.Memᴰ
 use mathlib.Core.List.{List, [], ◌∷◌, map, map-id, Memᴰ}
 use native.Mathlib.Omega.{arith}
 use borrow.Author.Tests.{eq-eqb, ne_eqb}
+use lib.Dec.{eqb}
 use lib.ListN.{length, get_or, set}
 use lib.Seq.{set-get_or}
 use Rattle.rules.specs.declared.Entry.{Entry}
@@ -18,16 +19,14 @@ use Rattle.rules.specs.Holds.{live_txn}
 use Rattle.rules.specs.LookUp.{hand_out, removes, held_by, with_hold, marked, is_entry}
 use Rattle.rules.specs.Transactions.{released_by, released, commit, abort, without_txn, is_taken_by, is_private_to}
 use Rattle.rules.specs.Tick.{drop_ended}
+use Rattle.rules.specs.Time.{reached}
 use Rattle.rules.specs.Sound.{Ascending}
 use Rattle.rules.specs.Words.{entry_of, view}
 use Rattle.rules.proofs.ListLaws.{filter_pass, map_same}
 use Rattle.rules.proofs.BoolLaws.{cond_cases}
-use Rattle.words.specs.Rows.{without, FitsWord}
-use Rattle.words.proofs.Tables.{end_read}
+use Rattle.tables.specs.Rows.{without, FitsWord}
+use Rattle.tables.proofs.Tables.{end_read}
 use Rattle.available.proofs.ReaderLaws.{drops, adds}
-use Rattle.holds.specs.declared.sweep.Sweep.TheVariants.{Expire, Commit, Abort}
-use Rattle.holds.specs.declared.endings.Leave.TheVariants.{Inside}
-use Rattle.holds.specs.Leave.{stays}
 use Rattle.available.specs.Live.{no_slot, slot_of}
 use Rattle.holds.specs.Sweep.{released_at, marked_at, sweep_model}
 use Rattle.holds.specs.Hand.{hand_at, handed_at}
@@ -112,7 +111,7 @@ marked-fits takes t p r =
     cond_cases (λ (x : Entry). FitsWord x.end) (is_private_to t.0 (entry_of r)) (λ k. end_read r) (λ k. end_read r)
 
 -- ---- entries that end, and a transaction that ends
-pub drop-ended : (m : Model) → drop_ended m ≡ sweep_model (Expire m.clock) m
+pub drop-ended : (m : Model) → drop_ended m ≡ sweep_model (λ e. not (reached m.clock e.end)) (λ e. e) m
 unfolding drop_ended sweep_model
 drop-ended m = ap (λ es. with_entries es m) (sym (map-id _))
 
@@ -122,7 +121,7 @@ module _ (ws : List ℕ) (t : TxnId) (p : ℕ) (q : p ≡ slot_of (live_txn t.0 
   ended es m = with_entries es (with_txns (without_txn t.0 m.txns) m)
 
   -- the pass, and then the transaction is live no longer
-  pub committed-model : (m₁ m₂ : Model) → m₁ ≡ sweep_model (Commit t p) (view ws)
+  pub committed-model : (m₁ m₂ : Model) → m₁ ≡ sweep_model (λ e. not (is_taken_by t.0 e)) (released_at t.0 p) (view ws)
       → m₂ ≡ with_txns (without_txn t.0 m₁.txns) m₁ → m₂ ≡ commit t.0 (view ws)
   unfolding sweep_model commit released released_at
   committed-model m₁ m₂ e f =
@@ -132,14 +131,15 @@ module _ (ws : List ℕ) (t : TxnId) (p : ℕ) (q : p ≡ slot_of (live_txn t.0 
       (filterb (λ x. not (is_taken_by t.0 x)) (view ws).entries)) (view ws)) (drops ws t.0 p q))
 
   -- the pass, the look-ups inside, and then the transaction is live no longer
-  pub aborted-model : (m₁ m₂ m₃ : Model) → m₁ ≡ sweep_model (Abort t p) (view ws)
-      → m₂ ≡ with_waits (filterb (stays m₁ (Inside t)) m₁.waits) m₁
+  pub aborted-model : (m₁ m₂ m₃ : Model)
+      → m₁ ≡ sweep_model (λ e. not (is_private_to t.0 e)) (released_at t.0 p) (view ws)
+      → m₂ ≡ with_waits (filterb (λ w. not (eqb w.txn.0 t.0)) m₁.waits) m₁
       → m₃ ≡ with_txns (without_txn t.0 m₂.txns) m₂ → m₃ ≡ abort t.0 (view ws)
   unfolding sweep_model abort released released_at
   aborted-model m₁ m₂ m₃ e f g =
       g
       ∙ ap (λ (m : Model). with_txns (without_txn t.0 m.txns) m) (f
-      ∙ ap (λ (m : Model). with_waits (filterb (stays m (Inside t)) m.waits) m) e)
+      ∙ ap (λ (m : Model). with_waits (filterb (λ w. not (eqb w.txn.0 t.0)) m.waits) m) e)
       ∙ sym (ap (λ drop. ended (map (released_by drop t.0)
       (filterb (λ x. not (is_private_to t.0 x)) (view ws).entries))
-      (with_waits (filterb (stays (view ws) (Inside t)) (view ws).waits) (view ws))) (drops ws t.0 p q))
+      (with_waits (filterb (λ w. not (eqb w.txn.0 t.0)) (view ws).waits) (view ws))) (drops ws t.0 p q))

@@ -3,4 +3,5 @@ pub mod HandLaws
 pub mod RenewLaws
 pub mod SweepLaws
 pub mod SlotLaws
+pub mod SearchLaws
 pub mod RegistryLaws

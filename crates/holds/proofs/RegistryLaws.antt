@@ -1,56 +1,25 @@
 -- What registrations hear of, row by row.
 use Prim.Native.Nat.{ℕ, zero, suc, ◌+◌, ◌≤◌, ◌<◌}
-use mathlib.Core.Bool.{Bool, true, false, cond, ◌&&◌}
+use mathlib.Core.Bool.{Bool, cond, ◌&&◌}
 use mathlib.Core.Path.{◌≡◌, refl, sym, ap, ap₂, ◌∙◌}
-use mathlib.Core.List.{List, [], ◌∷◌, ◌++◌, map, map-append}
+use mathlib.Core.List.{List, [], ◌∷◌, ◌++◌, map, map-append, append-nil}
 use native.Mathlib.Numerals.{add-one}
 use native.Mathlib.Omega.{arith}
-use lib.ListN.{length, get_or, set, take}
+use lib.ListN.{length, length-append, get_or, set, take}
 use lib.Seq.{take-suc-set}
 use Rattle.rules.specs.declared.Entry.{Entry}
 use Rattle.rules.specs.declared.Registration.{Registration}
 use Rattle.rules.specs.Template.{matches}
 use Rattle.rules.specs.Notify.{matching}
 use Rattle.rules.specs.State.{Model, with_registrations}
-use Rattle.rules.specs.Words.{up_to, view, registration_count, registration_of, until_of}
-use Rattle.rules.proofs.ListLaws.{count, count-append, count_cons, filter-filter}
-use Rattle.words.specs.Rows.{registration_row, FitsWord}
-use Rattle.words.proofs.SearchLaws.{Rows}
-use Rattle.words.proofs.Tables.{registration_in, length-registrations, until_back}
+use Rattle.rules.specs.Words.{view, registration_count, registration_of, until_of}
+use Rattle.std.specs.List.{filter}
+use Rattle.rules.specs.Lists.{filterb}
+use Rattle.rules.specs.Numbers.{max_entries}
+use Rattle.rules.proofs.ListLaws.{count, filter-filter, length-filter}
+use Rattle.tables.specs.Rows.{registration_row, FitsWord}
+use Rattle.tables.proofs.Tables.{registration_in, length-entries, length-registrations, until_back}
 use Rattle.holds.specs.Registry.{is_own, own_matching, heard_once, heard_by}
-
--- ---- so many of the first i rows pass a test
-pub record Counted {A : Type 0} (q : A → Bool) (f : ℕ → A) (n i : ℕ) : Type 0 where
-  pub so_many : n ≡ count q (up_to f i)
-  pub at_most : n ≤ i
-
-module _ {A : Type 0} (q : A → Bool) (f : ℕ → A) where
-  one_more : (b : Bool) (i : ℕ) → q (f i) ≡ b → count q (up_to f (i + 1)) ≡ count q (up_to f i) + cond b 1 0
-  one_more b i e =
-      rw (add-one i)
-      (count-append q (up_to f i) (f i ∷ [])
-      ∙ ap (λ k. count q (up_to f i) + k) (count_cons q (f i) [] ∙ ap (λ c. cond c 1 0 + 0) e ∙ omega arith))
-
-module _ {A : Type 0} {q : A → Bool} {f : ℕ → A} where
-  pub counted_none : Counted q f 0 0
-  counted_none = record { so_many = refl; at_most = omega arith }
-
-  pub counted-one : {n i : ℕ} {x : A} → Counted q f n i → x ≡ f i → q x ≡ true → Counted q f (n + 1) (i + 1)
-  counted-one {i = i} c e t =
-      record {
-        so_many = omega (arith, c.so_many, one_more q f true i (ap q (sym e) ∙ t));
-        at_most = omega (arith, c.at_most);
-      }
-
-  pub counted_passed : {n i : ℕ} {x : A} → Counted q f n i → x ≡ f i → q x ≡ false → Counted q f n (i + 1)
-  counted_passed {i = i} c e t =
-      record {
-        so_many = omega (arith, c.so_many, one_more q f false i (ap q (sym e) ∙ t));
-        at_most = omega (arith, c.at_most);
-      }
-
-  pub counted-all : {xs : List A} {n i k : ℕ} → Rows xs f k → Counted q f n i → i ≡ k → n ≡ count q xs
-  counted-all {n = n} r c e = c.so_many ∙ ap (λ j. count q (up_to f j)) e ∙ ap (count q) (sym r.is)
 
 abbrev pub own_match : ℕ → Registration → Entry → Bool
 own_match t g e = is_own t e && matches g.mask g.fields e.fields
@@ -59,28 +28,39 @@ pub own-matching : (t : ℕ) (es : List Entry) (g : Registration) → count (own
 unfolding own_matching matching
 own-matching t es g = ap length (sym (filter-filter (λ e. matches g.mask g.fields e.fields) (is_own t) es))
 
--- ---- the first i of a list are those of the first i rows
-pub record Filled {A : Type 0} (v : A → ℕ) (f : ℕ → A) (cs : List ℕ) (i : ℕ) : Type 0 where
-  pub first : take i cs ≡ map v (up_to f i)
+-- so many are counted
+pub own_counted : (t : ℕ) (ws : List ℕ) (g : Registration) (r : ℕ)
+    → r ≡ length (filter (own_match t g) (view ws).entries)
+    → (r ≡ own_matching t (view ws).entries g) × (r ≤ max_entries)
+own_counted t ws g r e =
+    let p = own_match t g in
+    let es = (view ws).entries in
+    let c : r ≡ count p es = e ∙ ap length (same p es) in
+    (c ∙ own-matching t es g, omega (arith, c, length-filter p es, length-entries ws))
+  where
+    same : (p : Entry → Bool) (xs : List Entry) → filter p xs ≡ filterb p xs
+    same p [] = refl
+    same p (x ∷ xs) = ap (λ ys. cond (p x) (x ∷ ys) ys) (same p xs)
 
-module _ {A : Type 0} {v : A → ℕ} {f : ℕ → A} where
-  pub filled_none : {cs : List ℕ} → Filled v f cs 0
-  filled_none = record { first = refl }
+-- ---- a list that is filled row by row
+pub one_left : {A : Type 0} (passed rest : List A) {all more : List A} {x : A} {k : ℕ} → length passed ≡ k
+    → passed ++ rest ≡ all → rest ≡ x ∷ more → k < length all
+one_left passed rest l e s = omega (arith, l, ap length e, length-append passed rest, ap length s)
 
-  pub filled_more : {cs : List ℕ} {n i : ℕ} {x : A} → Filled v f cs i → i < length cs → x ≡ f i → n ≡ v x
-      → Filled v f (set cs i n) (i + 1)
-  filled_more {cs} {n} {i} s l e q =
-      record {
-        first =
-            rw (add-one i)
-            (take-suc-set cs i n l
-            ∙ ap₂ (λ xs k. xs ++ (k ∷ [])) s.first (q ∙ ap v e)
-            ∙ sym (map-append v (up_to f i) (f i ∷ [])));
-      }
+module _ {A : Type 0} (v : A → ℕ) (cs : List ℕ) (passed : List A) (k : ℕ) (s : take k cs ≡ map v passed) where
+  pub filled_more : {n i j : ℕ} {x : A} → i ≡ k → j ≡ k + 1 → i < length cs → n ≡ v x
+      → take j (set cs i n) ≡ map v (passed ++ (x ∷ []))
+  filled_more {n} {i} {j} {x} at more l q =
+      ap (λ h. take h (set cs i n)) (more ∙ ap (λ h. h + 1) (sym at) ∙ add-one i)
+      ∙ take-suc-set cs i n l
+      ∙ ap₂ (λ xs h. xs ++ (h ∷ [])) (ap (λ h. take h cs) at ∙ s) q
+      ∙ sym (map-append v passed (x ∷ []))
 
-  pub filled-all : {xs : List A} {cs : List ℕ} {n i : ℕ} → Rows xs f n → Filled v f cs i → i ≡ n → take n cs ≡ map v xs
-  filled-all {cs = cs} r s e =
-      ap (λ k. take k cs) (sym e) ∙ s.first ∙ ap (λ k. map v (up_to f k)) e ∙ ap (map v) (sym r.is)
+  pub filled_all : {rest all : List A} → length passed ≡ k → passed ++ rest ≡ all → rest ≡ []
+      → take (length all) cs ≡ map v all
+  filled_all l e z =
+      let same = sym (append-nil passed) ∙ ap (λ xs. passed ++ xs) (sym z) ∙ e in
+      ap (λ h. take h cs) (sym (ap length same) ∙ l) ∙ s ∙ ap (map v) same
 
 -- ---- each hears of as many more as its count says
 module _ (limit : ℕ) where

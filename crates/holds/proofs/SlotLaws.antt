@@ -1,22 +1,25 @@
 -- The slots of the live transactions, as bits.
 use Prim.Native.Nat.{ℕ, ◌+◌, ◌<◌}
-use mathlib.Core.Bool.{cond, ◌||◌, or-false, or-true}
+use mathlib.Core.Bool.{Bool, not, cond, ◌||◌, or-false, or-true}
 use mathlib.Core.Logic.{⊎_elim}
-use mathlib.Core.Path.{◌≡◌, sym, ap, ap₂, ◌∙◌}
 use mathlib.Core.List.{List, [], ◌∷◌}
+use mathlib.Core.Path.{◌≡◌, refl, sym, ap, ap₂, ◌∙◌}
 use native.Mathlib.Omega.{arith}
 use native.Mathlib.Numerals.{add-one}
 use borrow.Author.Tests.{ne_eqb, eqb-true, eqb-false}
 use lib.Dec.{eqb}
+use Rattle.std.specs.Prelude.{Option, Some, None, unwrap_or}
 use Rattle.rules.specs.declared.Txn.{Txn}
 use Rattle.rules.specs.Lists.{anyb}
 use Rattle.rules.specs.Template.{bit}
 use Rattle.rules.specs.Holds.{add_reader}
+use Rattle.rules.specs.Transactions.{or_zero}
 use Rattle.rules.specs.Words.{up_to, txn_of}
 use Rattle.rules.proofs.BoolLaws.{bool_cases}
 use Rattle.rules.proofs.ListLaws.{any_append}
 use Rattle.rules.proofs.ReaderLaws.{added, added_other, bit_of_zero}
-use Rattle.words.proofs.SearchLaws.{Rows}
+use Rattle.tables.proofs.SearchLaws.{Rows}
+use Rattle.words.specs.Answers.{as_found}
 use Rattle.available.specs.Live.{no_slot}
 use Rattle.available.specs.Readers.{add_at}
 
@@ -61,3 +64,11 @@ used_all {f = f} {used} r u e p =
 pub slot-low : (r : List ℕ) → (txn_of r).slot < no_slot
 unfolding txn_of
 slot-low r = omega arith
+
+-- no live transaction has the slot
+abbrev pub unused : List Txn → ℕ → Bool
+unused ts p = not (anyb (λ (t : Txn). eqb t.slot p) ts)
+
+pub or_zero_found : (r : Option ℕ) → unwrap_or r 0 ≡ or_zero (as_found r)
+or_zero_found (Some p) = refl
+or_zero_found None = refl

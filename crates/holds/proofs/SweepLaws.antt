@@ -1,125 +1,150 @@
 -- A pass over the entries, row by row.
-use Prim.Native.Nat.{ℕ, zero, suc, ◌+◌, ◌≤◌, ◌<◌}
-use mathlib.Core.Bool.{true, false, cond, not}
-use mathlib.Core.Logic.{⊎_elim}
-use mathlib.Core.Path.{◌≡◌, refl, sym, ap, ap₂, ◌∙◌, subst}
+use Prim.Native.Nat.{ℕ, zero, suc, ◌≤◌, ◌<◌}
+use mathlib.Core.Bool.{Bool, true, false, cond, not, ◌||◌}
+use mathlib.Core.Path.{◌≡◌, refl, sym, ap, ap₂, ◌∙◌, subst, subst⁻¹}
 use mathlib.Core.List.{List, [], ◌∷◌, ◌++◌, map, map-append}
 use native.Mathlib.Omega.{arith}
 use native.Mathlib.Numerals.{add-one}
-use lib.Dec.{eqb}
 use lib.ListN.{length, set, take, drop, take-append-drop}
 use lib.Seq.{take_all, take-append-le}
 use Rattle.rules.specs.declared.Entry.{Entry}
-use Rattle.rules.specs.declared.TxnId.{TxnId}
-use Rattle.rules.specs.Template.{bit}
-use Rattle.rules.specs.Holds.{drop_reader}
-use Rattle.rules.specs.Transactions.{is_private_to, is_taken_by}
 use Rattle.rules.specs.Lists.{filterb}
-use Rattle.rules.specs.Words.{up_to, row, entry_of, entry_words, entry_count, entry_count_at, entries, view, entries_at}
-use Rattle.rules.specs.Words.{entry_width, space_words}
-use Rattle.rules.specs.Numbers.{max_entries}
-use Rattle.rules.specs.State.{holding}
-use Rattle.rules.proofs.BoolLaws.{cond_cases}
+use Rattle.rules.specs.Words.{row, up_to, entries_at, entry_width, entry_count, entry_count_at, entries, view}
+use Rattle.rules.specs.Words.{space_words}
 use Rattle.rules.proofs.ListLaws.{filter-append}
-use Rattle.holds.specs.declared.sweep.Sweep.{Sweep}
-use Rattle.holds.specs.declared.sweep.Sweep.TheVariants.{Expire, Commit, Abort}
-use Rattle.words.specs.Rows.{entry_row, byte_values}
+use Rattle.tables.specs.Rows.{entry_row, FitsWord}
+use Rattle.tables.specs.Tables.{entry_table}
+use Rattle.tables.proofs.UpToLaws.{length-up_to, take-up_to}
+use Rattle.tables.proofs.CompactLaws.{Compacting, compact_start, compact_same, compact_done}
+use Rattle.tables.proofs.Tables.{view-entries, end_read}
+use Rattle.std.specs.Prelude.{Option, Some, None, unwrap_or}
+use Rattle.holds.specs.Search.{IsRow, Stops}
+use lib.Dec.{eqb}
+use Rattle.rules.specs.Holds.{drop_reader}
+use Rattle.rules.specs.Template.{bit}
+use Rattle.rules.specs.Time.{reached}
+use Rattle.rules.specs.Transactions.{is_private_to, is_taken_by}
+use Rattle.rules.proofs.BoolLaws.{cond_cases, or_left, or_right}
 use Rattle.available.specs.Live.{no_slot}
 use Rattle.available.specs.Readers.{drop_at}
-use Rattle.holds.specs.Sweep.{released_at, keeps, changes, KeptAt, Still, FreeBefore, swept, sweep_model}
-use Rattle.holds.specs.Sweep.{SameBefore}
-use Rattle.words.proofs.UpToLaws.{length-up_to, take-up_to}
-use Rattle.words.proofs.CompactLaws.{Compacting, compact_start, compact_same, compact_put, compact_done}
-use Rattle.words.proofs.Tables.{entry_table, view-entries, Storable, held_fits, entry_back}
+use Rattle.holds.specs.Sweep.{Spares, passed, released_at, has_part, swept, sweep_model, SameBefore}
 
--- a change leaves all but the holders, so the row can hold it
-abbrev as_held : Entry → Entry → Entry
-as_held e x = holding e x.private_to x.taken_by x.readers
+-- a row that is found is one of them
+pub found_within : (ws : List ℕ) (r : Option ℕ) {n x : ℕ} → IsRow ws r → n ≡ entry_count ws → x ≡ unwrap_or r n
+    → x ≤ n
+found_within ws (Some i) s e q = omega (arith, s, e, q)
+found_within ws None s e q = omega (arith, q)
 
-changed : (s : Sweep) (e : Entry) → changes s e ≡ as_held e (changes s e)
-unfolding released_at
-changed (Expire clock) e = refl
-changed (Commit t p) e = refl
-changed (Abort t p) e = refl
+module _ (keep : Entry → Bool) (change : Entry → Entry) where
+  -- the first i entries are gone through, and the n that are kept stand in front
+  abbrev pub Sweeping : List ℕ → List ℕ → ℕ → ℕ → Type 0
+  Sweeping ws₀ ws i n = Compacting entry_table keep change ws₀ ws i n
 
-storable : (s : Sweep) (r : List ℕ) → (changes s (entry_of r)).readers < byte_values → Storable (changes s (entry_of r))
-storable s r l = subst Storable (sym (changed s (entry_of r))) (held_fits r _ _ _ l)
+  -- every row before r is kept, as it is
+  abbrev pub Still : List ℕ → ℕ → Type 0
+  Still ws r = (k : ℕ) → k < r → (keep (entry_row ws k) ≡ true) × (change (entry_row ws k) ≡ entry_row ws k)
 
--- the first i entries are gone through, and the n that are kept stand in front
-abbrev pub Sweeping : Sweep → List ℕ → List ℕ → ℕ → ℕ → Type 0
-Sweeping s ws₀ ws i n = Compacting entry_table (keeps s) (changes s) ws₀ ws i n
+  -- the rows that stay as they are are gone through
+  pub sweep_still : (ws : List ℕ) (r : ℕ) → Still ws r → Sweeping ws ws r r
+  sweep_still ws zero h = compact_start
+  sweep_still ws (suc r) h =
+      let a = h r (omega arith) in
+      rw (sym (add-one r)) (compact_same (sweep_still ws r (λ k l. h k (omega arith))) refl a.0 refl a.1)
 
--- a kept entry stays as it is, or is put
-pub sweep_kept : (s : Sweep) {ws₀ ws ws' : List ℕ} {i n : ℕ} {e : Entry} → Sweeping s ws₀ ws i n
-    → length ws₀ ≡ space_words → i < max_entries → e ≡ entry_row ws i
-    → keeps s e ≡ true → KeptAt s e i n ws ws' → Sweeping s ws₀ ws' (i + 1) (n + 1)
-sweep_kept s {ws₀} {ws} {ws'} {i} {n} {e} w l h r t k =
-    ⊎_elim
-    (λ a. subst (λ v. Sweeping s ws₀ v (i + 1) (n + 1)) (sym a.2) (compact_same w r t a.0 a.1))
-    (λ a. compact_put w r t h (omega arith) (entry_words (changes s e)) a.1 refl
-    (entry_back (changes s e) (subst (λ x. (changes s x).readers < byte_values → Storable (changes s x)) (sym r)
-    (storable s (row entries_at entry_width ws i)) a.0)))
-    k
+  -- what becomes of an entry
+  pub passed_some : (e : Entry) {x : Entry} → passed keep change e ≡ Some x → (keep e ≡ true) × (change e ≡ x)
+  passed_some e {x} q = go (keep e) q
+    where
+      go : (b : Bool) → cond b (Some (change e)) None ≡ Some x → (b ≡ true) × (change e ≡ x)
+      go true r = (refl, cc)
+      go false r = absurd cc
 
--- the rows that stay as they are are gone through
-pub sweep_still : (s : Sweep) (ws : List ℕ) (r : ℕ) → Still s ws r → Sweeping s ws ws r r
-sweep_still s ws zero h = compact_start
-sweep_still s ws (suc r) h =
-    let a = h r (omega arith) in
-    rw (sym (add-one r)) (compact_same (sweep_still s ws r (λ k l. h k (omega arith))) refl a.0 refl a.1)
+  pub passed_none : (e : Entry) → passed keep change e ≡ None → keep e ≡ false
+  passed_none e q = go (keep e) q
+    where
+      go : (b : Bool) → cond b (Some (change e)) None ≡ None → b ≡ false
+      go true r = absurd cc
+      go false r = refl
 
--- the end of a transaction does not touch the rows of which it has nothing
-module _ (t : TxnId) (p : ℕ) (ws : List ℕ) (r : ℕ) (h : FreeBefore t.0 p ws r) where
-  pub still-commit : Still (Commit t p) ws r
-  still-commit k l = (ap not (h k l).untaken, (h k l).unheld)
+  -- its row can hold what becomes of it
+  pub passed_fits : {touch : Entry → Bool} → Spares touch keep change → (ws : List ℕ) (i : ℕ) {e x : Entry}
+      → e ≡ entry_row ws i → change e ≡ x → FitsWord x.end
+  passed_fits laws ws i {e} {x} is q =
+      let fits : Entry → Type 0 = λ y. FitsWord y.end in
+      let read : fits e = subst⁻¹ fits is (end_read (row entries_at entry_width ws i)) in
+      subst fits q (subst⁻¹ FitsWord (laws.same_end e) read)
 
-  pub still-abort : Still (Abort t p) ws r
-  still-abort k l = (ap not (h k l).unwritten, (h k l).unheld)
+  -- rows before the first that is touched stay as they are
+  pub still_before : (touch : Entry → Bool) → Spares touch keep change → (ws : List ℕ) (r : Option ℕ) {n x : ℕ}
+      → Stops touch ws r → n ≡ entry_count ws → x ≡ unwrap_or r n → Still ws x
+  still_before touch laws ws (Some i) {n} {x} s e q =
+      λ k l. laws.spared (entry_row ws k) (s.1 k (omega (arith, q)))
+  still_before touch laws ws None {n} {x} s e q =
+      λ k l. laws.spared (entry_row ws k) (s k (omega (arith, e, q)))
 
--- rows that stay as they are stand in front
-module _ (s : Sweep) where
-  swept-append : (xs ys : List Entry) → swept s (xs ++ ys) ≡ swept s xs ++ swept s ys
+  -- rows that stay as they are stand in front
+  swept-append : (xs ys : List Entry) → swept keep change (xs ++ ys) ≡ swept keep change xs ++ swept keep change ys
   swept-append xs ys =
-      ap (map (changes s)) (filter-append (keeps s) xs ys)
-      ∙ map-append (changes s) (filterb (keeps s) xs) (filterb (keeps s) ys)
+      ap (map change) (filter-append keep xs ys) ∙ map-append change (filterb keep xs) (filterb keep ys)
 
-  swept-still : (f : ℕ → Entry) (r : ℕ) → ((k : ℕ) → k < r → (keeps s (f k) ≡ true) × (changes s (f k) ≡ f k))
-      → swept s (up_to f r) ≡ up_to f r
+  swept-still : (f : ℕ → Entry) (r : ℕ) → ((k : ℕ) → k < r → (keep (f k) ≡ true) × (change (f k) ≡ f k))
+      → swept keep change (up_to f r) ≡ up_to f r
   swept-still f zero h = refl
   swept-still f (suc r) h =
       let a = h r (omega arith) in
       swept-append (up_to f r) (f r ∷ [])
-      ∙ ap₂ (λ xs b. xs ++ map (changes s) (cond b (f r ∷ []) [])) (swept-still f r (λ k l. h k (omega arith))) a.0
+      ∙ ap₂ (λ xs b. xs ++ map change (cond b (f r ∷ []) [])) (swept-still f r (λ k l. h k (omega arith))) a.0
       ∙ ap (λ x. up_to f r ++ (x ∷ [])) a.1
 
-  pub same_before : (ws : List ℕ) (r : ℕ) → r ≤ entry_count ws → Still s ws r
-      → SameBefore r (view ws) (sweep_model s (view ws))
+  pub same_before : (ws : List ℕ) (r : ℕ) → r ≤ entry_count ws → Still ws r
+      → SameBefore r (view ws) (sweep_model keep change (view ws))
   unfolding sweep_model view entries
   same_before ws r l h =
       let f = entry_row ws in
       let n = entry_count ws in
+      let s = swept keep change in
       let front = take-up_to f n r l in
       let parts = sym (take-append-drop r (up_to f n)) ∙ ap (λ xs. xs ++ drop r (up_to f n)) front in
-      ap (λ xs. take r (swept s xs)) parts
+      ap (λ xs. take r (s xs)) parts
       ∙ ap (take r) (swept-append (up_to f r) (drop r (up_to f n)))
-      ∙ ap (λ xs. take r (xs ++ swept s (drop r (up_to f n)))) (swept-still f r h)
-      ∙ take-append-le r (up_to f r) (swept s (drop r (up_to f n))) (omega (arith, length-up_to f r))
+      ∙ ap (λ xs. take r (xs ++ s (drop r (up_to f n)))) (swept-still f r h)
+      ∙ take-append-le r (up_to f r) (s (drop r (up_to f n))) (omega (arith, length-up_to f r))
       ∙ take_all r (up_to f r) (omega (arith, length-up_to f r))
       ∙ sym front
 
--- the count is set, and the pass is done
-pub sweep_done : (s : Sweep) {ws₀ ws ws' : List ℕ} {i n : ℕ} → Sweeping s ws₀ ws i n → length ws₀ ≡ space_words
-    → i ≡ entry_count ws₀ → ws' ≡ set ws entry_count_at n
-    → (view ws' ≡ sweep_model s (view ws₀)) × (length ws' ≡ space_words)
-unfolding sweep_model view entries
-sweep_done s w l e p = let d = compact_done w p e (omega arith) in (view-entries _ _ d, d.but.long ∙ l)
+  -- the count is set, and the pass is done
+  pub sweep_done : {ws₀ ws ws' : List ℕ} {i n : ℕ} → Sweeping ws₀ ws i n → length ws₀ ≡ space_words
+      → i ≡ entry_count ws₀ → ws' ≡ set ws entry_count_at n → view ws' ≡ sweep_model keep change (view ws₀)
+  unfolding sweep_model view entries
+  sweep_done w l e p = view-entries _ _ (compact_done w p e (omega arith))
 
--- a transaction that has nothing of the entry releases nothing
-pub released-same : (t p : ℕ) (e : Entry) → is_private_to t e ≡ false → is_taken_by t e ≡ false → bit p e.readers
-    ≡ false
-    → released_at t p e ≡ e
-unfolding released_at drop_reader
-released-same t p e a b d =
-    let same : drop_at p e.readers ≡ e.readers =
-    cond_cases (λ x. x ≡ e.readers) (eqb p no_slot) (λ h. refl) (λ h. rw d) in
-    rw (a, b, same)
+-- ---- the three passes
+pub ended_spared : (clock : ℕ) → Spares (λ e. reached clock e.end) (λ e. not (reached clock e.end)) (λ e. e)
+ended_spared clock = record { spared = λ e q. (ap not q, refl); same_end = λ e. refl }
+
+module _ (t p : ℕ) where
+  module _ (e : Entry) (q : has_part t p e ≡ false) where
+    own : is_private_to t e ≡ false
+    own = or_left (is_private_to t e) _ (or_left (is_private_to t e || is_taken_by t e) _ q)
+
+    taken : is_taken_by t e ≡ false
+    taken = or_right (is_private_to t e) _ (or_left (is_private_to t e || is_taken_by t e) _ q)
+
+    -- a transaction that has nothing of the entry releases nothing
+    released-same : released_at t p e ≡ e
+    unfolding released_at drop_reader
+    released-same =
+        let same : drop_at p e.readers ≡ e.readers =
+        cond_cases (λ x. x ≡ e.readers) (eqb p no_slot) (λ h. refl)
+        (λ h. rw (or_right (is_private_to t e || is_taken_by t e) (bit p e.readers) q)) in
+        rw (own, taken, same)
+
+  released-end : (e : Entry) → (released_at t p e).end ≡ e.end
+  unfolding released_at
+  released-end e = refl
+
+  pub commit_spared : Spares (has_part t p) (λ e. not (is_taken_by t e)) (released_at t p)
+  commit_spared = record { spared = λ e q. (ap not (taken e q), released-same e q); same_end = released-end }
+
+  pub abort_spared : Spares (has_part t p) (λ e. not (is_private_to t e)) (released_at t p)
+  abort_spared = record { spared = λ e q. (ap not (own e q), released-same e q); same_end = released-end }

@@ -5,7 +5,7 @@ use Rattle.rules.specs.declared.LookUp.{LookUp}
 use Rattle.rules.specs.declared.Txn.{Txn}
 use Rattle.rules.specs.State.{Model, with_entries}
 use Rattle.rules.specs.LookUp.{removes, marked}
-use Rattle.words.specs.Rows.{without}
+use Rattle.tables.specs.Rows.{without}
 
 -- the entries once e, which stands in row i, is handed out: it goes, or gets the mark. Where no other has its number,
 -- this is the rules' `hand_out` (`HandLaws.by_row`).

@@ -4,4 +4,4 @@ pub mod Hand
 pub mod Renew
 pub mod Registry
 pub mod Txns
-pub mod Leave
+pub mod Search

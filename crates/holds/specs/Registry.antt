@@ -1,6 +1,7 @@
 -- What registrations hear of, as the code counts it.
 use Rattle.std.specs.Prelude.{ℕ, ◌+◌, ◌<◌, Bool, not, cond, ◌&&◌, List, [], ◌∷◌, leb, length}
 use Rattle.rules.specs.declared.Entry.{Entry}
+use Rattle.rules.specs.declared.Mark.{Mark}
 use Rattle.rules.specs.declared.Registration.{Registration}
 use Rattle.rules.specs.Lists.{filterb}
 use Rattle.rules.specs.Numbers.{forever, max_registrations}
@@ -9,8 +10,6 @@ use Rattle.rules.specs.Template.{matches}
 use Rattle.rules.specs.Transactions.{is_private_to, is_taken_by}
 use Rattle.rules.specs.Notify.{matching, with_total}
 use Rattle.words.specs.Ends.{InTime}
-use Rattle.holds.specs.declared.registry.Public.{Public}
-use Rattle.holds.specs.declared.registry.Public.TheVariants.{Written, Committed}
 
 -- none of 10, 17 and 13 applies to a notify
 pub record Notifiable (m : Model) (lease : ℕ) : Type 0 where
@@ -25,9 +24,9 @@ is_own t e = is_private_to t e && not (is_taken_by t e)
 unfoldable pub own_matching : ℕ → List Entry → Registration → ℕ
 own_matching t es g = matching (filterb (is_own t) es) g
 
-abbrev pub count_of : Public → List Entry → Registration → ℕ
-count_of (Written have) es g = cond (matches g.mask g.fields have) 1 0
-count_of (Committed t) es g = own_matching t.0 es g
+-- and of the one entry with these fields that a write outside transactions makes public
+abbrev pub match_count : Mark → Registration → ℕ
+match_count have g = cond (matches g.mask g.fields have) 1 0
 
 -- a total with so many more, up to a limit
 abbrev pub sum_of : ℕ → ℕ → ℕ → ℕ

@@ -4,7 +4,7 @@ use Rattle.rules.specs.declared.Entry.{Entry}
 use Rattle.rules.specs.Time.{until}
 use Rattle.rules.specs.State.{Model, with_entries}
 use Rattle.rules.specs.Renew.{ending_at}
-use Rattle.words.specs.Rows.{without}
+use Rattle.tables.specs.Rows.{without}
 
 -- e, which stands in row i, goes or ends then. Where no other has its number, this is the rules' `renew`
 -- (`RenewLaws.by_row`).

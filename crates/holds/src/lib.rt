@@ -3,7 +3,9 @@
 
 pub mod endings;
 pub mod hand;
+pub(crate) mod holder;
 pub mod registry;
 pub mod renew;
+pub(crate) mod search;
 pub mod sweep;
 pub mod txns;

@@ -1,24 +1,23 @@
 // Registrations: made, ended, and what they hear of.
-ghost use Rattle.std.specs.Prelude.{◌&&◌, map, ◌≡◌, length, take};
+ghost use Rattle.std.specs.Prelude.{◌≡◌, ◌&&◌, List, ℕ, length, map, take};
+ghost use Rattle.rules.specs.declared.Registration.{Registration};
 ghost use Rattle.rules.specs.declared.Request.TheVariants.{Notify};
-ghost use Rattle.rules.specs.Numbers.{max_registrations};
 ghost use Rattle.rules.specs.Notify.{notify};
 ghost use Rattle.rules.specs.Requests.{frame_of};
 ghost use Rattle.rules.specs.State.{with_registrations};
 ghost use Rattle.rules.specs.Template.{matches};
 ghost use Rattle.rules.specs.Tick.{unregistered};
 ghost use Rattle.rules.specs.Words.{view};
-ghost use Rattle.holds.specs.Registry.{Notifiable, is_own, own_matching, count_of, sum_of, heard_once, heard_by};
+ghost use Rattle.holds.specs.Registry.{Notifiable, is_own, own_matching, match_count, heard_once, heard_by};
 
 use available::holds::fields_match;
 use rules::numbers::MAX_REGISTRATIONS;
 use rules::{Entry, Mark, NotifyRequest, Registration, RegistrationId, TxnId};
+use words::iter::rows;
 use words::rows::{
-    Words, add_registration, clock, entry_at, entry_count, move_registration, next_entry,
-    next_registration, registration_at, registration_count, set_next_registration,
-    set_registration, set_registration_count,
+    Words, add_row, clock, next_number, retain_rows, row_at, row_count, set_next_number, set_row,
 };
-use words::time::{end_of, reached_at};
+use words::time::end_of;
 
 // A registration is made, with the next number.
 pub fn register(space: &mut Words, q: NotifyRequest) -> RegistrationId
@@ -27,24 +26,18 @@ pub fn register(space: &mut Words, q: NotifyRequest) -> RegistrationId
         ≡ (notify (view space.old) (frame_of (Notify q))).model }
     ensures numbered { result.0 ≡ (view space.old).next_registration }
 {
-    let now = clock(space);
-    let n = next_registration(space);
-    let end = end_of(now, q.lease);
-    let fields = q.fields;
-    let id = RegistrationId(n);
-    add_registration(
-        space,
-        Registration {
-            id,
-            party: q.party,
-            mask: q.mask,
-            fields,
-            end,
-            total: 0,
-        },
-    );
-    set_next_registration(space, n + 1);
-    id
+    let n = next_number::<Registration>(space);
+    let made = Registration {
+        id: RegistrationId(n),
+        party: q.party,
+        mask: q.mask,
+        fields: q.fields,
+        end: end_of(clock(space), q.lease),
+        total: 0,
+    };
+    add_row(space, made);
+    set_next_number::<Registration>(space, n + 1);
+    made.id
 }
 
 // Registrations that end now go.
@@ -52,149 +45,85 @@ pub fn drop_registrations(space: &mut Words)
     ensures { view space.new ≡ unregistered (view space.old) }
 {
     let now = clock(space);
-    let count = registration_count(space);
-    let mut i: usize = 0;
-    let mut n: usize = 0;
-    while i < count {
-        let g = registration_at(space, i);
-        let end = g.end;
-        if reached_at(now, end) {
-            i += 1;
-            continue;
-        }
-        move_registration(space, i, n);
-        n += 1;
-        i += 1;
-    }
-    set_registration_count(space, n);
-}
-
-// What a step makes public.
-#[derive(Clone, Copy)]
-pub enum Public {
-    // The entry that is written outside transactions, with these fields.
-    Written(Mark),
-    // What the transaction, which commits, has written and not taken again.
-    Committed(TxnId),
+    retain_rows::<Registration, _>(space, |_, g| !g.end.is_reached(now));
 }
 
 // How many of the entries made public in a step each registration matches, by its row.
+// Kept: beside the rows, not in them: the contract of `put_bells` is over counts by row, and an array needs no heap.
 pub type Counts = [u32; MAX_REGISTRATIONS];
 
-// Does nothing. A call tells the proof of what stands around it how many counts there are, which it has from no index.
-pub(crate) fn whole(counts: &Counts)
-    ensures { length counts.now ≡ max_registrations }
+// So many for each registration.
+pub(crate) fn count_each<F: Fn(Registration) -> u32>(space: &Words, count: F) -> Counts
+    requires { F.IsAlwaysCallable count }
+    ensures { (v : Registration → ℕ) → ((g : Registration) (n : ℕ) → F.post count g n → n ≡ v g)
+        → take (length (view space.now).registrations) result ≡ map v (view space.now).registrations }
 {
-    let all = &counts[..];
-    all.len();
+    let mut counts = [0; MAX_REGISTRATIONS];
+    for (i, g) in rows::<Registration>(space).enumerate() {
+        counts[i] = count(g);
+    }
+    counts
+}
+
+// An entry with these fields is written outside transactions: it alone is made public.
+pub fn count_written(space: &Words, fields: Mark) -> Counts
+    ensures { take (length (view space.now).registrations) result
+        ≡ map (match_count fields) (view space.now).registrations }
+{
+    count_each(space, |g| u32::from(fields_match(g.mask, g.fields, fields)))
+}
+
+// The transaction commits: what it has written and not taken again is made public.
+pub fn count_committed(space: &Words, id: TxnId) -> Counts
+    ensures { take (length (view space.now).registrations) result
+        ≡ map (own_matching id.0 (view space.now).entries) (view space.now).registrations }
+{
+    count_each(space, |g| count_own(space, g, id))
 }
 
 // Whether the transaction has written the entry, and not taken it again.
 pub(crate) fn is_own(e: Entry, t: TxnId) -> bool
     ensures { result ≡ is_own t.0 e }
 {
-    (e.private_to.0 == t.0) & (e.taken_by.0 != t.0)
+    e.private_to == t && e.taken_by != t
 }
 
 // Whether the registration hears of the entry once the transaction commits.
 pub(crate) fn is_own_match(g: Registration, e: Entry, t: TxnId) -> bool
     ensures { result ≡ (is_own t.0 e && matches g.mask g.fields e.fields) }
 {
-    if is_own(e, t) {
-        let want = g.fields;
-        let have = e.fields;
-        fields_match(g.mask, want, have)
-    } else {
-        false
-    }
+    is_own(e, t) && fields_match(g.mask, g.fields, e.fields)
 }
 
-// Of how many.
+// Of how many entries it hears then.
 pub(crate) fn count_own(space: &Words, g: Registration, t: TxnId) -> u32
     ensures { result ≡ own_matching t.0 (view space.now).entries g }
 {
-    let n = entry_count(space);
-    let mut count: u32 = 0;
-    let mut i: usize = 0;
-    while i < n {
-        let e = entry_at(space, i);
-        i += 1;
-        if is_own_match(g, e, t) {
-            count += 1;
-        }
-    }
-    count
+    rows::<Entry>(space)
+        .filter(|e| is_own_match(g, *e, t))
+        .count() as u32
 }
 
-pub(crate) fn count_matches(space: &Words, g: Registration, p: Public) -> u32
-    ensures { result ≡ count_of p (view space.now).entries g }
-{
-    match p {
-        Public::Written(have) => {
-            let want = g.fields;
-            if fields_match(g.mask, want, have) {
-                1
-            } else {
-                0
-            }
-        }
-        Public::Committed(t) => count_own(space, g, t),
-    }
-}
-
-// So for each registration.
-pub fn count_public(space: &Words, p: Public, counts: &mut Counts)
-    ensures { (take (length (view space.now).registrations) counts.new
-        ≡ map (count_of p (view space.now).entries) (view space.now).registrations)
-        × (length counts.new ≡ max_registrations) }
-{
-    whole(counts);
-    let n = registration_count(space);
-    let mut i: usize = 0;
-    while i < n {
-        let g = registration_at(space, i);
-        counts[i] = count_matches(space, g, p);
-        i += 1;
-    }
-}
-
-// A total with so many more, up to a limit.
-pub(crate) fn sum(total: u32, count: u32, limit: u32) -> u32
-    ensures { result ≡ sum_of limit total count }
-{
-    if limit < total {
-        return limit;
-    }
-    if limit - total < count {
-        limit
-    } else {
-        total + count
-    }
-}
-
-// A registration that has heard of so many more.
+// A registration that has heard of so many more, up to a limit.
 pub(crate) fn hear_once(g: Registration, count: u32, limit: u32) -> Registration
     ensures { result ≡ heard_once limit count g }
 {
-    let mut x = g;
-    x.total = sum(g.total, count, limit);
-    x
+    Registration {
+        total: g.total.saturating_add(count).min(limit),
+        ..g
+    }
 }
 
 // Each has heard of as many more as its count says. (No total passes the numbers of entries on a sound space.)
+// Kept: by index: rows are written as they are read, and `rows` lends the space shared.
 pub fn hear(space: &mut Words, counts: &Counts)
     ensures { view space.new ≡ with_registrations
         (heard_by (view space.old).next_entry counts.now
         (view space.old).registrations) (view space.old) }
 {
-    whole(counts);
-    let limit = next_entry(space);
-    let n = registration_count(space);
-    let mut i: usize = 0;
-    while i < n {
-        let g = registration_at(space, i);
-        let x = hear_once(g, counts[i], limit);
-        set_registration(space, i, x);
-        i += 1;
+    let limit = next_number::<Entry>(space);
+    for i in 0..row_count::<Registration>(space) {
+        let g = row_at::<Registration>(space, i);
+        set_row(space, i, hear_once(g, counts[i], limit));
     }
 }

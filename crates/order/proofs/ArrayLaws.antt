@@ -5,7 +5,7 @@ use mathlib.Core.List.{List, [], ◌∷◌, ◌++◌, map, append_assoc, append-
 use native.Mathlib.Numerals.{add-one}
 use native.Mathlib.Omega.{arith}
 use lib.ListN.{length, get_or, take, set, replicate}
-use lib.Seq.{take-suc-set}
+use lib.Seq.{take-suc, take-suc-set}
 use Rattle.rules.specs.Lists.{joined}
 
 pub joined-append : {A : Type 0} (xs ys : List (List A)) → joined (xs ++ ys) ≡ joined xs ++ joined ys
@@ -20,6 +20,11 @@ pub joined_map_more : {A B : Type 0} (f : A → List B) (xs : List A) (x : A)
     → joined (map f (xs ++ (x ∷ []))) ≡ joined (map f xs) ++ f x
 joined_map_more f xs x = ap joined (map-append f xs (x ∷ [])) ∙ joined_more (map f xs) (f x)
 
+pub joined_next : {A : Type 0} (xs : List (List A)) (p : ℕ) → p < length xs
+    → joined (take (p + 1) xs) ≡ joined (take p xs) ++ get_or xs p []
+joined_next xs p h =
+    ap (λ k. joined (take k xs)) (add-one p) ∙ ap joined (take-suc xs p [] h) ∙ joined_more (take p xs) (get_or xs p [])
+
 -- what holds at every index of a list, holds there after a store
 pub at_set : {A : Type 0} (Q : A → Type 0) (l : List A) (i : ℕ) (v d : A) → ((j : ℕ) → Q (get_or l j d)) → Q v
     → (j : ℕ) → Q (get_or (set l i v) j d)
@@ -29,14 +34,12 @@ at_set Q (x ∷ l) zero v d h q (suc j) = h (suc j)
 at_set Q (x ∷ l) (suc i) v d h q zero = h zero
 at_set Q (x ∷ l) (suc i) v d h q (suc j) = at_set Q l i v d (λ k. h (suc k)) q j
 
--- an array that holds the images of some elements behind others is given one more
-pub filled_more : {A B : Type 0} (f : A → B) (front l : List B) (j : ℕ) (xs : List A) (x : A)
-    → take j l ≡ front ++ map f xs → j < length l
-    → take (j + 1) (set l j (f x)) ≡ front ++ map f (xs ++ (x ∷ []))
-filled_more {B = B} f front l j xs x e h =
-    ap (λ k. take k (set l j (f x))) (add-one j)
-    ∙ take-suc-set l j (f x) h ∙ ap (λ r. r ++ (f x ∷ [])) e ∙ append_assoc front (map f xs) (f x ∷ [])
-    ∙ ap {B = List B} (λ r. front ++ r) (sym (map-append f xs (x ∷ [])))
+-- an array that holds some elements behind others is given one more
+pub filled_more : {A : Type 0} (front l : List A) (j : ℕ) (xs : List A) (x : A)
+    → take j l ≡ front ++ xs → j < length l → take (j + 1) (set l j x) ≡ front ++ (xs ++ (x ∷ []))
+filled_more front l j xs x e h =
+    ap (λ k. take k (set l j x)) (add-one j)
+    ∙ take-suc-set l j x h ∙ ap (λ r. r ++ (x ∷ [])) e ∙ append_assoc front xs (x ∷ [])
 
 pub get_d_map : {A B : Type 0} (f : A → B) (l : List A) (i : ℕ) (d : A) (e : B) → i < length l
     → get_or (map f l) i e ≡ f (get_or l i d)

@@ -1,28 +1,23 @@
 -- The order that is found is the first that succeeds.
 use Prim.Native.Nat.{ℕ, ◌*◌, ◌≤◌, ◌<◌}
-use mathlib.Core.Bool.{Bool, true, false, true≢false}
-use mathlib.Core.Path.{◌≡◌, refl, sym, ap, ap₂, ◌∙◌, subst, subst⁻¹}
+use mathlib.Core.Bool.{true, false}
+use mathlib.Core.Path.{◌≡◌, refl, sym, ap, ◌∙◌, subst, subst⁻¹}
 use mathlib.Core.List.{List, ◌++◌}
 use native.Mathlib.Omega.{arith}
-use lib.ListN.{length, take, drop, replicate, get_or-replicate}
-use lib.Seq.{take-length, length-take-le}
+use lib.ListN.{length, take, drop, replicate, length-map, get_or-replicate}
 use Rattle.rules.specs.Numbers.{order_refused}
 use Rattle.rules.specs.SerialRun.{start}
-use Rattle.order.specs.Export.{Action}
-use Rattle.order.specs.Orders.{IsOrder, succeeds, First, NoneSucceeds}
+use Rattle.rules.specs.Lists.{joined}
+use Rattle.order.specs.declared.action.Action.{Action}
+use Rattle.order.specs.declared.plan.Step.{Step}
+use Rattle.order.specs.Orders.{IsOrder, succeeds}
 use Rattle.order.specs.Found.{HandedIn, OrderFound, found, none_found, refused}
 use Rattle.order.specs.Reading.{slots, max_txns}
-use Rattle.order.specs.Plan.{Plan, Within, Planned, planned, unplanned}
-use Rattle.order.specs.Search as search
-use Rattle.order.specs.Search.{OrderOf, Searched, goes}
+use Rattle.order.specs.Plan.{numbers_of, Planned, Unplanned}
+use Rattle.order.specs.Search.{OrderOf, FirstGoes, NoneGoes, goes}
 use Rattle.order.proofs.PlanLaws.{no_flags}
 use Rattle.order.proofs.RunLaws.{goes_is}
 use Rattle.order.proofs.TxnLaws.{same_words}
-
--- the search over all transactions, on an empty set
-abbrev pub Looked : List ℕ → List ℕ → ℕ → Bool → List ℕ → Type 0
-Looked codes starts n good order = Searched codes starts n 0 (replicate max_txns true) (replicate slots false) good
-    order
 
 -- orders of all transactions
 order_of : (ts : List (List Action)) → length ts ≤ max_txns → {qs : List ℕ} → IsOrder ts qs
@@ -37,66 +32,52 @@ order_of ts few o =
 is_order : (ts : List (List Action)) {qs : List ℕ} → OrderOf (length ts) 0 (replicate max_txns true) qs → IsOrder ts qs
 is_order ts o = record { as_many = omega (arith, o.as_many); positions = λ q i. (o.positions q i).0; once = o.once }
 
-module _ (ts : List (List Action)) (codes starts : List ℕ) (plan : Plan ts codes starts)
-    (few : length ts ≤ max_txns) where
+module _ {words : List ℕ} {n : ℕ} {steps : List Step} {starts : List ℕ} (p : Planned words n steps starts) where
   -- an order goes through exactly where it succeeds
-  goes_there : (qs : List ℕ) → IsOrder ts qs → goes codes starts qs (replicate slots false) ≡ succeeds ts qs
+  goes_there : (qs : List ℕ) → IsOrder p.ts qs → goes steps starts qs (replicate slots false) ≡ succeeds p.ts qs
   unfolding succeeds
   goes_there qs o =
-      goes_is ts codes starts plan qs o.positions (replicate slots false) start
-      (no_flags plan.numbers plan.as_many) refl
+      goes_is p.ts steps starts p.plan qs o.positions (replicate slots false) start
+      (no_flags (numbers_of (joined p.ts)) (omega (
+        arith,
+        p.plan.few,
+        length-map (joined p.ts) (λ (a : Action).
+            a.number),
+      ))) refl
 
-  first_found : {order : List ℕ} → Looked codes starts (length ts) true order → First ts (take (length ts) order)
-  first_found (search.found ps at o g first) =
-      subst⁻¹ (First ts) at (record {
-        order = is_order ts o;
-        good = sym (goes_there ps (is_order ts o)) ∙ g;
-        first = λ qs q b. sym (goes_there qs q) ∙ first qs (order_of ts few q) b;
-      })
+  its_order : {qs : List ℕ} → IsOrder p.ts qs → OrderOf n 0 (replicate max_txns true) qs
+  its_order {qs} o =
+      subst⁻¹ (λ m. OrderOf m 0 (replicate max_txns true) qs) p.as_many (order_of p.ts p.accepted.transactions o)
 
-  none_there : {order : List ℕ} → Looked codes starts (length ts) false order → NoneSucceeds ts
-  none_there (search.none_found h) = λ qs q. sym (goes_there qs q) ∙ h qs (order_of ts few q)
+  module _ {order : List ℕ} where
+    -- there is no room for the positions
+    pub no_room : length order < n → OrderFound words order (65536 * order_refused) order
+    no_room short =
+        refused (λ ts i. let same = ap length (same_words p.ts ts (sym p.stand_for ∙ i.stand_for)) in
+        omega (arith, i.fits, p.as_many))
 
--- the first n positions, copied
-pub in_front : (n : ℕ) (positions order : List ℕ) → n ≤ length positions
-    → take (length (take n positions)) (take n positions) ++ drop (length (take n positions)) order
-    ≡ take n positions ++ drop n order
-in_front n positions order h =
-    ap₂ (λ (a b : List ℕ). a ++ b) (take-length (take n positions))
-    (ap (λ k. drop k order) (length-take-le n positions h))
+    handed : n ≤ length order → HandedIn words order p.ts
+    handed fits = record { stand_for = p.stand_for; accepted = p.accepted; fits = omega (arith, p.as_many) }
 
--- what is planned, and what is refused
-pub plan_within : {words codes starts : List ℕ} {ok : Bool} {n : ℕ} → Planned words ok n codes starts → ok ≡ true
-    → (n ≤ max_txns) × Within codes starts
-plan_within (planned ts e a p) t = (a.transactions, p.within)
-plan_within (unplanned h) t = absurd (true≢false (sym t))
-
-module _ (words order : List ℕ) where
-  pub not_planned : {codes starts : List ℕ} {ok : Bool} {n : ℕ} → Planned words ok n codes starts → ok ≡ false
-      → OrderFound words order (65536 * order_refused) order
-  not_planned (planned ts e a p) f = absurd (true≢false f)
-  not_planned (unplanned h) f = refused (λ ts i. h ts i.stand_for i.accepted)
-
-  pub no_room : {codes starts : List ℕ} {ok : Bool} {n : ℕ} → Planned words ok n codes starts → ok ≡ true
-      → length order < n
-      → OrderFound words order (65536 * order_refused) order
-  no_room (planned ts e a p) t short =
-      refused (λ us i. let same = ap length (same_words ts us (sym e ∙ i.stand_for)) in omega (arith, i.fits))
-  no_room (unplanned h) t short = absurd (true≢false (sym t))
-
-  module _ (good : Bool) (positions : List ℕ) where
-    pub looked : {codes starts : List ℕ} {ok : Bool} {n : ℕ} → Planned words ok n codes starts → ok ≡ true
-        → n ≤ length order → Looked codes starts n good positions
-        → (good ≡ false → OrderFound words order 0 order)
-        × (good ≡ true → OrderFound words order 1 (take n positions ++ drop n order))
-    looked (planned {codes} {starts} ts e a p) t fits s = (
-      λ f. none_found ts handed (none_there ts codes starts p a.transactions (look f)),
-      λ y. found ts handed (take (length ts) positions) (first_found ts codes starts p a.transactions (look y)),
-    )
+    pub first_found : {positions : List ℕ} → n ≤ length order
+        → FirstGoes steps starts n 0 (replicate max_txns true) (replicate slots false) positions
+        → OrderFound words order 1 (take n positions ++ drop n order)
+    first_found {positions} fits f =
+        subst⁻¹ (λ l. OrderFound words order 1 (l ++ drop n order)) f.stands
+        (subst⁻¹ (λ m. OrderFound words order 1 (f.ps ++ drop m order)) p.as_many
+        (found p.ts (handed fits) f.ps (record {
+          order = its;
+          good = sym (goes_there f.ps its) ∙ f.good;
+          first = λ qs q b. sym (goes_there qs q) ∙ f.first qs (its_order q) b;
+        })))
       where
-        handed : HandedIn words order ts
-        handed = record { stand_for = e; accepted = a; fits = fits }
+        its : IsOrder p.ts f.ps
+        its = is_order p.ts (subst (λ m. OrderOf m 0 (replicate max_txns true) f.ps) p.as_many f.is_order)
 
-        look : {b : Bool} → good ≡ b → Looked codes starts (length ts) b positions
-        look y = subst (λ b. Looked codes starts (length ts) b positions) y s
-    looked (unplanned h) t fits s = absurd (true≢false (sym t))
+    pub none_there : n ≤ length order
+        → NoneGoes steps starts n 0 (replicate max_txns true) (replicate slots false) → OrderFound words order 0 order
+    none_there fits none = none_found p.ts (handed fits) (λ qs q. sym (goes_there qs q) ∙ none qs (its_order q))
+
+-- nothing of the kind is handed in
+pub not_planned : {words order : List ℕ} → Unplanned words → OrderFound words order (65536 * order_refused) order
+not_planned none = refused (λ ts i. none ts i.stand_for i.accepted)

@@ -9,7 +9,7 @@ use native.Mathlib.Omega.{arith}
 use borrow.Author.Tests.{lt-ltb, eq-eqb}
 use lib.Dec.{eqb, ltb}
 use lib.ListN.{length, drop}
-use Rattle.order.specs.Export.{Action}
+use Rattle.order.specs.declared.action.Action.{Action}
 use Rattle.order.specs.Orders.{comes_before, First, NoneSucceeds}
 use Rattle.order.specs.Found.{HandedIn, OrderFound, found, none_found, refused}
 use Rattle.order.specs.OnlyOne.{OnlyOne}

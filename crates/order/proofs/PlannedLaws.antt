@@ -1,79 +1,66 @@
 -- The plan of what is read.
-use Prim.Native.Nat.{ℕ, ◌≤◌, ◌<◌}
-use mathlib.Core.Bool.{Bool, true, false, true≢false}
-use mathlib.Core.Path.{◌≡◌, refl, sym, ap, ◌∙◌, subst, subst⁻¹}
-use mathlib.Core.List.Memᴰ
-use mathlib.Core.List.{List, Memᴰ}
+use Prim.Native.Nat.{ℕ, ◌+◌, ◌≤◌, ◌<◌}
+use mathlib.Core.Bool.{true≢false}
+use mathlib.Core.Path.{◌≡◌, sym, ap, ◌∙◌, subst}
+use mathlib.Core.List.{List, []}
 use native.Mathlib.Omega.{arith}
-use lib.ListN.{length, get_or, take, drop, replicate, take-append-drop}
+use lib.ListN.{length, get_or, take, length-append}
 use lib.Seq.{take-length}
 use Rattle.rules.specs.Lists.{distinct, joined}
-use Rattle.order.specs.Export.{Action, words_of, written}
-use Rattle.order.specs.Reading.{number_of, Arrays, Holds, Few, ExportRead, read, broken, slots, max_txns}
-use Rattle.order.specs.Plan.{slot_in, Begin, Resolved, Codes, max_code, Planned, planned, unplanned}
-use Rattle.order.proofs.ArrayLaws.{all_same}
-use Rattle.order.proofs.PlanLaws.{slot_known}
+use Rattle.order.specs.declared.action.Action.{Action}
+use Rattle.order.specs.declared.plan.Step.{Step}
+use Rattle.order.specs.Export.{written}
+use Rattle.order.specs.Reading.{ExportRead, NoExport}
+use Rattle.order.specs.Plan.{written_in, Resolved, WrittenTwice, Planned, Unplanned}
+use Rattle.order.proofs.ArrayLaws.{joined_next}
 use Rattle.order.proofs.TxnLaws.{same_words}
 
-pub no_codes : Codes (replicate slots 0)
-no_codes =
-    record { as_many = refl; below = λ j. subst⁻¹ (λ n. n < max_code) (all_same slots 0 j) (omega arith) }
+pub not_read : {words : List ℕ} → NoExport words → Unplanned words
+not_read none ts e a = none ts e (record { transactions = a.transactions; actions = a.actions })
 
-pub read_within : {words kinds numbers starts : List ℕ} {ok : Bool} {n : ℕ}
-    → ExportRead words ok n kinds numbers starts
-    → ok ≡ true → (n ≤ max_txns) × (get_or starts n 0 ≤ slots) × Arrays kinds numbers
-read_within (read ts e few h) t = (few.transactions, h.starts_within (length ts), h.arrays)
-read_within (broken h) t = absurd (true≢false (sym t))
+module _ {words : List ℕ} {n : ℕ} {actions : List Action} {starts : List ℕ}
+    (e : ExportRead words n actions starts) where
+  count : get_or starts n 0 ≡ length (joined e.ts)
+  count =
+      e.holds.begins n (omega (arith, e.as_many))
+      ∙ ap (λ (k : ℕ). length (joined (take k e.ts))) e.as_many
+      ∙ ap (λ (ts : List (List Action)). length (joined ts)) (take-length e.ts)
 
-pub not_read : {words kinds numbers starts codes : List ℕ} {ok : Bool} {n : ℕ}
-    → ExportRead words ok n kinds numbers starts
-    → ok ≡ false → Planned words false n codes starts
-not_read (read ts e few h) f = absurd (true≢false f)
-not_read (broken h) f =
-    unplanned (λ ts e a. h ts e (record { transactions = a.transactions; actions = a.actions }))
+  acts_are : take (get_or starts n 0) actions ≡ joined e.ts
+  acts_are = ap (λ m. take m actions) count ∙ e.holds.are
 
-module _ (codes : List ℕ) (ok : Bool) (c : Codes codes) where
-  resolved : {words kinds numbers starts : List ℕ} (ts : List (List Action)) → words ≡ words_of ts → Few ts
-      → Holds ts kinds numbers starts → Resolved numbers (joined ts) ok codes → Planned words ok (length ts) codes
-      starts
+  pub ordered : (p : ℕ) → p < n → get_or starts p 0 ≤ get_or starts (p + 1) 0
+  ordered p h =
+      omega (
+        arith,
+        e.holds.begins p (omega (arith, e.as_many)),
+        e.holds.begins (p + 1) (omega (arith, e.as_many)),
+        ap length (joined_next e.ts p (omega (arith, e.as_many))),
+        length-append (joined (take p e.ts)) (get_or e.ts p []),
+      )
+
+  pub twice : WrittenTwice (take (get_or starts n 0) actions) → Unplanned words
   unfolding written
-  resolved {words} {kinds} {numbers} {starts} ts e few h r = go ok refl
-    where
-      mentioned : (a : Action) → Memᴰ a (joined ts) → slot_in numbers (number_of a) < length numbers
-      mentioned a i =
-          slot_known (number_of a)
-          (subst (Memᴰ (number_of a)) (take-append-drop (length (joined ts)) numbers)
-          (Memᴰ.append_left (drop (length (joined ts)) numbers)
-          (subst⁻¹ (Memᴰ (number_of a)) h.are_numbers (Memᴰ.map number_of i))))
+  twice w ts e' a =
+      let same = same_words e.ts ts (sym e.stand_for ∙ e') in
+      true≢false (sym a.written_once ∙ ap (λ l. distinct (written l)) (sym same)
+      ∙ ap (λ l. distinct (written_in l)) (sym acts_are) ∙ w)
 
-      go : (b : Bool) → ok ≡ b → Planned words b (length ts) codes starts
-      go true t =
-          planned ts e
-          (record { transactions = few.transactions; actions = few.actions; written_once = sym r.once ∙ t })
-          (record {
-            numbers = numbers;
-            within = record { codes_within = c; starts_within = h.starts_within };
-            as_many = h.arrays.as_many_numbers;
-            known = mentioned;
-            are_codes = r.are_codes t;
-            begins = h.begins;
-          })
-      go false f =
-          unplanned (λ us e' a. let same = same_words ts us (sym e ∙ e') in
-          true≢false (sym a.written_once ∙ ap (λ l. distinct (written l)) (sym same) ∙ sym r.once ∙ f))
-
-  pub is_planned : {words kinds numbers starts : List ℕ} {good : Bool} {n : ℕ}
-      → ExportRead words good n kinds numbers starts
-      → good ≡ true → ((acts : List Action) → Begin kinds numbers (get_or starts n 0) acts → Resolved numbers acts ok
-      codes)
-      → Planned words ok n codes starts
-  is_planned (read {kinds} {numbers} {starts} ts e few h) t r =
-      resolved ts e few h (r (joined ts) (record {
-        as_many = sym count;
-        are_kinds = ap (λ m. take m kinds) count ∙ h.are_kinds;
-        are_numbers = ap (λ m. take m numbers) count ∙ h.are_numbers;
-      }))
+  pub is_planned : {steps : List Step} → Resolved (take (get_or starts n 0) actions) steps
+      → Planned words n steps starts
+  unfolding written
+  is_planned {steps} r =
+      record {
+        ts = e.ts;
+        as_many = e.as_many;
+        stand_for = e.stand_for;
+        accepted = record {
+          transactions = e.few.transactions;
+          actions = e.few.actions;
+          written_once = here.once;
+        };
+        plan = record { few = omega (arith, count, e.holds.within n); are = here.are; begins = e.holds.begins };
+      }
     where
-      count : get_or starts (length ts) 0 ≡ length (joined ts)
-      count = h.begins (length ts) (omega arith) ∙ ap (λ (l : List (List Action)). length (joined l)) (take-length ts)
-  is_planned (broken h) t r = absurd (true≢false (sym t))
+      here : Resolved (joined e.ts) steps
+      here = subst (λ acts. Resolved acts steps) acts_are r

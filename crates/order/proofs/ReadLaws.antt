@@ -1,181 +1,195 @@
--- Reading actions and transactions from words.
-use Prim.Native.Nat.{ℕ, zero, suc, ◌+◌, ◌*◌, ◌≤◌, ◌<◌}
-use mathlib.Core.Bool.{true, false}
-use mathlib.Core.Path.{◌≡◌, refl, sym, ap, ap₂, ◌∙◌, subst}
+-- Reading a transaction from words.
+use Prim.Native.Nat.{ℕ, ◌+◌, ◌*◌, ◌≤◌, ◌<◌}
+use mathlib.Core.Path.{◌≡◌, refl, sym, ap, ap₂, ◌∙◌}
 use mathlib.Core.List.{List, [], ◌∷◌, ◌++◌, map, append_assoc, append-nil}
 use native.Mathlib.Omega.{arith}
-use lib.ListN.{length, get_or, take, drop, set, length-append, length-set}
-use lib.Seq.{drop-cons, get_or-drop, drop-drop}
+use lib.ListN.{length, get_or, take, drop, set, length-append, take-append-drop}
+use Rattle.std.specs.List.{IsSplitAt}
+use Rattle.std.specs.Prelude.{Option, Some, None, Result, Ok, Err}
+use Rattle.std.specs.Result.{result_ok}
+use Rattle.std.proofs.lemmas.Option.{same_Some, none-some}
 use Rattle.rules.specs.Lists.{joined}
-use Rattle.order.specs.Export.{Action, writes, reads, takes, action_words}
-use Rattle.order.specs.Reading.{kind_of, number_of, Arrays, ActionsRead, read, broken, slots}
-use Rattle.order.proofs.ArrayLaws.{joined_map_more, at_set, filled_more}
+use Rattle.order.specs.declared.action.Kind.{Kind}
+use Rattle.order.specs.declared.action.Kind.TheVariants.{Write, Read, Take}
+use Rattle.order.specs.declared.action.Action.{Action}
+use Rattle.order.specs.Export.{kind_word, action_words, IsKindOf, txn_words}
+use Rattle.order.specs.Reading.{max_actions, slots, TxnRead, NoTxn}
+use Rattle.order.proofs.ArrayLaws.{joined_map_more, filled_more}
 
--- the action of a kind and a number
-abbrev action_of : ℕ → ℕ → Action
-action_of zero n = reads n
-action_of (suc zero) n = writes n
-action_of (suc (suc zero)) n = reads n
-action_of (suc (suc (suc k))) n = takes n
+-- a kind's word tells the kind
+same_kind : (k l : Kind) → kind_word k ≡ kind_word l → k ≡ l
+same_kind Write Write e = refl
+same_kind Write Read e = absurd (omega arith)
+same_kind Write Take e = absurd (omega arith)
+same_kind Read Write e = absurd (omega arith)
+same_kind Read Read e = refl
+same_kind Read Take e = absurd (omega arith)
+same_kind Take Write e = absurd (omega arith)
+same_kind Take Read e = absurd (omega arith)
+same_kind Take Take e = refl
 
-action_is : (kind number : ℕ) → 1 ≤ kind → kind ≤ 3
-    → (kind_of (action_of kind number) ≡ kind) × (number_of (action_of kind number) ≡ number)
-    × (action_words (action_of kind number) ≡ kind ∷ number ∷ [])
-action_is zero n h l = absurd (omega arith)
-action_is (suc zero) n h l = (refl, refl, refl)
-action_is (suc (suc zero)) n h l = (refl, refl, refl)
-action_is (suc (suc (suc zero))) n h l = (refl, refl, refl)
-action_is (suc (suc (suc (suc k)))) n h l = absurd (omega arith)
+-- what a word tells, once a refusal is none
+pub its_kind : (r : Result Kind (Unit {0})) {o : Option Kind} {word : ℕ} {k : Kind} → IsKindOf word r
+    → o ≡ result_ok r → o ≡ Some k → kind_word k ≡ word
+its_kind (Ok k) told e t = ap kind_word (same_Some _ _ (sym t ∙ e)) ∙ told
+its_kind (Err x) told e t = absurd (none-some _ (sym e ∙ t))
 
--- actions, read back from their words
-abbrev pub actions_in : ℕ → List ℕ → List Action
-actions_in zero ws = []
-actions_in (suc k) [] = []
-actions_in (suc k) (x ∷ []) = []
-actions_in (suc k) (x ∷ n ∷ ws) = action_of x n ∷ actions_in k ws
+pub none_kind : (r : Result Kind (Unit {0})) {o : Option Kind} {word : ℕ} → IsKindOf word r
+    → o ≡ result_ok r → o ≡ None → (k : Kind) → kind_word k ≡ word → ⊥
+none_kind (Ok k) told e t = absurd (none-some _ (sym t ∙ e))
+none_kind (Err x) told e t = told
 
-pub read_back : (acts : List Action) (rest : List ℕ)
-    → actions_in (length acts) (joined (map action_words acts) ++ rest) ≡ acts
-read_back [] rest = refl
-read_back (writes n ∷ acts) rest = ap {B = List Action} (λ l. writes n ∷ l) (read_back acts rest)
-read_back (reads n ∷ acts) rest = ap {B = List Action} (λ l. reads n ∷ l) (read_back acts rest)
-read_back (takes n ∷ acts) rest = ap {B = List Action} (λ l. takes n ∷ l) (read_back acts rest)
+-- as many actions, with what follows, are told by their words
+pub same_actions : (acts more : List Action) (x y : List ℕ) → length acts ≡ length more
+    → joined (map action_words acts) ++ x ≡ joined (map action_words more) ++ y → (acts ≡ more) × (x ≡ y)
+same_actions [] [] x y l e = (refl, e)
+same_actions [] (b ∷ more) x y l e = absurd (omega arith)
+same_actions (a ∷ acts) [] x y l e = absurd (omega arith)
+same_actions (a ∷ acts) (b ∷ more) x y l e =
+    let rest = same_actions acts more x y (omega arith) (ap (drop 2) e) in
+    (ap₂ {C = List Action} (λ c cs. c ∷ cs) same rest.0, rest.1)
+  where
+    same : a ≡ b
+    same =
+        ap₂ {C = Action} (λ (k : Kind) (n : ℕ). record { kind = k; number = n })
+        (same_kind a.kind b.kind (ap (λ l. get_or l 0 0) e)) (ap (λ l. get_or l 1 0) e)
 
 pub words_length : (acts : List Action) → length (joined (map action_words acts)) ≡ 2 * length acts
 words_length [] = refl
-words_length (a ∷ acts) = length-append (action_words a) (joined (map action_words acts)) ∙ two a (words_length acts)
-  where
-    two : (a : Action) → length (joined (map action_words acts)) ≡ 2 * length acts
-        → length (action_words a) + length (joined (map action_words acts)) ≡ 2 * suc (length acts)
-    two (writes n) e = omega arith
-    two (reads n) e = omega arith
-    two (takes n) e = omega arith
+words_length (a ∷ acts) = let rest = words_length acts in omega arith
 
--- the kinds of actions stand at every other word
-kind_range : (a : Action) → (1 ≤ kind_of a) × (kind_of a ≤ 3)
-kind_range (writes n) = omega arith
-kind_range (reads n) = omega arith
-kind_range (takes n) = omega arith
+-- behind the words of some actions, those of more begin with a kind
+pub kind_behind : (acts txn : List Action) (k n : ℕ) (left tail : List ℕ)
+    → joined (map action_words txn) ++ tail ≡ joined (map action_words acts) ++ (k ∷ n ∷ left)
+    → length acts < length txn → (kind : Kind) × (kind_word kind ≡ k)
+kind_behind acts [] k n left tail e h = absurd (omega arith)
+kind_behind [] (a ∷ txn) k n left tail e h = (a.kind, ap (λ l. get_or l 0 0) e)
+kind_behind (b ∷ acts) (a ∷ txn) k n left tail e h =
+    kind_behind acts txn k n left tail (ap (drop 2) e) (omega arith)
 
-first_kind : (a : Action) (rest : List ℕ) → get_or (action_words a ++ rest) 0 0 ≡ kind_of a
-first_kind (writes n) rest = refl
-first_kind (reads n) rest = refl
-first_kind (takes n) rest = refl
+two_words : (pair : List ℕ) → length pair ≡ 2 → pair ≡ get_or pair 0 0 ∷ get_or pair 1 0 ∷ []
+two_words [] l = absurd (omega arith)
+two_words (x ∷ []) l = absurd (omega arith)
+two_words (x ∷ y ∷ []) l = refl
+two_words (x ∷ y ∷ z ∷ zs) l = absurd (omega arith)
 
-past_first : (a : Action) (rest : List ℕ) (i : ℕ) → get_or (action_words a ++ rest) (suc (suc i)) 0 ≡ get_or rest i 0
-past_first (writes n) rest i = refl
-past_first (reads n) rest i = refl
-past_first (takes n) rest i = refl
-
-pub kind_at : (acts : List Action) (rest : List ℕ) (i : ℕ) → i < length acts
-    → (1 ≤ get_or (joined (map action_words acts) ++ rest) (2 * i) 0)
-    × (get_or (joined (map action_words acts) ++ rest) (2 * i) 0 ≤ 3)
-kind_at [] rest i h = absurd (omega arith)
-kind_at (a ∷ acts) rest zero h =
-    let is = ap (λ l. get_or l 0 0) (append_assoc (action_words a) (joined (map action_words acts)) rest)
-    ∙ first_kind a (joined (map action_words acts) ++ rest) in
-    let r = kind_range a in
-    omega arith
-kind_at (a ∷ acts) rest (suc i) h =
-    let two : 2 * suc i ≡ suc (suc (2 * i)) = omega arith in
-    let is = ap (λ l. get_or l (2 * suc i) 0) (append_assoc (action_words a) (joined (map action_words acts)) rest)
-    ∙ ap (λ k. get_or (action_words a ++ (joined (map action_words acts) ++ rest)) k 0) two
-    ∙ past_first a (joined (map action_words acts) ++ rest) (2 * i) in
-    let r = kind_at acts rest i (omega arith) in
-    omega arith
-
--- i actions are read
-pub record Reading (words : List ℕ) (at len : ℕ) (kinds₀ numbers₀ kinds numbers : List ℕ) (i : ℕ) : Type 0 where
+-- actions are read: their words stand in front of `left`, and they stand in the array as far as `end`
+pub record Reading (pairs left : List ℕ) (len : ℕ) (old actions : List Action) (end : ℕ) : Type 0 where
   pub acts : List Action
-  pub as_many : length acts ≡ i
-  pub stand_for : drop at words ≡ joined (map action_words acts) ++ drop (at + 2 * i) words
-  pub are_kinds : take (len + i) kinds ≡ take len kinds₀ ++ map kind_of acts
-  pub are_numbers : take (len + i) numbers ≡ take len numbers₀ ++ map number_of acts
-  pub arrays : Arrays kinds numbers
+  pub stand_for : pairs ≡ joined (map action_words acts) ++ left
+  pub ends : end ≡ len + length acts
+  pub are : take end actions ≡ take len old ++ acts
 
-pub none_read : (words : List ℕ) (at len : ℕ) (kinds numbers : List ℕ) → Arrays kinds numbers
-    → Reading words at len kinds numbers kinds numbers 0
-none_read words at len kinds numbers a =
-    let same : len ≡ len + 0 = omega arith in
-    let here : at ≡ at + 2 * 0 = omega arith in
-    record {
-      acts = [];
-      as_many = refl;
-      stand_for = ap (λ k. drop k words) here;
-      are_kinds = ap (λ k. take k kinds) (sym same) ∙ sym (append-nil _);
-      are_numbers = ap (λ k. take k numbers) (sym same) ∙ sym (append-nil _);
-      arrays = a;
-    }
+-- how many words they have
+pub reading_length : {pairs left : List ℕ} {len end : ℕ} {old actions : List Action}
+    → (r : Reading pairs left len old actions end) → length pairs ≡ 2 * length r.acts + length left
+reading_length {left = left} r =
+    ap length r.stand_for ∙ length-append (joined (map action_words r.acts)) left
+    ∙ ap (λ l. l + length left) (words_length r.acts)
 
--- one more is read
-pub one_more : (words : List ℕ) (at len : ℕ) (kinds₀ numbers₀ kinds numbers : List ℕ) (i : ℕ)
-    → Reading words at len kinds₀ numbers₀ kinds numbers i
-    → at + 2 * i + 1 < length words → len + i < slots
-    → 1 ≤ get_or words (at + 2 * i) 0 → get_or words (at + 2 * i) 0 ≤ 3
-    → Reading words at len kinds₀ numbers₀ (set kinds (len + i) (get_or words (at + 2 * i) 0))
-    (set numbers (len + i) (get_or words (at + 2 * i + 1) 0)) (i + 1)
-one_more words at len kinds₀ numbers₀ kinds numbers i r fits room low high =
+-- one more
+pub one_more : (pair left' : List ℕ) {pairs left : List ℕ} {len end : ℕ} {old actions : List Action}
+    → Reading pairs left len old actions end → left ≡ pair ++ left' → length pair ≡ 2 → (kind : Kind)
+    → kind_word kind ≡ get_or pair 0 0 → end < length actions → (place end' : ℕ) → place ≡ end → end' ≡ end + 1
+    → Reading pairs left' len old (set actions place (record { kind = kind; number = get_or pair 1 0 })) end'
+one_more pair left' {left = left} {len} {end} {old} {actions} r behind two kind is room place end' here then =
     record {
       acts = r.acts ++ (a ∷ []);
-      as_many = length-append r.acts (a ∷ []) ∙ omega (arith, r.as_many);
       stand_for = r.stand_for ∙ ap (λ l. joined (map action_words r.acts) ++ l) split
-          ∙ sym (append_assoc (joined (map action_words r.acts)) (action_words a) (drop (at + 2 * (i + 1)) words))
-          ∙ ap (λ l. l ++ drop (at + 2 * (i + 1)) words) (sym (joined_map_more action_words r.acts a));
-      are_kinds = ap₂ (λ m v. take m (set kinds (len + i) v)) (then len i) (sym is.0)
-          ∙ filled_more kind_of (take len kinds₀) kinds (len + i) r.acts a r.are_kinds
-          (omega (arith, r.arrays.as_many_kinds));
-      are_numbers = ap₂ (λ m v. take m (set numbers (len + i) v)) (then len i) (sym is.1)
-          ∙ filled_more number_of (take len numbers₀) numbers (len + i) r.acts a r.are_numbers
-          (omega (arith, r.arrays.as_many_numbers));
-      arrays = record {
-        as_many_kinds = length-set kinds (len + i) kind ∙ r.arrays.as_many_kinds;
-        as_many_numbers = length-set numbers (len + i) number ∙ r.arrays.as_many_numbers;
-        kinds_below = at_set (λ k. k < 4) kinds (len + i) kind 0 r.arrays.kinds_below (omega arith);
-      };
+          ∙ sym (append_assoc (joined (map action_words r.acts)) (action_words a) left')
+          ∙ ap (λ l. l ++ left') (sym (joined_map_more action_words r.acts a));
+      ends = omega (arith, r.ends, length-append r.acts (a ∷ []));
+      are = ap₂ (λ n i. take n (set actions i a)) then here
+          ∙ filled_more (take len old) actions end r.acts a r.are room;
     }
   where
-    kind : ℕ
-    kind = get_or words (at + 2 * i) 0
-
-    number : ℕ
-    number = get_or words (at + 2 * i + 1) 0
-
     a : Action
-    a = action_of kind number
+    a = record { kind = kind; number = get_or pair 1 0 }
 
-    is : (kind_of a ≡ kind) × (number_of a ≡ number) × (action_words a ≡ kind ∷ number ∷ [])
-    is = action_is kind number low high
-
-    then : (m n : ℕ) → m + (n + 1) ≡ m + n + 1
-    then m n = omega arith
-
-    next : (at i : ℕ) → (at + 2 * i + 1 ≡ suc (at + 2 * i)) × (at + 2 * (i + 1) ≡ suc (suc (at + 2 * i)))
-    next at i = omega arith
-
-    split : drop (at + 2 * i) words ≡ action_words (a) ++ drop (at + 2 * (i + 1)) words
+    split : left ≡ action_words a ++ left'
     split =
-        drop-cons words (at + 2 * i) 0 (omega arith)
-        ∙ ap {B = List ℕ} (λ l. kind ∷ l) (drop-cons words (suc (at + 2 * i)) 0 (omega arith)
-        ∙ ap (λ k. get_or words k 0 ∷ drop (suc (suc (at + 2 * i))) words) (sym (next at i).0))
-        ∙ ap {B = List ℕ} (λ k. kind ∷ number ∷ drop k words) (sym (next at i).1)
-        ∙ ap (λ l. l ++ drop (at + 2 * (i + 1)) words) (sym is.2)
+        behind ∙ ap (λ l. l ++ left') (two_words pair two
+        ∙ ap {B = List ℕ} (λ k. k ∷ get_or pair 1 0 ∷ []) (sym is))
 
--- all are read
-pub all_read : (words : List ℕ) (at k len : ℕ) (kinds₀ numbers₀ kinds numbers : List ℕ) (i : ℕ) → i ≡ k
-    → Reading words at len kinds₀ numbers₀ kinds numbers i
-    → ActionsRead (drop at words) k len kinds₀ numbers₀ true kinds numbers
-all_read words at k len kinds₀ numbers₀ kinds numbers i e r =
-    subst (λ m. ActionsRead (drop at words) m len kinds₀ numbers₀ true kinds numbers) e
-    (read r.acts r.as_many
-    (r.stand_for ∙ ap (λ l. joined (map action_words r.acts) ++ l) (sym (drop-drop (2 * i) at words)))
-    r.are_kinds r.are_numbers r.arrays)
+pub no_count : (words : List ℕ) → length words ≡ 0 → NoTxn words
+unfolding txn_words
+no_count words l txn rest e few = omega (arith, ap length e)
 
--- a word that is no kind
-pub no_kind : (words : List ℕ) (at k len : ℕ) (kinds₀ numbers₀ kinds numbers : List ℕ) (i : ℕ) → i < k
-    → (1 ≤ get_or words (at + 2 * i) 0 → get_or words (at + 2 * i) 0 ≤ 3 → ⊥)
-    → ActionsRead (drop at words) k len kinds₀ numbers₀ false kinds numbers
-no_kind words at k len kinds₀ numbers₀ kinds numbers i h wrong =
-    broken (λ acts rest e l.
-    let r = kind_at acts rest i (omega arith) in
-    let is = sym (get_or-drop at words (2 * i) 0) ∙ ap (λ ws. get_or ws (2 * i) 0) e in
-    wrong (omega arith) (omega arith))
+module _ (words : List ℕ) (count k : ℕ) (behind : List ℕ) (begin : words ≡ count ∷ behind) (is : k ≡ count) where
+  -- a transaction that the words begin with
+  count_is : (txn : List Action) (rest : List ℕ) → words ≡ txn_words txn ++ rest → k ≡ length txn
+  unfolding txn_words
+  count_is txn rest e = is ∙ ap (λ l. get_or l 0 0) (sym begin ∙ e)
+
+  behind_is : (txn : List Action) (rest : List ℕ) → words ≡ txn_words txn ++ rest
+      → behind ≡ joined (map action_words txn) ++ rest
+  unfolding txn_words
+  behind_is txn rest e = ap (drop 1) (sym begin ∙ e)
+
+  pub too_large : max_actions < k → NoTxn words
+  too_large h txn rest e few = omega (arith, count_is txn rest e)
+
+  pub too_short : length behind < 2 * k → NoTxn words
+  too_short h txn rest e few =
+      omega (
+        arith,
+        count_is txn rest e,
+        ap length (behind_is txn rest e),
+        length-append (joined (map action_words txn)) rest,
+        words_length txn,
+      )
+
+  module _ {pairs words' rest : List ℕ} (s : IsSplitAt behind (2 * k) pairs rest) (same : words' ≡ pairs) where
+    whole : behind ≡ words' ++ rest
+    whole = sym (take-append-drop (2 * k) behind) ∙ ap₂ (λ (x y : List ℕ). x ++ y) (sym (same ∙ s.1)) (sym s.2)
+
+    all : length words' ≡ 2 * k
+    all = ap length same ∙ s.3
+
+    -- there is room for one more
+    pub room : {left : List ℕ} {len end : ℕ} {old actions : List Action} → Reading words' left len old actions end
+        → k ≤ max_actions → 2 ≤ length left → len + max_actions ≤ slots → end < slots
+    room r few more fits = let l = reading_length r in omega (arith, all, r.ends)
+
+    -- a word that is no kind
+    pub no_kind : (pair left' : List ℕ) {left : List ℕ} {len end : ℕ} {old actions : List Action}
+        → Reading words' left len old actions end → left ≡ pair ++ left' → length pair ≡ 2
+        → ((kind : Kind) → kind_word kind ≡ get_or pair 0 0 → ⊥) → NoTxn words
+    no_kind pair left' r next two wrong txn more e few =
+        let n = count_is txn more e in
+        let l = reading_length r in
+        let m = length-append pair left' in
+        let k = kind_behind r.acts txn (get_or pair 0 0) (get_or pair 1 0) (left' ++ rest) more stand
+        (omega (arith, all, ap length next)) in
+        wrong k.0 k.1
+      where
+        stand : joined (map action_words txn) ++ more
+            ≡ joined (map action_words r.acts) ++ (get_or pair 0 0 ∷ get_or pair 1 0 ∷ (left' ++ rest))
+        stand =
+            sym (behind_is txn more e) ∙ whole
+            ∙ ap (λ l. l ++ rest) (r.stand_for
+            ∙ ap (λ l. joined (map action_words r.acts) ++ l) (next ∙ ap (λ l. l ++ left') (two_words pair two)))
+            ∙ append_assoc (joined (map action_words r.acts)) (get_or pair 0 0 ∷ get_or pair 1 0 ∷ left') rest
+
+    -- all are read
+    pub txn_read : {left : List ℕ} {len end : ℕ} {old actions : List Action} → Reading words' left len old actions end
+        → length left < 2 → k ≤ max_actions → TxnRead words len old actions (len + k) rest
+    unfolding txn_words
+    txn_read {left} {len} {end} {old} {actions} r short few =
+        let l = reading_length r in
+        let here : len + k ≡ end = omega (arith, all, r.ends) in
+        record {
+          txn = r.acts;
+          few = omega (arith, all);
+          stand_for =
+              begin
+              ∙ ap₂ {C = List ℕ} (λ n ws. n ∷ ws) (omega (arith, all, is))
+              (whole ∙ ap (λ ws. ws ++ rest) (r.stand_for ∙ ap (λ ws. joined (map action_words r.acts) ++ ws)
+              (nothing left (omega (arith, all))) ∙ append-nil (joined (map action_words r.acts))));
+          ends = omega (arith, all);
+          are = ap (λ n. take n actions) here ∙ r.are;
+        }
+      where
+        nothing : (left : List ℕ) → length left ≡ 0 → left ≡ []
+        nothing [] e = refl
+        nothing (x ∷ xs) e = absurd (omega arith)

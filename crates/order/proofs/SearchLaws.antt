@@ -1,8 +1,7 @@
 -- Laws of the search.
 use Prim.Native.Nat.{ℕ, zero, suc, ◌+◌, ◌≤◌, ◌<◌}
-use mathlib.Core.Bool.{Bool, true, false, not, ◌&&◌, true≢false}
+use mathlib.Core.Bool.{Bool, true, false, not, ◌&&◌, true≢false, and-false}
 use mathlib.Core.Logic.{⊎_elim}
-use mathlib.Core.Option.{none, some}
 use mathlib.Core.Path.{◌≡◌, refl, sym, ap, ap₂, ◌∙◌, subst, subst⁻¹}
 use mathlib.Core.List.Memᴰ
 use mathlib.Core.List.{List, [], ◌∷◌, Memᴰ}
@@ -10,49 +9,90 @@ use native.Mathlib.Decide.{ℕ_discrete}
 use native.Mathlib.Numerals.{add-one}
 use native.Mathlib.Omega.{arith}
 use borrow.Author.Tests.{ltb-true, eqb-true, eqb-false, ne_eqb, not-true}
+use denote.Enum.Bare.{sameb}
 use lib.Dec.{eqb, ltb}
 use lib.ListN.{length, get_or, take, drop, set, length-take, length-set, drop_of_length-le}
-use lib.Seq.{slice, slice-cons, drop-cons, take-set-lt, drop-set-lt, get_or-set_same, get_or-set_other}
+use lib.Seq.{drop-cons, get_or-take, get_or-drop, take-set-lt, drop-set-lt, get_or-set_same, get_or-set_other}
+use Rattle.std.specs.Prelude.{Some, None}
 use Rattle.rules.specs.Lists.{anyb, distinct}
 use Rattle.rules.proofs.BoolLaws.{and_left, and_right, or_cases}
 use Rattle.rules.proofs.ListLaws.{all_false, none_mem}
 use Rattle.order.specs.Orders.{comes_before}
-use Rattle.order.specs.Search.{misses, after_code, after_codes, after_txn, told, goes, OrderOf, Searched, found}
-use Rattle.order.specs.Search.{none_found}
+use Rattle.order.specs.contracts.action.Kind.{the_type}
+use Rattle.order.specs.declared.action.Kind.{Kind}
+use Rattle.order.specs.declared.action.Kind.TheVariants.{Write, Read, Take}
+use Rattle.order.specs.declared.plan.Step.{Step}
+use Rattle.order.specs.Reading.{slots}
+use Rattle.order.specs.Plan.{AllPlaced}
+use Rattle.order.specs.Search.{is_write, is_take}
+use Rattle.order.specs.Search.{misses, after_step, after_steps, after_txn, goes, OrderOf, FirstGoes, NoneGoes}
 
--- the codes from j on: the first one's entry is missing, or it is carried out, or there is none
-module _ (codes : List ℕ) (to : ℕ) (fits : to ≤ length codes) where
-  first_code : (j : ℕ) → j < to → (present : List Bool)
-      → after_codes (slice j to codes) present ≡ after_codes (get_or codes j 0 ∷ slice (j + 1) to codes) present
-  first_code j h present =
-      ap (λ cs. after_codes cs present) (slice-cons j to codes 0 h fits
-      ∙ ap {B = List ℕ} (λ k. get_or codes j 0 ∷ slice k to codes) (sym (add-one j)))
+-- the code's tests of a step
+not_write : (k : Kind) → not (sameb the_type k Write) ≡ not (is_write k)
+not_write Write = refl
+not_write Read = refl
+not_write Take = refl
 
-  pub missing : (j : ℕ) → j < to → (present : List Bool) → misses (get_or codes j 0) present ≡ true
-      → after_codes (slice j to codes) present ≡ none
-  unfolding after_codes
-  missing j h present m = first_code j h present ∙ rw m
+not_take : (k : Kind) → not (sameb the_type k Take) ≡ not (is_take k)
+not_take Write = refl
+not_take Read = refl
+not_take Take = refl
 
-  pub carried : (j : ℕ) → j < to → (present : List Bool) → misses (get_or codes j 0) present ≡ false
-      → after_codes (slice j to codes) present
-      ≡ after_codes (slice (j + 1) to codes) (after_code (get_or codes j 0) present)
-  unfolding after_codes
-  carried j h present m = first_code j h present ∙ rw m
+module _ (s : Step) (present : List Bool) where
+  pub misses_there : {x : Bool} → x ≡ not (sameb the_type s.kind Write) → x ≡ true → get_or present s.slot false ≡ false
+      → misses s present ≡ true
+  unfolding misses
+  misses_there e t f = rw (sym (e ∙ not_write s.kind) ∙ t, f)
 
-pub ended : (codes : List ℕ) (j to : ℕ) (present : List Bool) → to ≤ j
-    → after_codes (slice j to codes) present ≡ some present
-unfolding after_codes
-ended codes j to present h =
-    let short = length-take to codes in
-    ap (λ cs. after_codes cs present) (drop_of_length-le (take to codes) {i = j} (omega arith))
+  pub misses_write : {x : Bool} → x ≡ not (sameb the_type s.kind Write) → x ≡ false → misses s present ≡ false
+  unfolding misses
+  misses_write e f = rw (sym (e ∙ not_write s.kind) ∙ f)
 
--- what the run of the transaction at p tells
-ran : (codes starts : List ℕ) (p : ℕ) (present after : List Bool) (ok : Bool)
-    → told ok after ≡ after_codes (slice (get_or starts p 0) (get_or starts (p + 1) 0) codes) present
-    → after_txn codes starts p present ≡ told ok after
-unfolding after_txn
-ran codes starts p present after ok e =
-    ap (λ k. after_codes (slice (get_or starts p 0) (get_or starts k 0) codes) present) (sym (add-one p)) ∙ sym e
+  pub misses_none : get_or present s.slot false ≡ true → misses s present ≡ false
+  unfolding misses
+  misses_none t = rw (t, and-false)
+
+  after_is : {x : Bool} → x ≡ not (sameb the_type s.kind Take) → after_step s present ≡ set present s.slot x
+  unfolding after_step
+  after_is e = ap (set present s.slot) (sym (e ∙ not_take s.kind))
+
+-- the steps from i on: the first one's entry is missing, or it is carried out, or there is none
+module _ (items : List Step) (i : ℕ) (d : Step) (present : List Bool) where
+  first_step : i < length items
+      → after_steps (drop i items) present ≡ after_steps (get_or items i d ∷ drop (i + 1) items) present
+  first_step h =
+      ap (λ l. after_steps l present) (drop-cons items i d h
+      ∙ ap {B = List Step} (λ k. get_or items i d ∷ drop k items) (sym (add-one i)))
+
+  pub missing : i < length items → misses (get_or items i d) present ≡ true → after_steps (drop i items) present ≡ None
+  unfolding after_steps
+  missing h m = first_step h ∙ rw m
+
+  pub carried : i < length items → misses (get_or items i d) present ≡ false
+      → {x : Bool} → x ≡ not (sameb the_type (get_or items i d).kind Take)
+      → after_steps (drop i items) present
+      ≡ after_steps (drop (i + 1) items) (set present (get_or items i d).slot x)
+  unfolding after_steps
+  carried h m e =
+      first_step h ∙ rw m refl ∙ ap (after_steps (drop (i + 1) items)) (after_is (get_or items i d) present e)
+
+pub ended : (items : List Step) (i : ℕ) (present : List Bool) → length items ≤ i
+    → after_steps (drop i items) present ≡ Some present
+unfolding after_steps
+ended items i present h = ap (λ l. after_steps l present) (drop_of_length-le items {i = i} h)
+
+-- a step of a part of the steps has a slot
+pub placed_at : (steps : List Step) (d : Step) → AllPlaced steps → d.slot < slots → (a k i : ℕ)
+    → i < length (take k (drop a steps)) → (get_or (take k (drop a steps)) i d).slot < slots
+placed_at steps d all h a k i l =
+    subst⁻¹ (λ (s : Step). s.slot < slots)
+    (get_or-take k (drop a steps) i d (omega (arith, length-take k (drop a steps))) ∙ get_or-drop a steps i d)
+    (at steps (a + i) all)
+  where
+    at : (xs : List Step) (j : ℕ) → AllPlaced xs → (get_or xs j d).slot < slots
+    at [] j all = h
+    at (x ∷ xs) zero all = all x (Memᴰ.head refl)
+    at (x ∷ xs) (suc j) all = at xs j (λ s m. all s (Memᴰ.tail m))
 
 -- a position that is placed is left no longer, and every other one as before
 placed : (left : List Bool) (p : ℕ) → get_or (set left p false) p false ≡ false
@@ -93,23 +133,23 @@ order_cons {n} {d} {left} {p} {ps} h l o =
     other q i e = true≢false (sym (subst (λ m. get_or (set left p false) m false ≡ true) e (o.positions q i).1) ∙
         placed left p)
 
-module _ (codes starts : List ℕ) (n d : ℕ) (left present : List Bool) where
+module _ (steps : List Step) (starts : List ℕ) (n d : ℕ) (left present : List Bool) where
   -- every order that begins below p fails
   pub record Tried (p : ℕ) : Type 0 where
-    pub fails : (q : ℕ) (qs : List ℕ) → q < p → OrderOf n d left (q ∷ qs) → goes codes starts (q ∷ qs) present ≡ false
+    pub fails : (q : ℕ) (qs : List ℕ) → q < p → OrderOf n d left (q ∷ qs) → goes steps starts (q ∷ qs) present ≡ false
 
   pub none_tried : Tried 0
   none_tried = record { fails = λ q qs h o. absurd (omega arith) }
 
-  try_more : (p : ℕ) → Tried p → ((qs : List ℕ) → OrderOf n d left (p ∷ qs) → goes codes starts (p ∷ qs) present ≡
+  try_more : (p : ℕ) → Tried p → ((qs : List ℕ) → OrderOf n d left (p ∷ qs) → goes steps starts (p ∷ qs) present ≡
       false)
       → Tried (p + 1)
   try_more p t f = record { fails = λ q qs h o. go q qs h o (ℕ_discrete q p) }
     where
       go : (q : ℕ) (qs : List ℕ) → q < p + 1 → OrderOf n d left (q ∷ qs) → Dec (q ≡ p)
-          → goes codes starts (q ∷ qs) present ≡ false
+          → goes steps starts (q ∷ qs) present ≡ false
       go q qs h o (yes e) =
-          subst⁻¹ (λ m. goes codes starts (m ∷ qs) present ≡ false) e
+          subst⁻¹ (λ m. goes steps starts (m ∷ qs) present ≡ false) e
           (f qs (subst (λ m. OrderOf n d left (m ∷ qs)) e o))
       go q qs h o (no e) = t.fails q qs (omega arith) o
 
@@ -118,85 +158,76 @@ module _ (codes starts : List ℕ) (n d : ℕ) (left present : List Bool) where
   not_left p t e =
       try_more p t (λ qs o. absurd (true≢false (sym (o.positions p (Memᴰ.head refl)).1 ∙ e)))
 
-  goes_on : (p : ℕ) (after : List Bool) (ok : Bool)
-      → told ok after ≡ after_codes (slice (get_or starts p 0) (get_or starts (p + 1) 0) codes) present → ok ≡ true
-      → (qs : List ℕ) → goes codes starts (p ∷ qs) present ≡ goes codes starts qs after
+  pub not_run : (p : ℕ) → Tried p → None ≡ after_txn steps starts p present → Tried (p + 1)
   unfolding goes
-  goes_on p after ok e t qs = rw (ran codes starts p present after ok e, t)
+  not_run p t e = try_more p t (λ qs o. rw (sym e))
 
-  pub not_run : (p : ℕ) → Tried p → (after : List Bool) (ok : Bool)
-      → told ok after ≡ after_codes (slice (get_or starts p 0) (get_or starts (p + 1) 0) codes) present → ok ≡ false
-      → Tried (p + 1)
-  unfolding goes
-  not_run p t after ok e f = try_more p t (λ qs o. rw (ran codes starts p present after ok e, f))
+  module _ (p : ℕ) (t : Tried p) (after : List Bool) (e : Some after ≡ after_txn steps starts p present) where
+    goes_on : (qs : List ℕ) → goes steps starts (p ∷ qs) present ≡ goes steps starts qs after
+    unfolding goes
+    goes_on qs = rw (sym e)
 
-  module _ (p : ℕ) (t : Tried p) (after : List Bool) (ok : Bool)
-      (e : told ok after ≡ after_codes (slice (get_or starts p 0) (get_or starts (p + 1) 0) codes) present)
-      (run : ok ≡ true)
-      {good : Bool} {order : List ℕ} (s : Searched codes starts n (d + 1) (set left p false) after good order) where
-    pub not_found : good ≡ false → Tried (p + 1)
-    not_found f = go s f
-      where
-        go : {good : Bool} {order : List ℕ} → Searched codes starts n (d + 1) (set left p false) after good order
-            → good ≡ false → Tried (p + 1)
-        go (none_found h) f = try_more p t (λ qs o. goes_on p after ok e run qs ∙ h qs (order_tail o))
-        go (found ps at o g first) f = absurd (true≢false f)
+    pub not_found : NoneGoes steps starts n (d + 1) (set left p false) after → Tried (p + 1)
+    not_found none = try_more p t (λ qs o. goes_on qs ∙ none qs (order_tail o))
 
     -- an order before p and the first of the rest
     before : (ps : List ℕ)
         → ((qs : List ℕ) → OrderOf n (d + 1) (set left p false) qs → comes_before qs ps ≡ true
-        → goes codes starts qs after ≡ false)
-        → (qs : List ℕ) → OrderOf n d left qs → comes_before qs (p ∷ ps) ≡ true → goes codes starts qs present ≡ false
+        → goes steps starts qs after ≡ false)
+        → (qs : List ℕ) → OrderOf n d left qs → comes_before qs (p ∷ ps) ≡ true → goes steps starts qs present ≡ false
     unfolding comes_before
     before ps first [] o b = absurd (true≢false (sym b))
     before ps first (q ∷ qs) o b =
         ⊎_elim (λ l. t.fails q qs (ltb-true q p l) o)
         (λ r. let same = eqb-true q p (and_left (eqb q p) (comes_before qs ps) r) in
-        subst⁻¹ (λ m. goes codes starts (m ∷ qs) present ≡ false) same
-        (goes_on p after ok e run qs
+        subst⁻¹ (λ m. goes steps starts (m ∷ qs) present ≡ false) same
+        (goes_on qs
         ∙ first qs (order_tail (subst (λ m. OrderOf n d left (m ∷ qs)) same o))
         (and_right (eqb q p) (comes_before qs ps) r)))
         (or_cases (ltb q p) (eqb q p && comes_before qs ps) b)
 
-    pub is_found : p < n → get_or left p false ≡ true → good ≡ true → d < n → n ≤ length order
-        → Searched codes starts n d left present true (set order d p)
-    is_found h l = go s
+    pub is_found : {order : List ℕ} → FirstGoes steps starts n (d + 1) (set left p false) after order
+        → p < n → get_or left p false ≡ true → d < n → FirstGoes steps starts n d left present (set order d p)
+    is_found {order} f h l below =
+        record {
+          ps = p ∷ f.ps;
+          stands = stands;
+          room = omega (arith, length-set order d p);
+          is_order = order_cons h l f.is_order;
+          good = goes_on f.ps ∙ f.good;
+          first = before f.ps f.first;
+        }
       where
-        stands : (order ps : List ℕ) → d < n → n ≤ length order → drop (d + 1) (take n order) ≡ ps
-            → drop d (take n (set order d p)) ≡ p ∷ ps
-        stands order ps below fits at =
+        stands : drop d (take n (set order d p)) ≡ p ∷ f.ps
+        stands =
             let long = length-take n order in
+            let fits = f.room in
             ap (drop d) (take-set-lt n order d p below)
             ∙ drop-cons (set (take n order) d p) d 0 (omega (arith, length-set (take n order) d p))
             ∙ ap₂ {C = List ℕ} (λ x y. x ∷ y) (get_or-set_same (take n order) d p 0 (omega arith))
             (drop-set-lt (suc d) (take n order) d p (omega arith) ∙ ap (λ k. drop k (take n order)) (sym (add-one d)) ∙
-            at)
-
-        go : {good : Bool} {order : List ℕ} → Searched codes starts n (d + 1) (set left p false) after good order
-            → good ≡ true → d < n → n ≤ length order → Searched codes starts n d left present true (set order d p)
-        go {order = order} (found ps at o g first) y below fits =
-            found (p ∷ ps) (stands order ps below fits at) (order_cons h l o) (goes_on p after ok e run ps ∙ g)
-            (before ps first)
-        go (none_found k) y below fits = absurd (true≢false (sym y))
+            f.stands)
 
   -- all are placed
-  pub all_placed : (order : List ℕ) → d ≡ n → Searched codes starts n d left present true order
+  pub all_placed : (order : List ℕ) → d ≡ n → n ≤ length order → FirstGoes steps starts n d left present order
   unfolding goes comes_before distinct
-  all_placed order e =
+  all_placed order e fits =
       let short = length-take n order in
-      found [] (drop_of_length-le (take n order) {i = d} (omega arith))
-      (record { as_many = omega arith; positions = λ p i. absurd (Memᴰ.not-nil i); once = refl }) refl none_before
+      record {
+        ps = [];
+        room = fits;
+        stands = drop_of_length-le (take n order) {i = d} (omega arith);
+        is_order = record { as_many = omega arith; positions = λ p i. absurd (Memᴰ.not-nil i); once = refl };
+        good = refl;
+        first = none_before;
+      }
     where
-      none_before : (qs : List ℕ) → OrderOf n d left qs → comes_before qs [] ≡ true → goes codes starts qs present ≡
+      none_before : (qs : List ℕ) → OrderOf n d left qs → comes_before qs [] ≡ true → goes steps starts qs present ≡
           false
       none_before [] o b = absurd (true≢false (sym b))
       none_before (q ∷ qs) o b = absurd (true≢false (sym b))
 
   -- all are tried
-  pub all_tried : (order : List ℕ) (p : ℕ) → Tried p → n ≤ p → d < n
-      → Searched codes starts n d left present false order
-  all_tried order p t all below = none_found go
-    where
-      go : (qs : List ℕ) → OrderOf n d left qs → goes codes starts qs present ≡ false
-      go [] o = absurd (omega (arith, o.as_many))
-      go (q ∷ qs) o = t.fails q qs (omega (arith, (o.positions q (Memᴰ.head refl)).0)) o
+  pub all_tried : (p : ℕ) → Tried p → n ≤ p → d < n → NoneGoes steps starts n d left present
+  all_tried p t all below [] o = absurd (omega (arith, o.as_many))
+  all_tried p t all below (q ∷ qs) o = t.fails q qs (omega (arith, (o.positions q (Memᴰ.head refl)).0)) o

@@ -13,7 +13,8 @@ use Rattle.rules.specs.Lists.{All, anyb, distinct}
 use Rattle.rules.specs.Numbers.{order_refused}
 use Rattle.rules.specs.SerialRun.{same_fields, is_kept, failed, taking, carry_out, carry_out_all}
 use Rattle.rules.proofs.ListLaws.{none_mem}
-use Rattle.order.specs.Export.{Action, writes, reads, takes, txn_words, words_of, written, Accepted}
+use Rattle.order.specs.declared.action.Action.{Action}
+use Rattle.order.specs.Export.{writes, reads, takes, txn_words, words_of, written, Accepted}
 use Rattle.order.specs.Orders.{operations_at, succeeds, IsOrder, comes_before, First, NoneSucceeds}
 use Rattle.order.specs.Found.{OrderFound, found, none_found, refused}
 use Rattle.order.specs.WrongOrders.{WrongOrders}

@@ -1,7 +1,8 @@
 -- What the search ensures: the answer, and the bytes of `order` then (document 02, T-12).
 use Rattle.std.specs.Prelude.{ℕ, ◌≤◌, ◌*◌, ◌≡◌, List, ◌++◌, length, drop}
 use Rattle.rules.specs.Numbers.{order_refused}
-use Rattle.order.specs.Export.{Action, words_of, Accepted}
+use Rattle.order.specs.declared.action.Action.{Action}
+use Rattle.order.specs.Export.{words_of, Accepted}
 use Rattle.order.specs.Orders.{First, NoneSucceeds}
 
 -- the words stand for transactions that are accepted, and their positions fit into `order`

@@ -1,17 +1,22 @@
 -- Orders of transactions, and which of them succeed: "Its meaning is that of document 01's serial run, leases and
 -- fields not considered" (document 02, T-12).
 use Rattle.std.specs.Prelude.{ℕ, ◌<◌, Bool, true, false, ◌&&◌, ◌||◌, ◌≡◌, List, [], ◌∷◌, map, eqb, ltb, length, get_or}
-use Rattle.rules.specs.declared.Until.TheVariants.{Forever}
+use Rattle.rules.specs.declared.until.Until.TheVariants.{Forever}
 use Rattle.rules.specs.Lists.{All, distinct, joined}
 use Rattle.rules.specs.Records.{no_mark}
 use Rattle.rules.specs.SerialRun.{Operation, adds, finds, start, carry_out_all}
-use Rattle.order.specs.Export.{Action, writes, reads, takes}
+use Rattle.order.specs.declared.action.Kind.{Kind}
+use Rattle.order.specs.declared.action.Kind.TheVariants.{Write, Read, Take}
+use Rattle.order.specs.declared.action.Action.{Action}
 
 -- an action as an operation of the serial run: every entry has the same fields, and none ends
+abbrev pub operation_as : Kind → ℕ → Operation
+operation_as Write n = adds (record { number = n; fields = no_mark; end = Forever })
+operation_as Read n = finds false n no_mark
+operation_as Take n = finds true n no_mark
+
 abbrev pub operation_of : Action → Operation
-operation_of (writes n) = adds (record { number = n; fields = no_mark; end = Forever })
-operation_of (reads n) = finds false n no_mark
-operation_of (takes n) = finds true n no_mark
+operation_of a = operation_as a.kind a.number
 
 -- the operations of the transactions at some positions, "counted from 0", one transaction after the other
 unfoldable pub operations_at : List (List Action) → List ℕ → List Operation

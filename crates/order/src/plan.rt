@@ -1,90 +1,76 @@
-// The plan of a search: each action as 4 × slot + kind. A number's slot is where it stands first among those handed in,
-// so that the search compares no numbers.
-ghost use Rattle.std.specs.Prelude.{◌≡◌, List, ◌≤◌, ◌<◌, get_or, length};
-ghost use Rattle.order.specs.Export.{Action};
-ghost use Rattle.order.specs.Reading.{Arrays, slots};
-ghost use Rattle.order.specs.Plan.{slot_in, Begin, Resolved, Codes, Planned};
+// The plan of a search: each action with its number's slot. A number's slot is where it stands first among those handed
+// in, so that the search compares no numbers.
+ghost use Rattle.std.specs.Prelude.{◌≡◌, ℕ, ◌+◌, ◌≤◌, ◌<◌, map, get_or, length, MatchOption, position, ◌==◌};
+ghost use Rattle.order.specs.Reading.{slots, max_txns};
+ghost use Rattle.order.specs.Plan.{AllPlaced, Resolved, WrittenTwice, Planned, Unplanned};
 
-use crate::read::{MAX_TXNS, SLOTS, WRITE, read_export};
+use crate::action::{Action, Kind};
+use crate::read::{MAX_TXNS, SLOTS, read_export};
 
-// The codes of the actions of n transactions, laid out as in `Export`.
+#[derive(Clone, Copy)]
+pub(crate) struct Step {
+    pub(crate) kind: Kind,
+    pub(crate) slot: usize,
+}
+
+// The steps of n transactions, laid out as in `Export`: every slot and every start lies within its array.
+// Kept: arrays with a count beside, since nothing is allocated.
 #[derive(Clone, Copy)]
 pub(crate) struct Plan {
-    pub(crate) ok: bool,
     pub(crate) n: usize,
-    pub(crate) codes: [u8; SLOTS],
+    pub(crate) steps: [Step; SLOTS],
     pub(crate) starts: [usize; MAX_TXNS + 1],
+    ghost few: { n ≤ max_txns },
+    ghost placed: { AllPlaced steps },
+    ghost within: { (p : ℕ) → get_or starts p 0 ≤ slots },
+    ghost ordered: { (p : ℕ) → p < n → get_or starts p 0 ≤ get_or starts (p + 1) 0 },
 }
 
-pub(crate) fn wide(x: u8) -> usize
-    ensures { result ≡ x }
+// Where a number stands first.
+fn first_place(actions: &[Action], number: u32) -> Option<usize>
+    ensures { result ≡ position (λ a. a.number == number) actions.now }
 {
-    x as usize
+    actions.iter().position(|action| action.number == number)
 }
 
-// Where the number at j stands first: its slot.
-fn slot_of(numbers: &[u32; SLOTS], j: usize) -> usize
-    requires { (j < slots) × (length numbers.now ≡ slots) }
-    ensures { (result ≡ slot_in numbers.now (get_or numbers.now j 0)) × (result ≤ j) }
-{
-    let number = numbers[j];
-    let mut i: usize = 0;
-    while i < j {
-        if numbers[i] == number {
-            return i;
-        }
-        i += 1;
-    }
-    j
-}
-
-// The codes of the first `len` actions; false if a number is written twice.
-fn resolve(kinds: &[u8; SLOTS], numbers: &[u32; SLOTS], len: usize, codes: &mut [u8; SLOTS]) -> bool
-    requires { (len ≤ slots) × Arrays kinds.now numbers.now × Codes codes.old }
-    ensures resolved { (acts : List Action) → Begin kinds.now numbers.now len acts
-        → Resolved numbers.now acts result codes.new }
-    ensures codes { Codes codes.new }
+// The actions' steps; none if a number is written twice.
+fn resolve(actions: &[Action]) -> Option<[Step; SLOTS]>
+    requires { length actions.now ≤ slots }
+    ensures { MatchOption result (WrittenTwice actions.now) (λ steps. Resolved actions.now steps) }
 {
     let mut written = [false; SLOTS];
-    let mut j: usize = 0;
-    while j < len {
-        let slot = slot_of(numbers, j);
-        let kind = kinds[j];
+    // Kept: a filler, since no kind of action is the usual one, as a Default would say.
+    let none = Step {
+        kind: Kind::Write,
+        slot: 0,
+    };
+    let mut steps = [none; SLOTS];
+    for (j, action) in actions.iter().enumerate() {
+        let slot = first_place(&actions[..j], action.number).unwrap_or(j);
         let again = written[slot];
-        let writes = kind == WRITE;
-        if writes & again {
-            return false;
+        let writes = action.kind == Kind::Write;
+        if writes && again {
+            return None;
         }
         written[slot] = writes | again;
-        codes[j] = (4 * slot + wide(kind)) as u8;
-        j += 1;
-    }
-    true
-}
-
-// The plan of what is handed in.
-pub(crate) fn plan_of(words: &[u32]) -> Plan
-    ensures { Planned words.now result.ok result.n result.codes result.starts }
-{
-    let mut codes = [0u8; SLOTS];
-    let export = read_export(words);
-    let n = export.n;
-    let starts = export.starts;
-    if !export.ok {
-        return Plan {
-            ok: false,
-            n,
-            codes,
-            starts,
+        steps[j] = Step {
+            kind: action.kind,
+            slot,
         };
     }
-    let kinds = export.kinds;
-    let numbers = export.numbers;
-    let ok = resolve(&kinds, &numbers, starts[n], &mut codes);
-    Plan {
-        ok,
-        n,
-        codes,
-        starts,
+    Some(steps)
+}
+
+impl Plan {
+    // The plan of what is handed in.
+    pub(crate) fn of(words: &[u32]) -> Option<Plan>
+        ensures { MatchOption result (Unplanned words.now)
+            (λ plan. Planned words.now plan.n plan.steps plan.starts) }
+    {
+        let export = read_export(words)?;
+        let n = export.n;
+        let starts = export.starts;
+        let steps = resolve(&export.actions[..starts[n]])?;
+        Some(Plan { n, steps, starts })
     }
 }

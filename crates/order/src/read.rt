@@ -1,134 +1,77 @@
 // The words handed in: "up to 6 transactions of up to 8 actions each".
-ghost use Rattle.std.specs.Prelude.{◌≡◌, false, ◌+◌, ◌*◌, ◌≤◌, ◌<◌, length, drop};
-ghost use Rattle.order.specs.Reading.{Arrays, ActionsRead, ExportRead, has_txn, slots};
+ghost use Rattle.std.specs.Prelude.{◌+◌, ◌≤◌, MatchOption};
+ghost use Rattle.order.specs.Reading.{max_actions, slots, TxnRead, NoTxn, ExportRead, NoExport};
 
-pub(crate) const MAX_TXNS: usize = 6;
+use crate::action::{Action, Kind};
+
+pub const MAX_TXNS: usize = 6;
 
 const MAX_ACTIONS: usize = 8;
 
 // The actions of all transactions.
 pub(crate) const SLOTS: usize = MAX_TXNS * MAX_ACTIONS;
 
-// An action's kind: write, found read, found take.
-pub(crate) const WRITE: u8 = 1;
-
-pub(crate) const TAKE: u8 = 3;
-
-const FIRST_KIND: u32 = WRITE as u32;
-
-const LAST_KIND: u32 = TAKE as u32;
-
 // The actions of n transactions, one after another: those of the one at position p stand from starts[p] to
 // starts[p + 1].
+// Kept: arrays with a count beside, since nothing is allocated.
 #[derive(Clone, Copy)]
 pub(crate) struct Export {
-    pub(crate) ok: bool,
     pub(crate) n: usize,
-    pub(crate) kinds: [u8; SLOTS],
-    pub(crate) numbers: [u32; SLOTS],
+    pub(crate) actions: [Action; SLOTS],
     pub(crate) starts: [usize; MAX_TXNS + 1],
 }
 
-fn size(x: u32) -> usize
-    ensures { (result ≡ x) × (result < 4294967296) }
-{
-    x as usize
-}
-
-// Whether a number of at most 8 stands at `at`, and so many pairs of words behind it.
-fn has_txn(words: &[u32], at: usize) -> bool
-    ensures { result ≡ has_txn words.now at }
-{
-    if words.len() <= at {
-        return false;
-    }
-    let k = size(words[at]);
-    if MAX_ACTIONS < k {
-        return false;
-    }
-    at + 1 + 2 * k <= words.len()
-}
-
-// k actions from `at` on, stored from `len` on; false if one is of another kind.
-fn read_actions(
-    words: &[u32],
-    at: usize,
-    k: usize,
+// A transaction's actions, stored from `len` on: where they end, and the words behind the transaction's.
+fn read_txn<'a>(
+    words: &'a [u32],
+    actions: &mut [Action; SLOTS],
     len: usize,
-    kinds: &mut [u8; SLOTS],
-    numbers: &mut [u32; SLOTS],
-) -> bool
-    requires { (at + 2 * k ≤ length words.now) × (len + k ≤ slots) × Arrays kinds.old numbers.old }
-    ensures { ActionsRead (drop at words.now) k len kinds.old numbers.old
-        result kinds.new numbers.new }
+) -> Option<(usize, &'a [u32])>
+    requires { len + max_actions ≤ slots }
+    ensures { MatchOption result (NoTxn words.now)
+        (λ r. TxnRead words.now len actions.old actions.new r.0 r.1.now) }
 {
-    let mut i: usize = 0;
-    while i < k {
-        let kind = words[at + 2 * i];
-        if kind < FIRST_KIND {
-            return false;
-        }
-        if LAST_KIND < kind {
-            return false;
-        }
-        kinds[len + i] = kind as u8;
-        numbers[len + i] = words[at + 2 * i + 1];
-        i += 1;
+    let (count, behind) = words.split_first()?;
+    let k = *count as usize;
+    if MAX_ACTIONS < k {
+        return None;
     }
-    true
-}
-
-fn no_export() -> Export
-    ensures { result.ok ≡ false }
-{
-    Export {
-        ok: false,
-        n: 0,
-        kinds: [0; SLOTS],
-        numbers: [0; SLOTS],
-        starts: [0; MAX_TXNS + 1],
+    let (pairs, rest) = behind.split_at_checked(2 * k)?;
+    // Kept: by place, since a zip with `actions[len..].iter_mut()` is no plainer: the next free place is returned too.
+    for (i, pair) in pairs.chunks_exact(2).enumerate() {
+        let kind = Kind::try_from(pair[0]).ok()?;
+        actions[len + i] = Action {
+            kind,
+            number: pair[1],
+        };
     }
+    Some((len + k, rest))
 }
 
 // The transactions that the words stand for.
-pub(crate) fn read_export(words: &[u32]) -> Export
-    ensures { ExportRead words.now result.ok result.n result.kinds result.numbers result.starts }
+pub(crate) fn read_export(words: &[u32]) -> Option<Export>
+    ensures { MatchOption result (NoExport words.now) (λ e. ExportRead words.now e.n e.actions e.starts) }
 {
-    let broken = no_export();
-    if words.len() == 0 {
-        return broken;
-    }
-    let n = size(words[0]);
+    let (count, mut rest) = words.split_first()?;
+    let n = *count as usize;
     if MAX_TXNS < n {
-        return broken;
+        return None;
     }
-    let mut kinds = [0u8; SLOTS];
-    let mut numbers = [0u32; SLOTS];
-    let mut starts = [0usize; MAX_TXNS + 1];
-    let mut at: usize = 1;
-    let mut len: usize = 0;
-    let mut t: usize = 0;
-    while t < n {
-        if !has_txn(words, at) {
-            return broken;
-        }
-        let k = size(words[at]);
-        if !read_actions(words, at + 1, k, len, &mut kinds, &mut numbers) {
-            return broken;
-        }
-        at += 1 + 2 * k;
-        len += k;
-        t += 1;
-        starts[t] = len;
+    // Kept: a filler, since no kind of action is the usual one, as a Default would say.
+    let none = Action {
+        kind: Kind::Write,
+        number: 0,
+    };
+    let mut actions = [none; SLOTS];
+    let mut starts = [0; MAX_TXNS + 1];
+    let mut len = 0;
+    // Kept: by place, since the bounds p and p + 1 of each transaction are places of `starts` for its readers too.
+    for t in 0..n {
+        (len, rest) = read_txn(rest, &mut actions, len)?;
+        starts[t + 1] = len;
     }
-    if at < words.len() {
-        return broken;
+    if !rest.is_empty() {
+        return None;
     }
-    Export {
-        ok: true,
-        n,
-        kinds,
-        numbers,
-        starts,
-    }
+    Some(Export { n, actions, starts })
 }

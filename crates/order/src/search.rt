@@ -1,60 +1,57 @@
 // The first order that goes through, position by position.
-ghost use Rattle.std.specs.Prelude.{◌≤◌};
-ghost use Rattle.order.specs.Reading.{max_txns};
-ghost use Rattle.order.specs.Plan.{Within};
-ghost use Rattle.order.specs.Search.{Searched};
+ghost use Rattle.std.specs.Prelude.{◌≡◌, ◌≤◌, ◌<◌, MatchOption};
+ghost use Rattle.order.specs.Search.{after_txn, NoneGoes, FirstGoes};
 
+use crate::action::Kind;
+use crate::plan::Plan;
 use crate::read::{MAX_TXNS, SLOTS};
-use crate::run::run_codes;
 
-#[derive(Clone, Copy)]
-pub(crate) struct Found {
-    pub(crate) ok: bool,
-    pub(crate) order: [u8; MAX_TXNS],
-}
+impl Plan {
+    // What is present once the transaction at position p is carried out; none if an action's entry is missing. A read
+    // leaves its entry present, as it is.
+    fn run(&self, p: usize, start: [bool; SLOTS]) -> Option<[bool; SLOTS]>
+        requires { p < self.now.n }
+        ensures { result ≡ after_txn self.now.steps self.now.starts p start }
+    {
+        let mut present = start;
+        for step in &self.steps[self.starts[p]..self.starts[p + 1]] {
+            if step.kind != Kind::Write && !present[step.slot] {
+                return None;
+            }
+            present[step.slot] = step.kind != Kind::Take;
+        }
+        Some(present)
+    }
 
-// Of n transactions d are placed, and those that are `left` follow on what is present: each in its turn, and no order
-// is looked at whose beginning fails. The order found stands from d on.
-pub(crate) fn search(
-    codes: &[u8; SLOTS],
-    starts: &[usize; MAX_TXNS + 1],
-    n: usize,
-    d: usize,
-    left: [bool; MAX_TXNS],
-    present: [bool; SLOTS],
-) -> Found
-    requires { (d ≤ n) × (n ≤ max_txns) × Within codes.now starts.now }
-    ensures { Searched codes.now starts.now n d left present result.ok result.order }
-{
-    if d == n {
-        return Found {
-            ok: true,
-            order: [0; MAX_TXNS],
-        };
-    }
-    let mut next: usize = 0;
-    while next < n {
-        let p = next;
-        next += 1;
-        if !left[p] {
-            continue;
+    // Of the transactions d are placed, and those that are `left` follow on what is present: each in its turn, and no
+    // order is looked at whose beginning fails. The order found stands from d on.
+    pub(crate) fn search(
+        &self,
+        d: usize,
+        left: [bool; MAX_TXNS],
+        present: [bool; SLOTS],
+    ) -> Option<[u8; MAX_TXNS]>
+        requires { d ≤ self.now.n }
+        ensures { MatchOption result (NoneGoes self.now.steps self.now.starts self.now.n d left present)
+            (λ order. FirstGoes self.now.steps self.now.starts self.now.n d left present order) }
+    {
+        if d == self.n {
+            return Some([0; MAX_TXNS]);
         }
-        let ran = run_codes(codes, starts[p], starts[p + 1], present);
-        if !ran.ok {
-            continue;
+        for p in 0..self.n {
+            if !left[p] {
+                continue;
+            }
+            let Some(after) = self.run(p, present) else {
+                continue;
+            };
+            let mut rest = left;
+            rest[p] = false;
+            if let Some(mut order) = self.search(d + 1, rest, after) {
+                order[d] = p as u8;
+                return Some(order);
+            }
         }
-        let mut rest = left;
-        rest[p] = false;
-        let after = ran.present;
-        let found = search(codes, starts, n, d + 1, rest, after);
-        if found.ok {
-            let mut order = found.order;
-            order[d] = p as u8;
-            return Found { ok: true, order };
-        }
-    }
-    Found {
-        ok: false,
-        order: [0; MAX_TXNS],
+        None
     }
 }

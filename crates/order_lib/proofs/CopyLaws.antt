@@ -1,20 +1,17 @@
 -- A text that is copied to the front of a slice, element by element.
 use Prim.Native.Nat.{ℕ, ◌+◌, ◌<◌}
-use mathlib.Core.Path.{◌≡◌, refl, sym, ap, ap₂, ◌∙◌}
+use mathlib.Core.Path.{◌≡◌, sym, ap, ap₂, ◌∙◌}
 use mathlib.Core.List.{List, ◌++◌}
 use native.Mathlib.Nat.{zero-add}
 use native.Mathlib.Numerals.{add-one}
 use native.Mathlib.Omega.{arith}
 use lib.ListN.{length, get_or, take, drop, set, length-set}
-use lib.Seq.{paste, paste-zero, paste-suc, take-length, take_at}
+use lib.Seq.{paste, paste-suc, take-length, take_at}
 
 -- the first i elements of a text are copied to the front
 pub record Copying {A : Type 0} (text old new : List A) (i : ℕ) : Type 0 where
   pub as_many : length new ≡ length old
   pub are : new ≡ paste old 0 text i
-
-pub copy_none : {A : Type 0} (text old : List A) → Copying text old old 0
-copy_none text old = record { as_many = refl; are = paste-zero old 0 text }
 
 pub copy_more : {A : Type 0} (text old new : List A) (i : ℕ) (v d : A) → Copying text old new i → v ≡ get_or text i d
     → i < length old → i < length text

@@ -1,15 +1,16 @@
 -- The line of positions, byte by byte.
-use Prim.Native.Nat.{ℕ, zero, suc, ◌+◌, ◌*◌, ◌/◌, ◌%◌, ◌≤◌, ◌<◌}
-use mathlib.Core.Path.{◌≡◌, refl, sym, ap, ap₂, ◌∙◌}
+use Prim.Native.Nat.{ℕ, zero, suc, ◌+◌, ◌*◌, ◌≤◌, ◌<◌}
+use mathlib.Core.Bool.{true}
+use mathlib.Core.Path.{◌≡◌, refl, sym, ap, ◌∙◌, subst, subst⁻¹}
 use mathlib.Core.List.{List, [], ◌∷◌}
-use native.Mathlib.Decide.{ℕ_discrete}
 use native.Mathlib.Omega.{arith}
-use lib.ListN.{length, get_or, take}
-use lib.Seq.{length-take-le, get_or-take}
+use lib.ListN.{length, get_or, set}
+use Rattle.codec.specs.Area.{InFront}
 use Rattle.order_lib.specs.Shows.{line_of}
+use Rattle.order_lib.proofs.CopyLaws.{Copying, copy_more}
 
 -- how long it is
-pub line_empty : (ps : List ℕ) → length ps ≡ 0 → line_of ps ≡ 10 ∷ []
+line_empty : (ps : List ℕ) → length ps ≡ 0 → line_of ps ≡ 10 ∷ []
 unfolding line_of
 line_empty [] n = refl
 line_empty (p ∷ ps) n = absurd (omega arith)
@@ -50,43 +51,17 @@ line_end (p ∷ q ∷ ps) zero h = absurd (omega arith)
 line_end (p ∷ q ∷ ps) (suc i) h =
     ap (λ k. get_or (line_of (p ∷ q ∷ ps)) k 0) (two_on i).1 ∙ line_end (q ∷ ps) i (omega arith)
 
--- the line of the first n of some positions
-module _ (ps : List ℕ) (n : ℕ) (fits : n ≤ length ps) where
-  many : length (take n ps) ≡ n
-  many = length-take-le n ps fits
+-- the line of none
+pub put_empty : (ps : List ℕ) {old new : List ℕ} {n : ℕ} → length ps ≡ 0 → InFront true (10 ∷ []) old new n
+    → InFront true (line_of ps) old new n
+put_empty ps {old} {new} {n} e p = subst⁻¹ (λ l. InFront true l old new n) (line_empty ps e) p
 
-  pub size_none : n ≡ 0 → 1 ≡ length (line_of (take n ps))
-  size_none e = sym (ap length (line_empty (take n ps) (many ∙ e)))
-
-  pub size_some : (n ≡ 0 → ⊥) → 2 * n ≡ length (line_of (take n ps))
-  size_some h = let l = line_length (take n ps) (omega (arith, many)) in omega (arith, many)
-
-  module _ (i : ℕ) where
-    even : i % 2 ≡ 0 → i ≡ 2 * (i / 2)
-    even e = omega arith
-
-    odd : (i % 2 ≡ 0 → ⊥) → i ≡ 2 * (i / 2) + 1
-    odd e = omega arith
-
-    -- past the positions stands the line feed of an empty line
-    pub byte_none : i < length (line_of (take n ps)) → n ≤ i / 2 → 10 ≡ get_or (line_of (take n ps)) i 0
-    byte_none h l = go (ℕ_discrete n 0)
-      where
-        go : Dec (n ≡ 0) → 10 ≡ get_or (line_of (take n ps)) i 0
-        go (yes e) =
-            let first : i ≡ 0 = let s = size_none e in omega arith in
-            sym (ap₂ (λ l k. get_or l k 0) (line_empty (take n ps) (many ∙ e)) first)
-        go (no e) = absurd (let s = size_some e in omega arith)
-
-    pub byte_digit : i / 2 < n → i % 2 ≡ 0 → 48 + get_or ps (i / 2) 0 ≡ get_or (line_of (take n ps)) i 0
-    byte_digit h e =
-        sym (ap (λ k. get_or (line_of (take n ps)) k 0) (even e) ∙ line_digit (take n ps) (i / 2) (omega (arith, many))
-        ∙ ap (λ p. 48 + p) (get_or-take n ps (i / 2) 0 h))
-
-    pub byte_blank : (i % 2 ≡ 0 → ⊥) → i / 2 + 1 < n → 32 ≡ get_or (line_of (take n ps)) i 0
-    byte_blank e h =
-        sym (ap (λ k. get_or (line_of (take n ps)) k 0) (odd e) ∙ line_blank (take n ps) (i / 2) (omega (arith, many)))
-
-    pub byte_end : i / 2 < n → (i % 2 ≡ 0 → ⊥) → n ≤ i / 2 + 1 → 10 ≡ get_or (line_of (take n ps)) i 0
-    byte_end h e l =
-        sym (ap (λ k. get_or (line_of (take n ps)) k 0) (odd e) ∙ line_end (take n ps) (i / 2) (omega (arith, many)))
+-- a position's two bytes, behind those before it
+pub position_put : (ps old new : List ℕ) (i v : ℕ) → Copying (line_of ps) old new (2 * i) → i < length ps
+    → 2 * length ps ≤ length old → v ≡ get_or (line_of ps) (2 * i + 1) 0
+    → Copying (line_of ps) old (set (set new (2 * i) (48 + get_or ps i 0)) (2 * i + 1) v) (2 * (i + 1))
+position_put ps old new i v c h fits e =
+    let long = line_length ps (omega arith) in
+    let digit = copy_more (line_of ps) old new (2 * i) _ 0 c (sym (line_digit ps i h)) (omega arith) (omega arith) in
+    subst (Copying (line_of ps) old (set (set new (2 * i) (48 + get_or ps i 0)) (2 * i + 1) v)) (omega arith)
+    (copy_more (line_of ps) old _ (2 * i + 1) v 0 digit e (omega arith) (omega arith))

@@ -1,14 +1,15 @@
 -- What is shown of an answer.
 use Prim.Native.Nat.{ℕ, zero, suc, ◌+◌, ◌-◌, ◌%◌, ◌≤◌, ◌<◌}
 use mathlib.Core.Bool.{true}
-use mathlib.Core.Path.{◌≡◌, refl, sym, ap, ◌∙◌, subst, subst⁻¹}
+use mathlib.Core.Path.{◌≡◌, refl, ap, ◌∙◌, subst, subst⁻¹}
 use mathlib.Core.List.Memᴰ
 use mathlib.Core.List.{List, [], ◌∷◌, ◌++◌}
 use native.Mathlib.Decide.{dec_lt}
 use native.Mathlib.Omega.{arith}
 use borrow.Author.Tests.{ne_eqb}
-use lib.ListN.{length, get_or, take, drop, replicate, length-append, length-take, get_or-append}
+use lib.ListN.{length, get_or, take, drop, replicate, length-take, get_or-append}
 use lib.Seq.{get_or-take, get_or-drop, get_or-append-add}
+use Rattle.std.specs.Prelude.{EachIndex}
 use Rattle.codec.specs.Area.{InFront}
 use Rattle.rules.specs.Lists.{All}
 use Rattle.order.specs.Export.{words_of}
@@ -19,17 +20,6 @@ use Rattle.order_lib.specs.Shows.{words_in, line_of, none_text, refused_text, te
 pub not_whole : {bytes old new : List ℕ} {n : ℕ} → (length bytes % 4 ≡ 0 → ⊥) → InFront true refused_text old new n
     → Shows bytes old new n
 not_whole h p = record { text = refused_text; told = no_words h; printed = p }
-
--- the text lies within its buffer
-pub shown_within : {bytes old new : List ℕ} {n : ℕ} → Shows bytes old new n → n ≤ length new
-shown_within {old = old} s =
-    omega (
-      arith,
-      s.printed.count,
-      ap length s.printed.bytes,
-      length-append s.text
-          (drop (length s.text) old),
-    )
 
 -- an answer to the words of some bytes
 module _ {bytes words : List ℕ} {r : ℕ} {o : List ℕ} (a : OrderFound words (replicate 6 0) r o)
@@ -50,17 +40,11 @@ module _ {bytes words : List ℕ} {r : ℕ} {o : List ℕ} (a : OrderFound words
   unfolding text_of
   refusal_shown h k = shows refused_text (rw (ne_eqb r 1 h, ne_eqb r 0 k))
 
-  pub order_shown : r ≡ 1 → (k : ℕ) → k ≡ get_or (words_in bytes) 0 0 → InFront true (line_of (take k o)) old new n
-      → Shows bytes old new n
+  pub order_shown : r ≡ 1 → InFront true (line_of (take (get_or words 0 0) o)) old new n → Shows bytes old new n
   unfolding text_of
-  order_shown e k is p =
+  order_shown e p =
       shows (line_of (take (get_or (words_in bytes) 0 0) o)) (ap (λ m. text_of (words_in bytes) m o) e)
-      (subst (λ m. InFront true (line_of (take m o)) old new n) is p)
-
--- the first word of those that are read
-pub first_word : (words ws : List ℕ) (k : ℕ) → take k words ≡ ws → 0 < length ws → get_or words 0 0 ≡ get_or ws 0 0
-first_word words ws k e h =
-    sym (get_or-take k words 0 0 (omega (arith, ap length e, length-take k words))) ∙ ap (λ l. get_or l 0 0) e
+      (subst (λ ws. InFront true (line_of (take (get_or ws 0 0) o)) old new n) are p)
 
 -- an order that is found has at most six positions, each a digit
 pub record Positions (words o : List ℕ) : Type 0 where
@@ -101,3 +85,10 @@ positions (found ts h ps f) e =
         omega arith
 positions (none_found ts h z) e = absurd (omega arith)
 positions (refused z) e = absurd (omega arith)
+
+-- the first positions of some are digits too
+pub front_digits : (n : ℕ) (o : List ℕ) → ((j : ℕ) → get_or o j 0 < 10)
+    → EachIndex (take n o) (λ j. get_or (take n o) j 0 < 10)
+front_digits n o h j l =
+    let is = get_or-take n o j 0 (omega (arith, length-take n o)) in
+    omega (arith, h j)

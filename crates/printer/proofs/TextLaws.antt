@@ -5,11 +5,11 @@ use mathlib.Core.Path.{◌≡◌, refl, sym, ap, ◌∙◌}
 use mathlib.Core.List.{List, [], ◌∷◌, ◌++◌}
 use native.Mathlib.Nat.{zero-add}
 use native.Mathlib.Omega.{arith}
-use lib.ListN.{length, set, length-append}
+use lib.ListN.{length, set, drop, length-append}
 use lib.Seq.{length-sets}
 use Rattle.rules.specs.Print.{decimal}
 use Rattle.codec.specs.Area.{over}
-use Rattle.codec.proofs.FrontLaws.{over-next, front-all}
+use Rattle.codec.proofs.FrontLaws.{over-next, over-front, front-all}
 use Rattle.printer.specs.Text.{Puts, Prints}
 use Rattle.printer.proofs.DigitLaws.{decimal-one, decimal-many, many-long}
 
@@ -25,6 +25,17 @@ puts_none old at h = record { bytes = refl; end = omega arith; room = h }
 pub puts_one : (old : List ℕ) (at x : ℕ) → at < length old → Puts (x ∷ []) old (set old at x) at (at + 1)
 unfolding over
 puts_one old at x h = record { bytes = refl; end = refl; room = omega arith }
+
+-- a text that is copied to the front
+pub puts_front : (text old : List ℕ) {part : List ℕ} (n : ℕ) → part ≡ text → n ≡ length text → n ≤ length old
+    → Puts text old (part ++ drop n old) 0 n
+puts_front text old n e l room =
+    record {
+      bytes =
+          ap (λ p. p ++ drop n old) e ∙ ap (λ k. text ++ drop k old) l ∙ sym (over-front text old (omega arith));
+      end = omega arith;
+      room = room;
+    }
 
 pub puts_then : (text more old mid new : List ℕ) (at to next : ℕ) → Puts text old mid at to → Puts more mid new to next
     → Puts (text ++ more) old new at next

@@ -1,9 +1,8 @@
 // What the program prints, written as text into a lent buffer.
 #![tactic(auto)]
 
-ghost use Rattle.std.specs.Prelude.{◌≡◌, cond, ◌&&◌, [], ◌∷◌, ◌+◌, ◌*◌, ◌≤◌, ◌<◌, ltb, length};
+ghost use Rattle.std.specs.Prelude.{◌&&◌, ◌+◌, ◌*◌, ◌≤◌, length};
 ghost use Rattle.rules.specs.Print.{decimal, line, done_line};
-ghost use Rattle.codec.specs.Area.{over};
 ghost use Rattle.printer.specs.Text.{Puts, Prints, has_line, has_record, record_text};
 
 use codec::record_at;
@@ -12,52 +11,41 @@ use rules::numbers::RECORD_SIZE;
 // A buffer of this size has room for any line.
 pub const LINE_SIZE: usize = 100;
 
-fn digit(n: u32) -> u8
-    requires { n < 10 }
-    ensures { result ≡ 48 + n }
-{
-    48 + n as u8
-}
+// What the last line begins with.
+const DONE: &[u8] = b"done ";
 
 // The decimal digits of a number, from `at` on. Returns where they end.
+// Kept: by hand, into a lent buffer: no heap, and std does not say which bytes `write!` puts into a slice.
 fn put_decimal(out: &mut [u8], at: usize, n: u32) -> usize
     requires { at + length (decimal n) ≤ length out.old }
     ensures { Puts (decimal n) out.old out.new at result }
 {
     if n < 10 {
-        out[at] = digit(n);
+        out[at] = b'0' + n as u8;
         return at + 1;
     }
     let next = put_decimal(out, at, n / 10);
-    out[next] = digit(n % 10);
+    out[next] = b'0' + (n % 10) as u8;
     next + 1
 }
 
-// What stands behind the first `i` of `count` numbers: a space, or a line feed behind the last.
-fn after(i: usize, count: usize) -> u8
-    ensures { result ≡ cond (ltb i count) 32 10 }
-{
-    if i < count { 32 } else { 10 }
-}
-
 // Numbers with a space between each two, and a line feed, from `at` on. Returns where the line ends.
+// Kept: into a lent buffer, as `put_decimal`: there is no heap for a String.
 fn put_line(out: &mut [u8], at: usize, numbers: &[u32]) -> usize
     requires { (1 ≤ length numbers.now) × (at + 11 * length numbers.now ≤ length out.old) }
     ensures { Puts (line numbers.now) out.old out.new at result }
 {
-    let count = numbers.len();
     let mut next = at;
-    let mut i: usize = 0;
-    while i < count {
-        next = put_decimal(out, next, numbers[i]);
-        i += 1;
-        out[next] = after(i, count);
+    for (i, number) in numbers.iter().enumerate() {
+        next = put_decimal(out, next, *number);
+        out[next] = if i + 1 < numbers.len() { b' ' } else { b'\n' };
         next += 1;
     }
     next
 }
 
 // The line of the record whose 28 bytes stand in front. Returns its length; 0 where a byte or room is lacking.
+// Kept: 0 and no Option: it is public (DECISIONS 40), and such a contract may not change.
 pub fn record_line(bytes: &[u8], out: &mut [u8]) -> usize
     ensures { Prints (has_record bytes.now && has_line out.old)
         (record_text bytes.now) out.old out.new result }
@@ -69,13 +57,10 @@ pub fn record_line(bytes: &[u8], out: &mut [u8]) -> usize
         return 0;
     }
     let r = record_at(bytes, 0);
-    let kind = r.kind as u32;
-    let party = r.party as u32;
-    let refusal = r.refusal as u32;
     let numbers = [
-        kind,
-        party,
-        refusal,
+        u32::from(r.kind),
+        u32::from(r.party),
+        u32::from(r.refusal),
         r.txn.0,
         r.entry.0,
         r.fields.kind,
@@ -86,19 +71,8 @@ pub fn record_line(bytes: &[u8], out: &mut [u8]) -> usize
     put_line(out, 0, &numbers)
 }
 
-// `done` and a space, in front.
-fn put_done(out: &mut [u8])
-    requires { 5 ≤ length out.old }
-    ensures { out.new ≡ over out.old 0 (100 ∷ 111 ∷ 110 ∷ 101 ∷ 32 ∷ []) }
-{
-    out[0] = b'd';
-    out[1] = b'o';
-    out[2] = b'n';
-    out[3] = b'e';
-    out[4] = b' ';
-}
-
 // The last line: `done`, frames, records, number. Returns its length; 0 where there is no room.
+// Kept: 0 and no Option: it is public (DECISIONS 40), and such a contract may not change.
 pub fn done_line(frames: u32, records: u32, number: u32, out: &mut [u8]) -> usize
     ensures { Prints (has_line out.old)
         (done_line frames records number) out.old out.new result }
@@ -106,7 +80,6 @@ pub fn done_line(frames: u32, records: u32, number: u32, out: &mut [u8]) -> usiz
     if out.len() < LINE_SIZE {
         return 0;
     }
-    put_done(out);
-    let numbers = [frames, records, number];
-    put_line(out, 5, &numbers)
+    out[..DONE.len()].copy_from_slice(DONE);
+    put_line(out, DONE.len(), &[frames, records, number])
 }

@@ -1,4 +1,5 @@
 -- What is known of a frame that is not refused: none of the table's rows applies. The table in parts.
+use native.Mathlib.Omega.{arith}
 use Prim.Native.Nat.{ℕ, zero, suc}
 use mathlib.Core.Bool.{Bool, true, false, not, cond, ◌&&◌, true≢false}
 use mathlib.Core.Path.{◌≡◌, refl, sym, ap, ◌∙◌}
@@ -18,6 +19,8 @@ use Rattle.rules.specs.Refusals.{registrations_full, no_number, rows, refusal, f
 use Rattle.rules.specs.Requests.{form_refusal, space_refusal}
 use Rattle.rules.proofs.ListLaws.{none_mem}
 use Rattle.rules.proofs.BoolLaws.{cond_cases, and_left, and_right, or_right}
+use Rattle.rules.specs.declared.refusal.Refusal.{Refusal}
+use Rattle.rules.specs.Requests.{number}
 
 -- no row has the number k
 abbrev pub without : ℕ → List (Bool × ℕ) → Bool
@@ -147,3 +150,7 @@ space-not-area m f = first-without area_refused (admission_rows m f ++ room_rows
 pub is_one : (bs : List ℕ) → no_operation bs (decode bs) ≡ false → is_operation (decode bs).op ≡ true
 unfolding no_operation
 is_one bs e = not-false _ (or_right (eqb (length bs) 0) _ e)
+
+-- no refusal has the number 0
+pub number_not_zero : (r : Refusal) → number r ≡ 0 → ⊥
+number_not_zero r z = grind arith

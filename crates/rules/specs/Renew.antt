@@ -3,7 +3,7 @@
 use Rattle.std.specs.Prelude.{ℕ, Bool, not, cond, List, map, eqb}
 use Rattle.std.proofs.Math.Option.{Option}
 use Rattle.rules.specs.declared.Entry.{Entry}
-use Rattle.rules.specs.declared.Until.{Until}
+use Rattle.rules.specs.declared.until.Until.{Until}
 use Rattle.rules.specs.Lists.{filterb, findb}
 use Rattle.rules.specs.Time.{until}
 use Rattle.rules.specs.State.{Model, with_entries}

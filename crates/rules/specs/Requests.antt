@@ -1,13 +1,21 @@
 -- The decoder's answer: the numbers of document 01 for each of its cases.
-use Rattle.std.specs.Prelude.{ℕ, cond, ◌≡◌, List, ◌++◌, eqb}
+use Rattle.std.specs.Prelude.{ℕ, cond, ◌≡◌, List, ◌++◌, eqb, Result, Ok, Err}
 use Rattle.std.proofs.Math.Option.{Option, none, some}
 use Rattle.rules.specs.declared.EntryId.{EntryId}
 use Rattle.rules.specs.declared.Fields.{Fields}
 use Rattle.rules.specs.declared.Request.{Request}
 use Rattle.rules.specs.declared.Request.TheVariants.{Write, Find, Create, Commit, Abort, Renew, Notify, Tick}
-use Rattle.rules.specs.declared.Decoded.{Decoded}
-use Rattle.rules.specs.declared.Decoded.TheVariants.{Asks, Refused}
+use Rattle.rules.specs.declared.refusal.Refusal.{Refusal}
+use Rattle.rules.specs.declared.refusal.Refusal.TheVariants.{Area, Operation, Length, Form, Party, Waiting, NotLive}
+use Rattle.rules.specs.declared.refusal.Refusal.TheVariants.{NotOwn, Lease, Clock, Entries, Txns, Number}
+use Rattle.rules.specs.declared.refusal.Refusal.TheVariants.{Tray, Pairs, Registrations, NoEntry, NotWriter, Held}
+use Rattle.rules.specs.declared.refusal.Refusal.TheVariants.{Place, Order, Panes, Rounds, Sittings}
 use Rattle.rules.specs.Numbers.{op_write, op_create, op_commit, op_abort, op_tick, op_notify, op_renew}
+use Rattle.rules.specs.Numbers.{area_refused, operation_refused, length_refused, form_refused, party_refused}
+use Rattle.rules.specs.Numbers.{waiting_refused, not_live_refused, not_own_refused, lease_refused, clock_refused}
+use Rattle.rules.specs.Numbers.{entries_refused, txns_refused, number_refused, tray_refused, pairs_refused}
+use Rattle.rules.specs.Numbers.{registrations_refused, no_entry_refused, not_writer_refused, held_refused}
+use Rattle.rules.specs.Numbers.{place_refused, order_refused, panes_refused, rounds_refused, sittings_refused}
 use Rattle.rules.specs.Lists.{first_row}
 use Rattle.rules.specs.State.{Model}
 use Rattle.rules.specs.Frame.{Frame, decode, look_up_op}
@@ -47,14 +55,42 @@ frame_of Tick = plain_frame op_tick 0 0 0
 abbrev pub renew_of : ℕ → EntryId → ℕ → Request
 renew_of party entry lease = Renew (record { entry = entry; party = party; lease = lease })
 
--- the decoder's answer as a frame, where it asks for one, and as a refusal's number, or 0
-abbrev pub asked_by : Decoded → Option Frame
-asked_by (Asks q) = some (frame_of q)
-asked_by (Refused n) = none
+-- the number of a refusal
+abbrev pub number : Refusal → ℕ
+number Area = area_refused
+number Operation = operation_refused
+number Length = length_refused
+number Form = form_refused
+number Party = party_refused
+number Waiting = waiting_refused
+number NotLive = not_live_refused
+number NotOwn = not_own_refused
+number Lease = lease_refused
+number Clock = clock_refused
+number Entries = entries_refused
+number Txns = txns_refused
+number Number = number_refused
+number Tray = tray_refused
+number Pairs = pairs_refused
+number Registrations = registrations_refused
+number NoEntry = no_entry_refused
+number NotWriter = not_writer_refused
+number Held = held_refused
+number Place = place_refused
+number Order = order_refused
+number Panes = panes_refused
+number Rounds = rounds_refused
+number Sittings = sittings_refused
 
-abbrev pub number_of : Decoded → ℕ
-number_of (Asks q) = 0
-number_of (Refused n) = n
+-- an answer's number: 0 where it is not refused
+abbrev pub number_of : {A : Type 0} → Result A Refusal → ℕ
+number_of (Ok x) = 0
+number_of (Err r) = number r
+
+-- the decoder's answer as a frame, where it asks for one
+abbrev pub asked_by : Result Request Refusal → Option Frame
+asked_by (Ok q) = some (frame_of q)
+asked_by (Err r) = none
 
 -- the rows of the table that judge a frame's bytes alone: the first of 2 to 5 and 21 that applies, or 0
 unfoldable pub form_refusal : List ℕ → ℕ
@@ -65,6 +101,6 @@ unfoldable pub space_refusal : Model → Frame → ℕ
 space_refusal m f = first_row (admission_rows m f ++ room_rows m f)
 
 -- a frame's bytes are decoded rightly: refused with the first number that applies, or asked for what they say
-pub record Decodes (bs : List ℕ) (r : Decoded) : Type 0 where
+pub record Decodes (bs : List ℕ) (r : Result Request Refusal) : Type 0 where
   pub number : number_of r ≡ form_refusal bs
   pub frame : asked_by r ≡ cond (eqb (form_refusal bs) 0) (some (decode bs)) none

@@ -4,7 +4,7 @@ use mathlib.Core.List.{List, [], ◌∷◌, ◌++◌, map, Memᴰ}
 use Rattle.rules.specs.declared.Entry.{Entry}
 use Rattle.rules.specs.declared.Mark.{Mark}
 use Rattle.rules.specs.declared.Record.{Record}
-use Rattle.rules.specs.declared.Until.{Until}
+use Rattle.rules.specs.declared.until.Until.{Until}
 use Rattle.rules.specs.Lists.{filterb, anyb, distinct}
 use Rattle.rules.specs.State.{Model}
 use Rattle.rules.specs.Time.{until, reached}

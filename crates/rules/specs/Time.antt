@@ -1,7 +1,7 @@
 -- The clock, leases and deadlines: "ends when the clock reaches t + d, or never for FOREVER".
 use Rattle.std.specs.Prelude.{ℕ, ◌+◌, ◌≤◌, Bool, false, cond, eqb, leb}
-use Rattle.rules.specs.declared.Until.{Until}
-use Rattle.rules.specs.declared.Until.TheVariants.{Tick, Forever}
+use Rattle.rules.specs.declared.until.Until.{Until}
+use Rattle.rules.specs.declared.until.Until.TheVariants.{Tick, Forever}
 use Rattle.rules.specs.Numbers.{forever, last_clock}
 
 -- where a lease or timeout that starts at the clock ends

@@ -1,18 +1,34 @@
 // The types that the space's code and rules share, and the numbers of document 01.
 #![tactic(auto)]
 
+ghost use Rattle.std.specs.Prelude.{◌≡◌};
+ghost use Rattle.std.proofs.Math.Option.{some};
+ghost use Rattle.rules.specs.Refusals.{is_free};
+
+pub mod bits;
+pub mod look_up;
 pub mod numbers;
+mod refusal;
+mod until;
+
+pub use refusal::Refusal;
+pub use until::Until;
 
 // The number of an entry. Counted from 1.
-#[derive(Clone, Copy)]
+#[derive(Clone, Copy, PartialEq, Eq)]
 pub struct EntryId(pub u32);
 
 // The number of a transaction. Counted from 1; 0 means none.
-#[derive(Clone, Copy)]
+// Kept: 0 and no Option, since so it stands in frames, in records and in the words of a space, which C is lent.
+#[derive(Clone, Copy, PartialEq, Eq)]
 pub struct TxnId(pub u32);
 
+impl TxnId {
+    pub const NONE: TxnId = TxnId(0);
+}
+
 // The number of a registration. Counted from 1.
-#[derive(Clone, Copy)]
+#[derive(Clone, Copy, PartialEq, Eq)]
 pub struct RegistrationId(pub u32);
 
 // Four fields, as a frame has them.
@@ -25,6 +41,7 @@ pub struct Fields {
 }
 
 // The four fields of an entry, and which of them are blank: bit 0 stands for kind, up to bit 3 for place.
+// Kept: no `Fields` in it, since definitions of the rules (Template, Words, Records, Print) name its five fields.
 #[derive(Clone, Copy)]
 pub struct Mark {
     pub kind: u32,
@@ -32,13 +49,6 @@ pub struct Mark {
     pub image: u32,
     pub place: u32,
     pub blanks: u8,
-}
-
-// The end of a lease, or the deadline of a look-up.
-#[derive(Clone, Copy)]
-pub enum Until {
-    Tick(u32),
-    Forever,
 }
 
 // A stored entry.
@@ -55,6 +65,15 @@ pub struct Entry {
     pub readers: u8,
     // The party that wrote it.
     pub writer: u8,
+}
+
+impl Entry {
+    // Whether it is committed, and nobody holds it.
+    pub fn is_free(self) -> bool
+        ensures { result ≡ is_free (some self) }
+    {
+        self.private_to == TxnId::NONE && self.taken_by == TxnId::NONE && self.readers == 0
+    }
 }
 
 // A live transaction.
@@ -96,14 +115,16 @@ pub struct Registration {
 pub struct Record {
     pub kind: u8,
     pub party: u8,
+    // Kept: a byte, 0 where nothing is refused, since a record is read back from any 28 bytes (`codec::record_at`).
     pub refusal: u8,
     pub txn: TxnId,
     pub entry: EntryId,
     pub fields: Mark,
 }
 
-// Requests. A number comes first, then the bytes, then the other numbers: so no byte of one kind lies where another
-// kind has a part of a number, and the compiler tells a frame's kind once, from its first byte on.
+// Requests. In the structs a number comes first, then the bytes, then the other numbers: so no byte of one lies where
+// another has a part of a number, and the compiler tells a frame's kind once, from its first byte on. A create, a
+// commit and an abort have one byte and one number.
 
 // A write: transaction, party, which fields are blank, lease, fields.
 #[derive(Clone, Copy)]
@@ -116,6 +137,7 @@ pub struct WriteRequest {
 }
 
 // A look-up: it takes or reads; the IfExists kinds wait only while an entry conflicts.
+// Kept: mask and fields are two: the rules' `matches` takes each, and look-ups and registrations have each.
 #[derive(Clone, Copy)]
 pub struct FindRequest {
     pub txn: TxnId,
@@ -157,11 +179,4 @@ pub enum Request {
     Renew(RenewRequest),
     Notify(NotifyRequest),
     Tick,
-}
-
-// What the decoder answers: the request, or the number of the first of the refusals 2 to 5 that applies.
-#[derive(Clone, Copy)]
-pub enum Decoded {
-    Asks(Request),
-    Refused(u8),
 }

@@ -33,6 +33,7 @@ pub const MAX_TRAY: usize = 65536;
 pub const MAX_FRAMES: u32 = 2000;
 
 // Operations: byte 0 of a frame.
+// Kept: bytes, since document 01's form matches on any operation byte with ranges, falling to 2.
 pub const OP_WRITE: u8 = 1;
 
 pub const OP_READ: u8 = 2;
@@ -56,6 +57,7 @@ pub const OP_NOTIFY: u8 = 10;
 pub const OP_RENEW: u8 = 11;
 
 // Kinds: byte 0 of an answer record.
+// Kept: bytes, since a record's kind is read back from any 28 bytes (`codec::record_at`).
 pub const KIND_WRITTEN: u8 = 1;
 
 pub const KIND_FOUND: u8 = 2;
@@ -81,53 +83,3 @@ pub const KIND_RUNG: u8 = 11;
 pub const KIND_RENEWED: u8 = 12;
 
 pub const KIND_REFUSED: u8 = 15;
-
-// Refusals: 1 to 13 and 17 to 20 judge a frame, 15 and 16 a tray.
-pub const AREA_REFUSED: u8 = 1;
-
-pub const OPERATION_REFUSED: u8 = 2;
-
-pub const LENGTH_REFUSED: u8 = 3;
-
-pub const FORM_REFUSED: u8 = 4;
-
-pub const PARTY_REFUSED: u8 = 5;
-
-pub const WAITING_REFUSED: u8 = 6;
-
-pub const NOT_LIVE_REFUSED: u8 = 7;
-
-pub const NOT_OWN_REFUSED: u8 = 8;
-
-pub const LEASE_REFUSED: u8 = 9;
-
-pub const CLOCK_REFUSED: u8 = 10;
-
-pub const ENTRIES_REFUSED: u8 = 11;
-
-pub const TXNS_REFUSED: u8 = 12;
-
-pub const NUMBER_REFUSED: u8 = 13;
-
-// 14 is never given out.
-pub const TRAY_REFUSED: u8 = 15;
-
-pub const PAIRS_REFUSED: u8 = 16;
-
-pub const REGISTRATIONS_REFUSED: u8 = 17;
-
-pub const NO_ENTRY_REFUSED: u8 = 18;
-
-pub const NOT_WRITER_REFUSED: u8 = 19;
-
-pub const HELD_REFUSED: u8 = 20;
-
-pub const PLACE_REFUSED: u8 = 21;
-
-pub const ORDER_REFUSED: u8 = 22;
-
-pub const PANES_REFUSED: u8 = 23;
-
-pub const ROUNDS_REFUSED: u8 = 24;
-
-pub const SITTINGS_REFUSED: u8 = 25;

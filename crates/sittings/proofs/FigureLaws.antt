@@ -1,49 +1,15 @@
 -- Figures added, and where they stand in a report.
-use Rattle.std.proofs.Common.{◌≡◌, ℕ, ◌+◌, ◌%◌, ◌<◌, ◌≤◌, true, false, eqb, leb, List, [], ◌∷◌, ◌++◌, length, get_or}
-use Rattle.std.proofs.Common.{set, sym, refl, ap, ◌∙◌, ⊎_elim, add-zero, arith, length-append, eqb-true, le-leb}
-use Rattle.std.proofs.Common.{leb-false, leb-true}
+use Rattle.std.proofs.Common.{◌≡◌, ℕ, ◌+◌, ◌%◌, ◌<◌, ◌≤◌, max, eqb, List, [], ◌∷◌, ◌++◌, length, get_or}
+use Rattle.std.proofs.Common.{set, sym, refl, ap, ◌∙◌, ⊎_elim, add-zero, arith, length-append, eqb-true}
 use native.Mathlib.Numerals.{towards_suc}
 use borrow.Author.Tests.{eqb-false}
 use Rattle.rules.specs.Sound.{IsParty}
 use Rattle.rules.proofs.BoolLaws.{bool_cases}
-use Rattle.words.proofs.RowLaws.{sets_in, sets_other}
+use Rattle.tables.proofs.RowLaws.{sets_in, sets_other}
 use Rattle.sittings.specs.declared.figures.Figures.{Figures}
 use Rattle.sittings.specs.Report.{sum, greatest}
-use Rattle.sittings.specs.Figures.{greater, five, figures_for, plus, wrapped, place_of, figures_at, words_of, adding}
+use Rattle.sittings.specs.Figures.{five, figures_for, plus, wrapped, place_of, figures_at, words_of, adding}
 use Rattle.sittings.specs.Figures.{only, Gained}
-
--- ---- the greater of two
-pub greater-right : (a b : ℕ) → a ≤ b → greater a b ≡ b
-greater-right a b h = rw (le-leb a b h) refl
-
-pub greater-left : (a b : ℕ) → b ≤ a → greater a b ≡ a
-greater-left a b h = ⊎_elim (λ e. rw e (let l = leb-true a b e in omega arith)) (λ e. rw e refl) (bool_cases (leb a b))
-
-pub greater_most : (a b n : ℕ) → a ≤ n → b ≤ n → greater a b ≤ n
-greater_most a b n h k = ⊎_elim (λ e. rw e k) (λ e. rw e h) (bool_cases (leb a b))
-
-left_most : (a b : ℕ) → a ≤ greater a b
-left_most a b = ⊎_elim (λ e. rw e (leb-true a b e)) (λ e. rw e (omega arith)) (bool_cases (leb a b))
-
-greater_assoc : (a b c : ℕ) → greater (greater a b) c ≡ greater a (greater b c)
-greater_assoc a b c = ⊎_elim up down (bool_cases (leb a b))
-  where
-    up : leb a b ≡ true → greater (greater a b) c ≡ greater a (greater b c)
-    up e =
-        let l = leb-true a b e in
-        ap (λ n. greater n c) (greater-right a b l)
-        ∙ sym (greater-right a (greater b c) (omega (arith, left_most b c)))
-
-    down : leb a b ≡ false → greater (greater a b) c ≡ greater a (greater b c)
-    down e =
-        let l = leb-false a b e in
-        let le : b ≤ a = omega arith in
-        ap (λ n. greater n c) (greater-left a b le)
-        ∙ ⊎_elim (λ q. ap (greater a) (sym (greater-right b c (leb-true b c q))))
-        (λ q. let k = leb-false b c q in
-        greater-left a c (omega arith) ∙ sym (greater-left a b le)
-        ∙ ap (greater a) (sym (greater-left b c (omega arith))))
-        (bool_cases (leb b c))
 
 -- ---- of two lists, one behind the other
 pub sum-append : (xs ys : List ℕ) → sum (xs ++ ys) ≡ sum xs + sum ys
@@ -51,17 +17,15 @@ unfolding sum
 sum-append [] ys = omega arith
 sum-append (x ∷ xs) ys = omega (arith, sum-append xs ys)
 
-greatest-append : (xs ys : List ℕ) → greatest (xs ++ ys) ≡ greater (greatest xs) (greatest ys)
+greatest-append : (xs ys : List ℕ) → greatest (xs ++ ys) ≡ max (greatest xs) (greatest ys)
 unfolding greatest
-greatest-append [] ys = sym (greater-right 0 (greatest ys) (omega arith))
-greatest-append (x ∷ xs) ys =
-    ap (greater x) (greatest-append xs ys) ∙ sym (greater_assoc x (greatest xs) (greatest ys))
+greatest-append [] ys = omega arith
+greatest-append (x ∷ xs) ys = omega (arith, greatest-append xs ys)
 
 pub greatest-sum : (xs : List ℕ) → greatest xs ≤ sum xs
 unfolding greatest sum
 greatest-sum [] = omega arith
-greatest-sum (x ∷ xs) =
-    greater_most x (greatest xs) (x + sum xs) (omega arith) (omega (arith, greatest-sum xs))
+greatest-sum (x ∷ xs) = omega (arith, greatest-sum xs)
 
 -- ---- figures
 five-same : {a f l t n a' f' l' t' n' : ℕ} → a ≡ a' → f ≡ f' → l ≡ l' → t ≡ t' → n ≡ n'
@@ -72,10 +36,10 @@ pub figures-same : {a f a' f' : ℕ} {ws ws' : List ℕ} → a ≡ a' → f ≡ 
     → figures_for a f ws ≡ figures_for a' f' ws'
 figures-same p q r = rw (p, q, r) refl
 
--- of one wait
-pub one_wait : (f t : ℕ) → five 0 f t t 1 ≡ figures_for 0 f (t ∷ [])
+-- of no wait
+pub no_wait : {a f l t n : ℕ} → l ≡ 0 → t ≡ 0 → n ≡ 0 → five a f l t n ≡ figures_for a f []
 unfolding sum greatest
-one_wait f t = five-same refl refl (sym (greater-left t 0 (omega arith))) (omega arith) refl
+no_wait x y z = five-same refl refl x y z
 
 -- no figures
 abbrev pub none : Figures
@@ -89,16 +53,16 @@ figures-plus a f b g xs ys =
 pub plus_none : (a : Figures) → plus a none ≡ a
 unfolding sum greatest
 plus_none a =
-    five-same (omega arith) (omega arith) (greater-left a.longest 0 (omega arith)) (omega arith) (omega arith)
+    five-same (omega arith) (omega arith) (omega arith) (omega arith) (omega arith)
 
 pub none-plus : (a : Figures) → plus none a ≡ a
 unfolding sum greatest
 none-plus a =
-    five-same (omega arith) (omega arith) (greater-right 0 a.longest (omega arith)) (omega arith) (omega arith)
+    five-same (omega arith) (omega arith) (omega arith) (omega arith) (omega arith)
 
 pub plus_assoc : (a b c : Figures) → plus (plus a b) c ≡ plus a (plus b c)
 plus_assoc a b c =
-    five-same (omega arith) (omega arith) (greater_assoc a.longest b.longest c.longest) (omega arith)
+    five-same (omega arith) (omega arith) (omega arith) (omega arith)
     (omega arith)
 
 -- ---- wrapped
@@ -200,7 +164,7 @@ gained-one ws p more long is =
 -- as the code stores them, one after another
 pub stored_one : (ws : List ℕ) (p : ℕ) (more old : Figures) {a f l t n : ℕ} → length ws ≡ 82 → IsParty p
     → old ≡ figures_at ws p → a ≡ (old.asked + more.asked) % 4294967296
-    → f ≡ (old.founds + more.founds) % 4294967296 → l ≡ greater old.longest more.longest
+    → f ≡ (old.founds + more.founds) % 4294967296 → l ≡ max old.longest more.longest
     → t ≡ (old.total + more.total) % 4294967296 → n ≡ (old.count + more.count) % 4294967296
     → let o = place_of p in
     Gained ws (only p more) (set (set (set (set (set ws o a) (o + 1) f) (o + 2) l) (o + 3) t) (o + 4) n)

@@ -1,6 +1,6 @@
 -- A party waits once: while it waits in the space it begins no other wait, and it waits until a record closes its wait.
 use Rattle.std.proofs.Common.{◌≡◌, ℕ, ◌+◌, ◌≤◌, Bool, true, false, cond, not, ◌&&◌, ◌||◌, eqb, ◌⊎◌, List, [], ◌∷◌, map}
-use Rattle.std.proofs.Common.{sym, refl, ap, ◌∙◌, inl, inr, ⊎_elim, true≢false, arith, eqb-true}
+use Rattle.std.proofs.Common.{sym, refl, ap, ◌∙◌, inl, inr, ⊎_elim, true≢false, arith, eqb-true, Option, Some, None}
 use mathlib.Core.List.{Memᴰ}
 use Rattle.rules.specs.declared.LookUp.{LookUp}
 use Rattle.rules.specs.declared.Record.{Record}
@@ -28,7 +28,7 @@ use Rattle.demands.proofs.AnswersProof.{shuts, waits-or}
 use Rattle.demands.proofs.OldestLaws.{answered_now}
 use Rattle.sittings.specs.declared.waits.Wait.{Wait}
 use Rattle.sittings.specs.Waits.{ticks, is_of, waits}
-use Rattle.sittings.specs.Watch.{a_wait, is_closed, wait_after, next_wait, logged}
+use Rattle.sittings.specs.Watch.{begun, wait_after, next_wait, logged}
 
 -- ---- who waits stays, unless a record closes his look-up
 stays_events : {f : Frame} {m n : Model} {hs : List Heard} (v : LookUp) → Events f m hs n → Consistent m
@@ -110,72 +110,74 @@ module _ (m : Model) (bs : List ℕ) (area : ℕ) (s : Sound m) where
       (admitted m bs area (clear m bs area (not-refused e)) s.lasting).free (look_up-not-abort (decode bs).op t) v i q
 
 -- ---- a party's wait, as it stands in the space
-pub record Party (p : ℕ) (m : Model) (clock : ℕ) (w : Wait) : Type 0 where
-  pub among : w.waits ≡ true
-      → (v : LookUp) × Memᴰ v m.waits × (v.party ≡ p) × (v.txn.0 ≡ w.txn)
-  pub sooner : w.waits ≡ true → w.since ≤ clock
+pub record Party (p : ℕ) (m : Model) (clock : ℕ) (w : Option Wait) : Type 0 where
+  pub among : (u : Wait) → w ≡ Some u → (v : LookUp) × Memᴰ v m.waits × (v.party ≡ p) × (v.txn.0 ≡ u.txn.0)
+  pub sooner : (u : Wait) → w ≡ Some u → u.since ≤ clock
 
-pub party-none : (p : ℕ) (m : Model) (clock since txn : ℕ) → Party p m clock (a_wait false since txn)
-party-none p m clock since txn =
-    record { among = λ e. absurd (true≢false (sym e)); sooner = λ e. absurd (true≢false (sym e)) }
+pub party-none : (p : ℕ) (m : Model) (clock : ℕ) → Party p m clock None
+party-none p m clock = record { among = λ u e. cc; sooner = λ u e. cc }
 
-module _ {p clock : ℕ} {w : Wait} (m : Model) (bs : List ℕ) (s : Sound m) (h : Party p m clock w) where
+since_in : Option Wait → ℕ
+since_in None = 0
+since_in (Some w) = w.since
+
+txn_in : Option Wait → ℕ
+txn_in None = 0
+txn_in (Some w) = w.txn.0
+
+module _ {p clock : ℕ} {w : Option Wait} (m : Model) (bs : List ℕ) (s : Sound m) (h : Party p m clock w) where
   abbrev l : Logged
   l = logged bs (step m bs step_area).records
 
-  pub party-once : w.waits ≡ true → (is_of p l && waits l) ≡ false
+  abbrev after : ℕ
+  after = clock + ticks l
+
+  pub party-once : (u : Wait) → w ≡ Some u → (is_of p l && waits l) ≡ false
   unfolding waits
-  party-once e =
+  party-once u e =
       ⊎_elim (λ t. absurd (one t)) (λ t. t) (bool_cases (is_of p l && waits l))
     where
       one : (is_of p l && waits l) ≡ true → ⊥
       one t =
           let look = and_right (is_of p l) (waits l) t in
-          let v = h.among e in
+          let v = h.among u e in
           waits-once m bs step_area s (and_left (is_look_up (decode bs).op) _ look)
           (and_right (is_look_up (decode bs).op) _ look) v.0 v.1
           (v.2 ∙ sym (eqb-true (decode bs).party p (and_left (is_of p l) (waits l) t)))
 
-  pub party-next : Party p (step m bs step_area).model (clock + ticks l) (next_wait p (clock + ticks l) w l)
-  unfolding waits look_up_of
+  pub party-next : Party p (step m bs step_area).model after (next_wait p after w l)
+  unfolding waits look_up_of since_in txn_in
   party-next =
-      cond_cases (Party p (step m bs step_area).model (clock + ticks l)) (is_of p l && waits l) opened lasts
+      cond_cases (Party p (step m bs step_area).model after) (is_of p l && waits l) opened (λ _. lasts w h)
     where
-      opened : (is_of p l && waits l) ≡ true
-          → Party p (step m bs step_area).model (clock + ticks l) (a_wait true (clock + ticks l) (decode bs).txn)
+      opened : (is_of p l && waits l) ≡ true → Party p (step m bs step_area).model after (begun after l)
       opened t =
           let look = and_right (is_of p l) (waits l) t in
           record {
-            among = λ _. (
+            among = λ u e. (
               look_up_of m (decode bs),
               begins m bs step_area s (and_left (is_look_up (decode bs).op) _ look)
                   (and_right (is_look_up (decode bs).op) _ look),
               eqb-true (decode bs).party p (and_left (is_of p l) (waits l) t),
-              refl,
+              ap txn_in e,
             );
-            sooner = λ _. omega arith;
+            sooner = λ u e. omega (arith, ap since_in e);
           }
 
-      lasts : (is_of p l && waits l) ≡ false
-          → Party p (step m bs step_area).model (clock + ticks l) (wait_after p w l.records)
-      lasts _ =
-          record {
-            among = λ e. let o = still (is_closed p w l.records) w.waits e in
-                let v = h.among o.0 in (
-                  v.0,
-                  stays m bs step_area s v.0 v.1 (ap (λ k. anyb (closes k v.0.txn.0) l.records) v.2
-                      ∙ ap (λ k. anyb (closes p k) l.records) v.3
-                      ∙ open_still (anyb (closes p w.txn) l.records) w.waits o.0 o.1),
-                  v.2,
-                  v.3,
-                );
-            sooner = λ e. let k = h.sooner (still (is_closed p w l.records) w.waits e).0 in omega arith;
-          }
-        where
-          still : (x b : Bool) → cond x false b ≡ true → (b ≡ true) × (x ≡ false)
-          still true b e = absurd (true≢false (sym e))
-          still false b e = (e, refl)
-
-          open_still : (x b : Bool) → b ≡ true → (x && b) ≡ false → x ≡ false
-          open_still true b t e = absurd (true≢false (sym t ∙ e))
-          open_still false b t e = refl
+      lasts : (w : Option Wait) → Party p m clock w
+          → Party p (step m bs step_area).model after (wait_after p w l.records)
+      lasts None h = party-none p (step m bs step_area).model after
+      lasts (Some u) h =
+          cond_cases (Party p (step m bs step_area).model after) (anyb (closes p u.txn.0) l.records)
+          (λ _. party-none p (step m bs step_area).model after)
+          (λ t. record {
+            among = λ k e. let v = h.among u refl in (
+              v.0,
+              stays m bs step_area s v.0 v.1 (ap (λ i. anyb (closes i v.0.txn.0) l.records) v.2
+                  ∙ ap (λ i. anyb (closes p i) l.records) v.3
+                  ∙ t),
+              v.2,
+              v.3 ∙ ap txn_in e,
+            );
+            sooner = λ k e. let j = h.sooner u refl in omega (arith, ap since_in e);
+          })

@@ -1,7 +1,7 @@
 -- A tray's frames run one after another, and what is noted of them.
-use Rattle.std.proofs.Common.{◌≡◌, ℕ, zero, suc, ◌+◌, ◌*◌, ◌%◌, ◌<◌, ◌≤◌, false, List, [], ◌∷◌, ◌++◌, map, length}
+use Rattle.std.proofs.Common.{◌≡◌, ℕ, zero, suc, ◌+◌, ◌*◌, ◌%◌, ◌<◌, ◌≤◌, List, [], ◌∷◌, ◌++◌, map, length}
 use Rattle.std.proofs.Common.{get_or, take, drop, replicate, sym, refl, ap, ◌∙◌, subst, ap₂, add-one, arith}
-use Rattle.std.proofs.Common.{get_or-drop}
+use Rattle.std.proofs.Common.{get_or-drop, Option, None}
 use mathlib.Core.Path.{subst⁻¹}
 use mathlib.Core.List.Memᴰ
 use lib.ListN.{get_or-replicate}
@@ -25,6 +25,7 @@ use Rattle.rules.proofs.ReadBack.{answer_back}
 use Rattle.rules.proofs.ViewLaws.{view-bounded}
 use Rattle.sound.proofs.AllLaws.{all_map}
 use Rattle.sound.proofs.SoundProof.{sound_empty, sound-step}
+use Rattle.hints.specs.declared.known.Hints.{Hints}
 use Rattle.hints.specs.Hints.{Reliable}
 use Rattle.step.specs.Carries.{StaysReliable}
 use Rattle.tray.specs.declared.pairs.Pair.{Pair as Place}
@@ -36,9 +37,10 @@ use Rattle.demands.specs.Machine.{Input}
 use Rattle.demands.proofs.Runs.{runs, answers_to}
 use Rattle.demands.proofs.BoundsRange.{range_demand}
 use Rattle.sittings.specs.declared.figures.Figures.{Figures}
+use Rattle.sittings.specs.declared.waits.Wait.{Wait}
 use Rattle.sittings.specs.Waits.{sitting}
 use Rattle.sittings.specs.Figures.{figures_for, figures_of, plus, Gained}
-use Rattle.sittings.specs.Watch.{a_wait, wait_at, gain_of, next_wait, rest_of, left_of, Stand, Noted, logged}
+use Rattle.sittings.specs.Watch.{wait_at, gain_of, next_wait, rest_of, left_of, Stand, Noted, logged}
 use Rattle.sittings.proofs.FigureLaws.{plus_assoc, none-plus, gained-none, gained-same, gained-then}
 use Rattle.sittings.proofs.WatchLaws.{rest_none, rest_more}
 use Rattle.sittings.proofs.PartyLaws.{Party, party-none, party-once, party-next}
@@ -155,7 +157,8 @@ ends_in tray {k} fine s h = omega (arith, frame_in tray fine k h, s.begins, s.en
 abbrev pub frames_from : List ℕ → ℕ → List (List ℕ)
 frames_from tray k = map (frame_at tray) (drop k (pairs tray))
 
-pub record Watching (tray r₀ ws hs r os : List ℕ) (k clock : ℕ) : Type 0 where
+pub record Watching (tray r₀ ws : List ℕ) (hs : Hints) (r : List ℕ) (os : List (Option Wait)) (k clock : ℕ)
+    : Type 0 where
   pub sound : Sound (view ws)
   pub reliable : Reliable hs (view ws)
   pub in_range : AllInRange (records_of (log_from (view ws) (frames_from tray k)))
@@ -168,8 +171,8 @@ pub record Watching (tray r₀ ws hs r os : List ℕ) (k clock : ℕ) : Type 0 w
       → plus (so_far p) (rest_of p clock (wait_at os p) (log_from (view ws) (frames_from tray k)))
       ≡ figures_of p (sitting tray)
 
-pub watching_none : {tray ws hs : List ℕ} (r : List ℕ) → ((i : ℕ) → get_or tray i 0 < 256) → view ws ≡ empty
-    → Reliable hs empty → Watching tray r ws hs r (replicate 51 0) 0 0
+pub watching_none : {tray ws : List ℕ} {hs : Hints} (r : List ℕ) → ((i : ℕ) → get_or tray i 0 < 256) → view ws ≡ empty
+    → Reliable hs empty → Watching tray r ws hs r (replicate 17 None) 0 0
 unfolding sitting
 watching_none {tray} {ws} {hs} r h e k =
     record {
@@ -177,23 +180,18 @@ watching_none {tray} {ws} {hs} r h e k =
       reliable = subst⁻¹ (Reliable hs) e k;
       in_range = subst⁻¹ (λ m. AllInRange (records_of (log_from m (frames_of tray)))) e (sitting-fits tray h);
       few = omega arith;
-      parties = λ p i. subst⁻¹ (Party p (view ws) 0) (nobody p i) (party-none p (view ws) 0 0 0);
+      parties = λ p i. subst⁻¹ (Party p (view ws) 0) (nobody p i) (party-none p (view ws) 0);
       so_far = λ p. figures_for 0 0 [];
       gained = gained-none r;
-      whole = λ p i. none-plus (rest_of p 0 (wait_at (replicate 51 0) p) (log_from (view ws) (frames_of tray)))
+      whole = λ p i. none-plus (rest_of p 0 (wait_at (replicate 17 None) p) (log_from (view ws) (frames_of tray)))
           ∙ ap₂ (λ w m. rest_of p 0 w (log_from m (frames_of tray))) (nobody p i) e;
     }
   where
-    zero_at : (i : ℕ) → i < 51 → get_or {A = ℕ} (replicate 51 0) i 0 ≡ 0
-    zero_at i l = get_or-replicate {A = ℕ} 51 i 0 0 l
+    nobody : (p : ℕ) → IsParty p → wait_at (replicate 17 None) p ≡ None
+    nobody p i = let l = i.last in get_or-replicate {A = Option Wait} 17 p None None (omega arith)
 
-    nobody : (p : ℕ) → IsParty p → wait_at (replicate 51 0) p ≡ a_wait false 0 0
-    nobody p i =
-        let l = i.last in
-        rw (zero_at (3 * p) (omega arith), zero_at (3 * p + 1) (omega arith), zero_at (3 * p + 2) (omega arith)) refl
-
-module _ {tray r₀ ws hs r os : List ℕ} {k clock : ℕ} (w : Watching tray r₀ ws hs r os k clock)
-    (h : k < frame_count tray) where
+module _ {tray r₀ ws r : List ℕ} {hs : Hints} {os : List (Option Wait)} {k clock : ℕ}
+    (w : Watching tray r₀ ws hs r os k clock) (h : k < frame_count tray) where
   abbrev frame : List ℕ
   frame = frame_at tray (pair_at tray k)
 
@@ -214,7 +212,8 @@ module _ {tray r₀ ws hs r os : List ℕ} {k clock : ℕ} (w : Watching tray r�
   all_in_range = subst (λ log. AllInRange (records_of log)) log-next w.in_range
 
   -- one frame more
-  pub watching_more : {f ws' hs' r' os' area' : List ℕ} {n clock' : ℕ} → f ≡ frame → Told ws f n area' ws'
+  pub watching_more : {f ws' r' area' : List ℕ} {hs' : Hints} {os' : List (Option Wait)} {n clock' : ℕ}
+      → f ≡ frame → Told ws f n area' ws'
       → StaysReliable ws ws' hs'
       → ((rs : List Record) → Stand area' n rs → Noted clock r os (logged f rs) clock' r' os')
       → clock' ≤ clock + n → Watching tray r₀ ws' hs' r' os' (k + 1) clock'
@@ -256,11 +255,12 @@ module _ {tray r₀ ws hs r os : List ℕ} {k clock : ℕ} (w : Watching tray r�
           ap₂ (λ u m. plus (gain_of p clock' v now) (rest_of p clock' u (log_from m (frames_from tray (k + 1)))))
           (noted.left p i) space
           ∙ ap (λ c. plus (gain_of p c v now) (rest_of p c (next_wait p c v now) later)) noted.clock_on
-          ∙ sym (rest_more p clock v now later party.sooner (party-once (view ws) frame w.sound party))
+          ∙ sym (rest_more p clock now later v party.sooner (party-once (view ws) frame w.sound party))
           ∙ ap (rest_of p clock v) (sym log-next)
 
 -- all frames are done
-pub watching_done : {tray r₀ ws hs r os r' : List ℕ} {k clock : ℕ} (w : Watching tray r₀ ws hs r os k clock)
+pub watching_done : {tray r₀ ws r r' : List ℕ} {hs : Hints} {os : List (Option Wait)} {k clock : ℕ}
+    (w : Watching tray r₀ ws hs r os k clock)
     → k ≡ frame_count tray → Gained r (λ p. left_of clock (wait_at os p)) r'
     → Gained r₀ (λ p. figures_of p (sitting tray)) r'
 unfolding log_from

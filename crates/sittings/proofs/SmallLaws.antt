@@ -1,7 +1,7 @@
 -- The figures of a sitting are small: at most 2,000 frames, each with at most 25 records; and the waits of a party do
 -- not overlap, so that together they are no longer than the tray's ticks.
 use Rattle.std.proofs.Common.{◌≡◌, ℕ, ◌+◌, ◌-◌, ◌*◌, ◌%◌, ◌<◌, ◌≤◌, Bool, true, false, cond, ◌&&◌, eqb, List, [], ◌∷◌}
-use Rattle.std.proofs.Common.{◌++◌, length, refl, ap, true≢false, arith, length-append}
+use Rattle.std.proofs.Common.{◌++◌, length, refl, ap, true≢false, arith, length-append, Option, Some, None}
 use Rattle.rules.specs.declared.Record.{Record}
 use Rattle.rules.specs.Lists.{anyb}
 use Rattle.rules.specs.Numbers.{step_area, step_records, max_frames, kind_ticked}
@@ -26,8 +26,8 @@ use Rattle.sittings.specs.declared.waits.Wait.{Wait}
 use Rattle.sittings.specs.Waits.{sitting, ticks, is_of, waits, waited, waits_of, asked_by, founds_of}
 use Rattle.sittings.specs.Report.{sum}
 use Rattle.sittings.specs.Figures.{figures_of, plus, wrapped}
-use Rattle.sittings.specs.Watch.{a_wait, is_found_of, begun, next_wait, rest_of, logged}
-use Rattle.sittings.proofs.FigureLaws.{greater_most, greatest-sum}
+use Rattle.sittings.specs.Watch.{open_for, is_found_of, ended, wait_after, begun, next_wait, pending, rest_of, logged}
+use Rattle.sittings.proofs.FigureLaws.{greatest-sum}
 use Rattle.sittings.proofs.WatchLaws.{rest_more}
 use Rattle.sittings.proofs.PartyLaws.{Party, party-none, party-once, party-next}
 
@@ -53,7 +53,7 @@ within-plus {n} {k} f g x y =
     record {
       asked = omega (arith, x.asked, y.asked);
       founds = omega (arith, x.founds, y.founds);
-      longest = greater_most f.longest g.longest (n + k) (omega (arith, x.longest)) (omega (arith, y.longest));
+      longest = omega (arith, x.longest, y.longest);
       total = omega (arith, x.total, y.total);
       count = omega (arith, x.count, y.count);
     }
@@ -85,23 +85,23 @@ module _ (p : ℕ) where
       go w false h = omega arith
 
   -- what has been waited of the wait that is open
-  abbrev owed : ℕ → Wait → ℕ
-  owed clock w = cond w.waits (clock - w.since) 0
+  abbrev owed : ℕ → Option Wait → ℕ
+  owed clock w = sum (open_for clock w)
 
-  no_overlap : (fs : List (List ℕ)) (m : Model) (clock : ℕ) (w : Wait) → Sound m → Bounded m → Party p m clock w
+  no_overlap : (fs : List (List ℕ)) (m : Model) (clock : ℕ) (w : Option Wait) → Sound m → Bounded m → Party p m clock w
       → (rest_of p clock w (log_from m fs)).total ≤ owed clock w + step_records * length fs
   unfolding log_from waits_of waited sum
-  no_overlap [] m clock w s b h = go w.waits
+  no_overlap [] m clock w s b h =
+      go w
     where
-      go : (x : Bool)
-          → sum (cond x ((clock - w.since + 0) ∷ []) [] ++ []) ≤ cond x (clock - w.since) 0 + step_records * 0
-      go true = omega arith
-      go false = omega arith
+      go : (w : Option Wait) → sum (pending p clock w [] ++ []) ≤ sum (open_for clock w) + step_records * 0
+      go None = omega arith
+      go (Some w) = omega arith
   no_overlap (f ∷ fs) m clock w s b h =
       let fit = step_fits m f step_area s b in
       let later = no_overlap fs (step m f step_area).model after (next_wait p after w l) (sound-step m f step_area s)
       fit.0 (party-next m f s h) in
-      let more = ap (λ (x : Figures). x.total) (rest_more p clock w l (log_from (step m f step_area).model fs)
+      let more = ap (λ (x : Figures). x.total) (rest_more p clock l (log_from (step m f step_area).model fs) w
       h.sooner (party-once m f s h)) in
       omega (
         arith,
@@ -109,7 +109,7 @@ module _ (p : ℕ) where
         later,
         fit.1,
         length-filter (λ (a : Record). eqb a.kind kind_ticked) l.records,
-        go w.waits (anyb (closes p w.txn) l.records) (is_of p l && waits l) (party-once m f s h),
+        go w (is_of p l && waits l) (party-once m f s h),
       )
     where
       l : Logged
@@ -118,17 +118,18 @@ module _ (p : ℕ) where
       after : ℕ
       after = clock + ticks l
 
-      go : (b x n : Bool) → (b ≡ true → n ≡ false)
-          → sum (cond (x && b) ((after - w.since) ∷ []) [])
-          + owed after (cond n (begun after l) (a_wait (cond (x && b) false b) w.since w.txn))
-          ≤ cond b (clock - w.since) 0 + ticks l
-      go true x true o = absurd (true≢false (o refl))
-      go true true false o = omega arith
-      go true false false o = omega arith
-      go false true true o = omega arith
-      go false false true o = omega arith
-      go false true false o = omega arith
-      go false false false o = omega arith
+      go : (w : Option Wait) (n : Bool) → ((u : Wait) → w ≡ Some u → n ≡ false)
+          → sum (ended p after w l.records) + owed after (cond n (begun after l) (wait_after p w l.records))
+          ≤ owed clock w + ticks l
+      go None true o = omega arith
+      go None false o = omega arith
+      go (Some u) true o = absurd (true≢false (o u refl))
+      go (Some u) false o = shut (anyb (closes p u.txn.0) l.records)
+        where
+          shut : (x : Bool) → sum (cond x ((after - u.since) ∷ []) []) + owed after (cond x None (Some u))
+              ≤ owed clock (Some u) + ticks l
+          shut true = omega arith
+          shut false = omega arith
 
   few-records : (fs : List (List ℕ)) (m : Model) → Sound m → Bounded m
       → (length (log_from m fs) ≡ length fs) × (length (records_of (log_from m fs)) ≤ step_records * length fs)
@@ -143,14 +144,14 @@ module _ (p : ℕ) where
 
   pub sitting_small : (tray : List ℕ) → tray_refusal tray ≡ 0
       → Within (step_records * max_frames) (figures_of p (sitting tray))
-  unfolding sitting asked_by founds_of
+  unfolding sitting asked_by founds_of sum
   sitting_small tray fine =
       let log = log_from empty (frames_of tray) in
       let few = few-frames tray (passes tray fine).0 in
       let long = frames-length tray in
       let some = few-records (frames_of tray) empty sound_empty empty-bounded in
       let all =
-      no_overlap (frames_of tray) empty 0 (a_wait false 0 0) sound_empty empty-bounded (party-none p empty 0 0 0) in
+      no_overlap (frames_of tray) empty 0 None sound_empty empty-bounded (party-none p empty 0) in
       record {
         asked = omega (arith, few, long, some.0, length-filter (λ l. is_of p l && is_asked l) log);
         founds = omega (arith, few, long, some.1, length-filter (is_found_of p) (records_of log));

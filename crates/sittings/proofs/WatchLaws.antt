@@ -1,15 +1,15 @@
 -- What records and look-ups add to a party's figures, one after another; and what is still to come of a history.
 use Rattle.std.proofs.Common.{◌≡◌, ℕ, suc, ◌+◌, ◌-◌, ◌*◌, ◌<◌, ◌≤◌, Bool, true, false, cond, not, ◌&&◌, ◌||◌, eqb, ltb}
-use Rattle.std.proofs.Common.{leb, List, [], ◌∷◌, ◌++◌, length, get_or, take, set, sym, refl, ap, ◌∙◌, subst, ⊎_elim}
+use Rattle.std.proofs.Common.{leb, List, [], ◌∷◌, ◌++◌, length, take, set, sym, refl, ap, ◌∙◌, subst, ⊎_elim}
 use Rattle.std.proofs.Common.{true≢false, add-one, arith, take_all, take-suc, ltb-false, ltb-true, le-ltb, lt-ltb}
-use Rattle.std.proofs.Common.{eq-eqb, ne_eqb, eqb-true, le-leb, leb-true}
+use Rattle.std.proofs.Common.{eq-eqb, ne_eqb, eqb-true, le-leb, leb-true, Option, Some, None, get_or-set_same}
+use Rattle.std.proofs.Common.{get_or-set_other}
+use Rattle.std.specs.Int.{from_bool}
 use mathlib.Core.Path.{subst⁻¹}
-use native.Mathlib.Numerals.{add-two}
 use borrow.Author.Tests.{eqb-false}
-use lib.Seq.{sets}
 use Rattle.rules.specs.declared.Record.{Record}
 use Rattle.rules.specs.Lists.{anyb, filterb}
-use Rattle.rules.specs.Numbers.{max_party, kind_found, kind_nothing, kind_exception, kind_aborted, kind_waiting}
+use Rattle.rules.specs.Numbers.{max_party, kind_found, kind_waiting}
 use Rattle.rules.specs.Numbers.{kind_refused}
 use Rattle.rules.specs.Numbers.{record_size}
 use Rattle.rules.specs.Frame.{decode, is_look_up}
@@ -19,17 +19,14 @@ use Rattle.rules.specs.SerialRun.{Logged, was_refused}
 use Rattle.rules.specs.Log.{records_of}
 use Rattle.rules.proofs.BoolLaws.{bool_cases, and_left, and_right}
 use Rattle.rules.proofs.ListLaws.{any_append, count, count-append, count_cons}
-use Rattle.words.proofs.RowLaws.{sets_in, sets_other}
 use Rattle.demands.specs.Answers.{closes}
-use Rattle.demands.specs.WaitingList.{is_asked}
+use Rattle.demands.specs.WaitingList.{is_asked, number}
 use Rattle.sittings.specs.declared.figures.Figures.{Figures}
 use Rattle.sittings.specs.declared.waits.Wait.{Wait}
 use Rattle.sittings.specs.Waits.{ticks, is_of, waits, waited, waits_of, asked_by, founds_of}
 use Rattle.sittings.specs.Figures.{figures_for, plus, only, Gained}
-use Rattle.sittings.specs.Watch.{a_wait, wait_at, wait_words, put_wait, one, is_found_of, is_closed, heard_of}
-use Rattle.sittings.specs.Watch.{wait_after}
-use Rattle.sittings.specs.Watch.{asked_of, begun, begins_if, gain_of, next_wait, pending, rest_of, left_of, Heard}
-use Rattle.sittings.specs.Watch.{Asked, Noted, Stand}
+use Rattle.sittings.specs.Watch.{wait_at, open_for, one, is_found_of, ended, heard_of, wait_after, asked_of, begun}
+use Rattle.sittings.specs.Watch.{begins_if, gain_of, next_wait, pending, rest_of, left_of, Heard, Asked, Stand}
 use Rattle.sittings.proofs.FigureLaws.{figures-same, figures-plus, plus_none, none-plus, gained-none}
 use Rattle.sittings.proofs.FigureLaws.{gained-same, gained-then}
 
@@ -38,186 +35,136 @@ eqb_cases : (Q : Bool → Type 0) (i j : ℕ) → (i ≡ j → Q true) → ((i �
 eqb_cases Q i j f g =
     ⊎_elim (λ e. subst⁻¹ Q e (f (eqb-true i j e))) (λ e. subst⁻¹ Q e (g (eqb-false i j e))) (bool_cases (eqb i j))
 
--- ---- the words of the waits
-wait_same : {b b' : Bool} {s s' t t' : ℕ} → b ≡ b' → s ≡ s' → t ≡ t' → a_wait b s t ≡ a_wait b' s' t'
-wait_same p q r = rw (p, q, r) refl
+-- a `bool` as a number
+pub one_of : {n : ℕ} (b : Bool) → n ≡ from_bool b → n ≡ one b
+one_of true e = e
+one_of false e = e
 
-put_word : (r ws : List ℕ) (o : ℕ) {n j : ℕ} → n ≡ o + j → j < length r → o + length r ≤ length ws
-    → get_or (sets ws o r) n 0 ≡ get_or r j 0
-put_word r ws o {n} {j} e h k = ap (λ i. get_or (sets ws o r) i 0) e ∙ sets_in r ws o j h k
+-- ---- the waits, of which one is put
+pub wait_put : (ws : List (Option Wait)) (p : ℕ) (w : Option Wait) → p < length ws → (q : ℕ)
+    → wait_at (set ws p w) q ≡ cond (eqb p q) w (wait_at ws q)
+wait_put ws p w h q =
+    eqb_cases (λ b. wait_at (set ws p w) q ≡ cond b w (wait_at ws q)) p q
+    (λ e. ap (wait_at (set ws p w)) (sym e) ∙ get_or-set_same ws p w None h)
+    (λ n. get_or-set_other ws p q w None (λ e. n (sym e)))
 
-put_own : (os : List ℕ) (p : ℕ) (w : Wait) → length os ≡ 51 → p ≤ max_party → wait_at (put_wait os p w) p ≡ w
-put_own os p w long h =
-    wait_same (ap (λ n. eqb n 1) (put_word row os (3 * p) {j = 0} (omega arith) (omega arith) fits) ∙ flag w.waits)
-    (put_word row os (3 * p) {j = 1} (omega arith) (omega arith) fits)
-    (put_word row os (3 * p) {j = 2} (omega arith) (omega arith) fits)
-  where
-    row : List ℕ
-    row = wait_words w
+-- ---- records, one list behind another: a wait is closed by the first, by those behind them, or by none
+module _ (p : ℕ) (xs ys : List Record) where
+  after-append : (w : Option Wait) → wait_after p w (xs ++ ys) ≡ wait_after p (wait_after p w xs) ys
+  after-append None = refl
+  after-append (Some w) =
+      ap (λ b. cond b None (Some w)) (any_append (closes p w.txn.0) xs ys) ∙ go (anyb (closes p w.txn.0) xs)
+    where
+      go : (b : Bool)
+          → cond (b || anyb (closes p w.txn.0) ys) None (Some w) ≡ wait_after p (cond b None (Some w)) ys
+      go true = refl
+      go false = refl
 
-    fits : 3 * p + length row ≤ length os
-    fits = omega arith
-
-    flag : (b : Bool) → eqb (cond b 1 0) 1 ≡ b
-    flag true = refl
-    flag false = refl
-
-put_other : (os : List ℕ) (p q : ℕ) (w : Wait) → (p ≡ q → ⊥) → wait_at (put_wait os p w) q ≡ wait_at os q
-put_other os p q w n =
-    wait_same (ap (λ k. eqb k 1) (sets_other row os (3 * p) (3 * q) (λ h. omega (arith, n))))
-    (sets_other row os (3 * p) (3 * q + 1) (λ h. omega (arith, n)))
-    (sets_other row os (3 * p) (3 * q + 2) (λ h. omega (arith, n)))
-  where
-    row : List ℕ
-    row = wait_words w
-
-pub wait_put : (os : List ℕ) (p : ℕ) (w : Wait) → length os ≡ 51 → p ≤ max_party → (q : ℕ)
-    → wait_at (put_wait os p w) q ≡ cond (eqb p q) w (wait_at os q)
-wait_put os p w long h q =
-    ⊎_elim (λ e. ap (wait_at (put_wait os p w)) (sym (eqb-true p q e)) ∙ put_own os p w long h ∙ rw e refl)
-    (λ e. put_other os p q w (eqb-false p q e) ∙ rw e refl) (bool_cases (eqb p q))
-
-pub stored_wait : (os : List ℕ) (p : ℕ) (w : Wait) {n : ℕ} → length os ≡ 51 → p ≤ max_party → n ≡ cond w.waits 1 0
-    → (q : ℕ)
-    → let o = 3 * p in
-    wait_at (set (set (set os o n) (o + 1) w.since) (o + 2) w.txn) q ≡ cond (eqb p q) w (wait_at os q)
-stored_wait os p w {n} long h e q = rw (e, add-one (3 * p), add-two (3 * p)) (wait_put os p w long h q)
-
--- ---- records, one list behind another
--- a wait, open or not, is closed by the first records, by those behind them, or by none
-closed_cases : (Q : (all first second left before : Bool) → Type 0) → Q true true false false true
-    → Q true false true true true → ((b : Bool) → Q false false false b b) → (x y b : Bool)
-    → Q ((x || y) && b) (x && b) (y && cond (x && b) false b) (cond (x && b) false b) b
-closed_cases Q f s n true true true = f
-closed_cases Q f s n true false true = f
-closed_cases Q f s n false true true = s
-closed_cases Q f s n false false true = n true
-closed_cases Q f s n true true false = n false
-closed_cases Q f s n true false false = n false
-closed_cases Q f s n false true false = n false
-closed_cases Q f s n false false false = n false
-
-module _ (p : ℕ) (w : Wait) (xs ys : List Record) where
-  abbrev shut : List Record → Bool
-  shut rs = anyb (closes p w.txn) rs
-
-  after-append : wait_after p w (xs ++ ys) ≡ wait_after p (wait_after p w xs) ys
-  after-append =
-      wait_same (ap (λ b. cond (b && w.waits) false w.waits) (any_append (closes p w.txn) xs ys)
-      ∙ closed_cases (λ all first second left before. cond all false before ≡ cond second false left) refl refl
-      (λ _. refl) (shut xs) (shut ys) w.waits) refl refl
-
-  heard-append : (clock : ℕ)
-      → heard_of p clock w (xs ++ ys) ≡ plus (heard_of p clock w xs) (heard_of p clock (wait_after p w xs) ys)
-  heard-append clock =
-      figures-same refl (count-append (is_found_of p) xs ys)
-      (ap (λ b. cond (b && w.waits) (t ∷ []) []) (any_append (closes p w.txn) xs ys)
-      ∙ closed_cases (λ all first second left before. cond all (t ∷ []) []
-      ≡ cond first (t ∷ []) [] ++ cond second (t ∷ []) []) refl refl (λ _. refl) (shut xs) (shut ys) w.waits)
-      ∙ sym (figures-plus 0 _ 0 _ (cond (is_closed p w xs) (t ∷ []) [])
-      (cond (is_closed p (wait_after p w xs) ys) (t ∷ []) []))
+  ended-append : (clock : ℕ) (w : Option Wait)
+      → ended p clock w (xs ++ ys) ≡ ended p clock w xs ++ ended p clock (wait_after p w xs) ys
+  ended-append clock None = refl
+  ended-append clock (Some w) =
+      ap (λ b. cond b (t ∷ []) []) (any_append (closes p w.txn.0) xs ys) ∙ go (anyb (closes p w.txn.0) xs)
     where
       t : ℕ
       t = clock - w.since
 
--- one record
-abbrev is_end : Record → Bool
-is_end a =
-    eqb a.kind kind_found || eqb a.kind kind_nothing || eqb a.kind kind_exception || eqb a.kind kind_aborted
+      go : (b : Bool)
+          → cond (b || anyb (closes p w.txn.0) ys) (t ∷ []) []
+          ≡ cond b (t ∷ []) [] ++ ended p clock (cond b None (Some w)) ys
+      go true = refl
+      go false = refl
 
-pub own-closed : (w : Wait) (a : Record)
-    → (eqb a.txn.0 w.txn && is_end a && w.waits) ≡ is_closed a.party w (a ∷ [])
-own-closed w a =
-    rw (eq-eqb a.party a.party refl) (go (eqb a.txn.0 w.txn) (is_end a) w.waits)
-  where
-    go : (t k b : Bool) → (t && k && b) ≡ (((true && t) && k || false) && b)
-    go true true b = refl
-    go true false b = refl
-    go false k b = refl
+  heard-append : (clock : ℕ) (w : Option Wait)
+      → heard_of p clock w (xs ++ ys) ≡ plus (heard_of p clock w xs) (heard_of p clock (wait_after p w xs) ys)
+  heard-append clock w =
+      figures-same refl (count-append (is_found_of p) xs ys) (ended-append clock w)
+      ∙ sym (figures-plus 0 _ 0 _ (ended p clock w xs) (ended p clock (wait_after p w xs) ys))
 
-pub own-left : (w : Wait) (a : Record) {b : Bool} → b ≡ is_closed a.party w (a ∷ [])
-    → a_wait (w.waits && not b) w.since w.txn ≡ wait_after a.party w (a ∷ [])
-own-left w a {b} e =
-    wait_same (go w.waits b ∙ ap (λ x. cond x false w.waits) e) refl refl
-  where
-    go : (x y : Bool) → (x && not y) ≡ cond y false x
-    go true true = refl
-    go true false = refl
-    go false true = refl
-    go false false = refl
+-- one record, of the party
+module _ (a : Record) {n : ℕ} (e : n ≡ one (eqb a.kind kind_found)) where
+  pub own_found : n ≡ number (is_found_of a.party) (a ∷ [])
+  own_found = e ∙ sym (rw (eq-eqb a.party a.party refl) (go (eqb a.kind kind_found)))
+    where
+      go : (b : Bool) → length (cond b (a ∷ []) []) ≡ one b
+      go true = refl
+      go false = refl
 
-pub own-heard : (w : Wait) (a : Record) (clock : ℕ) {n : ℕ} {b : Bool} → n ≡ one (eqb a.kind kind_found)
-    → is_closed a.party w (a ∷ []) ≡ b
-    → figures_for 0 n (cond b ((clock - w.since) ∷ []) []) ≡ heard_of a.party clock w (a ∷ [])
-own-heard w a clock e q =
-    figures-same refl (e ∙ sym (rw (eq-eqb a.party a.party refl) (go (eqb a.kind kind_found))))
-    (ap (λ x. cond x ((clock - w.since) ∷ []) []) (sym q))
-  where
-    go : (b : Bool) → length (cond b (a ∷ []) []) ≡ one b
-    go true = refl
-    go false = refl
-
-pub own-waited : (w : Wait) (a : Record) (clock : ℕ) {n t : ℕ} → t ≡ clock - w.since
-    → n ≡ one (eqb a.kind kind_found) → is_closed a.party w (a ∷ []) ≡ true
-    → figures_for 0 n (t ∷ []) ≡ heard_of a.party clock w (a ∷ [])
-own-waited w a clock {n} e f q =
-    ap (λ k. figures_for 0 n (k ∷ [])) e ∙ own-heard w a clock {b = true} f q
+  -- it does not close the wait
+  pub open_heard : (w : Wait) → closes a.party w.txn.0 a ≡ false → (clock : ℕ)
+      → figures_for 0 n [] ≡ heard_of a.party clock (Some w) (a ∷ [])
+  open_heard w h clock =
+      figures-same refl own_found (sym (ap (λ b. cond (b || false) ((clock - w.since) ∷ []) []) h))
 
 -- a record of another party, or of none, changes nothing
-module _ (p : ℕ) (w : Wait) (a : Record) (n : a.party ≡ p → ⊥) where
-  not-closed : is_closed p w (a ∷ []) ≡ false
-  not-closed = rw (ne_eqb a.party p n) refl
+module _ (p : ℕ) (a : Record) (n : a.party ≡ p → ⊥) where
+  not-closed : (txn : ℕ) → anyb (closes p txn) (a ∷ []) ≡ false
+  not-closed txn = rw (ne_eqb a.party p n) refl
 
-  pub other_left : wait_after p w (a ∷ []) ≡ w
-  other_left = wait_same (ap (λ b. cond b false w.waits) not-closed) refl refl
+  pub other_left : (w : Option Wait) → wait_after p w (a ∷ []) ≡ w
+  other_left None = refl
+  other_left (Some w) = ap (λ b. cond b None (Some w)) (not-closed w.txn.0)
 
-  pub other_heard : (clock : ℕ) → heard_of p clock w (a ∷ []) ≡ figures_for 0 0 []
-  other_heard clock =
-      figures-same refl (rw (ne_eqb a.party p n) refl) (ap (λ b. cond b ((clock - w.since) ∷ []) []) not-closed)
+  pub other_heard : (clock : ℕ) (w : Option Wait) → heard_of p clock w (a ∷ []) ≡ figures_for 0 0 []
+  other_heard clock w =
+      figures-same refl (rw (ne_eqb a.party p n) refl) (go w)
+    where
+      go : (w : Option Wait) → ended p clock w (a ∷ []) ≡ []
+      go None = refl
+      go (Some w) = ap (λ b. cond b ((clock - w.since) ∷ []) []) (not-closed w.txn.0)
 
 -- a record is heard by its party
-pub heard-own : {clock : ℕ} {r os r' os' : List ℕ} (a : Record) {g : Figures} {w v : Wait} → w ≡ wait_at os a.party
-    → g ≡ heard_of a.party clock w (a ∷ []) → v ≡ wait_after a.party w (a ∷ []) → Gained r (only a.party g) r'
-    → ((q : ℕ) → wait_at os' q ≡ cond (eqb a.party q) v (wait_at os q)) → Heard clock r os (a ∷ []) r' os'
-heard-own {clock} {os = os} a {g} {v = v} e x y gained left =
+pub heard-own : {clock : ℕ} {r r' : List ℕ} (ws : List (Option Wait)) (a : Record) {g : Figures} {v : Option Wait}
+    → a.party < length ws → g ≡ heard_of a.party clock (wait_at ws a.party) (a ∷ [])
+    → v ≡ wait_after a.party (wait_at ws a.party) (a ∷ []) → Gained r (only a.party g) r'
+    → Heard clock r ws (a ∷ []) r' (set ws a.party v)
+heard-own {clock} ws a {g} {v} l x y gained =
     record {
       gained = gained-same (λ p i. eqb_cases
-          (λ b. cond b g (figures_for 0 0 []) ≡ heard_of p clock (wait_at os p) (a ∷ [])) a.party p
-          (λ q. own-figures ∙ ap (λ k. heard_of k clock (wait_at os k) (a ∷ [])) q)
-          (λ n. sym (other_heard p (wait_at os p) a n clock))) gained;
-      left = λ p i. left p
-          ∙ eqb_cases (λ b. cond b v (wait_at os p) ≡ wait_after p (wait_at os p) (a ∷ [])) a.party p
-          (λ q. own_wait ∙ ap (λ k. wait_after k (wait_at os k) (a ∷ [])) q)
-          (λ n. sym (other_left p (wait_at os p) a n));
+          (λ b. cond b g (figures_for 0 0 []) ≡ heard_of p clock (wait_at ws p) (a ∷ [])) a.party p
+          (λ q. x ∙ ap (λ k. heard_of k clock (wait_at ws k) (a ∷ [])) q)
+          (λ n. sym (other_heard p a n clock (wait_at ws p)))) gained;
+      left = λ p i. wait_put ws a.party v l p
+          ∙ eqb_cases (λ b. cond b v (wait_at ws p) ≡ wait_after p (wait_at ws p) (a ∷ [])) a.party p
+          (λ q. y ∙ ap (λ k. wait_after k (wait_at ws k) (a ∷ [])) q)
+          (λ n. sym (other_left p a n (wait_at ws p)));
     }
-  where
-    own-figures : g ≡ heard_of a.party clock (wait_at os a.party) (a ∷ [])
-    own-figures = x ∙ ap (λ u. heard_of a.party clock u (a ∷ [])) e
-
-    own_wait : v ≡ wait_after a.party (wait_at os a.party) (a ∷ [])
-    own_wait = y ∙ ap (λ u. wait_after a.party u (a ∷ [])) e
 
 -- one of no party by nobody
-pub heard_nobody : {clock : ℕ} (r os : List ℕ) (a : Record) → (IsParty a.party → ⊥) → Heard clock r os (a ∷ []) r os
-heard_nobody {clock} r os a no-party =
+pub heard_nobody : {clock : ℕ} (r : List ℕ) (ws : List (Option Wait)) (a : Record) → (IsParty a.party → ⊥)
+    → Heard clock r ws (a ∷ []) r ws
+heard_nobody {clock} r ws a no-party =
     let other : (p : ℕ) → IsParty p → a.party ≡ p → ⊥ = λ p i e. no-party (subst⁻¹ IsParty e i) in
     record {
-      gained = gained-same (λ p i. sym (other_heard p (wait_at os p) a (other p i) clock)) (gained-none r);
-      left = λ p i. sym (other_left p (wait_at os p) a (other p i));
+      gained = gained-same (λ p i. sym (other_heard p a (other p i) clock (wait_at ws p))) (gained-none r);
+      left = λ p i. sym (other_left p a (other p i) (wait_at ws p));
     }
 
-pub heard-none : (clock : ℕ) (r os : List ℕ) → Heard clock r os [] r os
-heard-none clock r os = record { gained = gained-none r; left = λ p i. refl }
+pub heard-none : (clock : ℕ) (r : List ℕ) (os : List (Option Wait)) → Heard clock r os [] r os
+heard-none clock r os =
+    record {
+      gained = gained-same (λ p i. sym (heard_nothing p clock (wait_at os p))) (gained-none r);
+      left = λ p i. sym (left_nothing p (wait_at os p));
+    }
+  where
+    heard_nothing : (p clock : ℕ) (w : Option Wait) → heard_of p clock w [] ≡ figures_for 0 0 []
+    heard_nothing p clock None = refl
+    heard_nothing p clock (Some w) = refl
 
-pub heard-then : {clock : ℕ} {r os r' os' r'' os'' : List ℕ} {xs ys : List Record} → Heard clock r os xs r' os'
+    left_nothing : (p : ℕ) (w : Option Wait) → wait_after p w [] ≡ w
+    left_nothing p None = refl
+    left_nothing p (Some w) = refl
+
+pub heard-then : {clock : ℕ} {r r' r'' : List ℕ} {os os' os'' : List (Option Wait)} {xs ys : List Record}
+    → Heard clock r os xs r' os'
     → Heard clock r' os' ys r'' os'' → Heard clock r os (xs ++ ys) r'' os''
 heard-then {clock} {os = os} {xs = xs} {ys} h k =
     record {
       gained =
           gained-same (λ p i. ap (λ w. plus (heard_of p clock (wait_at os p) xs) (heard_of p clock w ys)) (h.left p i)
-          ∙ sym (heard-append p (wait_at os p) xs ys clock)) (gained-then h.gained k.gained);
+          ∙ sym (heard-append p xs ys clock (wait_at os p))) (gained-then h.gained k.gained);
       left = λ p i. k.left p i ∙ ap (λ w. wait_after p w ys) (h.left p i)
-          ∙ sym (after-append p (wait_at os p) xs ys);
+          ∙ sym (after-append p xs ys (wait_at os p));
     }
 
 -- ---- a step's records in an area, one after another
@@ -245,17 +192,19 @@ pub count-all : (q : Record → Bool) {area : List ℕ} {n : ℕ} {rs : List Rec
     → count q (take i rs) ≡ count q rs
 count-all q i s h = ap (count q) (stand-all i s h)
 
-pub heard-next : {clock : ℕ} {r os r' os' r'' os'' area : List ℕ} {n : ℕ} {rs : List Record} (i : ℕ)
+pub heard-next : {clock : ℕ} {r r' r'' area : List ℕ} {os os' os'' : List (Option Wait)} {n : ℕ} {rs : List Record}
+    (i : ℕ)
     → Stand area n rs → i < n → Heard clock r os (take i rs) r' os' → {a : Record} → a
     ≡ record_at area (record_size * i)
     → Heard clock r' os' (a ∷ []) r'' os'' → Heard clock r os (take (i + 1) rs) r'' os''
-heard-next {clock} {r} {os} {r'' = r''} {os''} {rs = rs} i s h x e y =
+heard-next {clock} {r} {r'' = r''} {os = os} {os'' = os''} {rs = rs} i s h x e y =
     subst⁻¹ (λ qs. Heard clock r os qs r'' os'') (stand-next i s h ∙ ap (λ a. take i rs ++ (a ∷ [])) (sym e))
     (heard-then x y)
 
-pub heard_all : {clock : ℕ} {r os r' os' area : List ℕ} {n : ℕ} {rs : List Record} (i : ℕ) → Stand area n rs → n ≤ i
+pub heard_all : {clock : ℕ} {r r' area : List ℕ} {os os' : List (Option Wait)} {n : ℕ} {rs : List Record} (i : ℕ)
+    → Stand area n rs → n ≤ i
     → Heard clock r os (take i rs) r' os' → Heard clock r os rs r' os'
-heard_all {clock} {r} {os} {r'} {os'} i s h x = subst (λ qs. Heard clock r os qs r' os') (stand-all i s h) x
+heard_all {clock} {r} {r'} {os = os} {os'} i s h x = subst (λ qs. Heard clock r os qs r' os') (stand-all i s h) x
 
 -- some are of a kind, or none is
 pub any-count : {A : Type 0} (q : A → Bool) (xs : List A) → anyb q xs ≡ not (eqb (count q xs) 0)
@@ -294,10 +243,14 @@ is_in_lem p e =
 pub is_out : (p : ℕ) → is_in p ≡ false → IsParty p → ⊥
 is_out p e h = true≢false (sym (rw (le-leb 1 p h.first, le-leb p max_party h.last) refl) ∙ e)
 
+abbrev since_in : ℕ → ℕ → Option Wait
+since_in clock txn = Some (record { since = clock; txn = record { 0 = txn } })
+
 module _ (l : Logged) {op party : ℕ} (is-op : op ≡ (decode l.frame).op)
     (is_party : party ≡ (decode l.frame).party) where
   -- a look-up: whether it is refused, and whether it waits
-  pub asked_so : {clock k : ℕ} {r os r' os' : List ℕ} {g : Figures} {b : Bool} → is_look_up op ≡ true
+  pub asked_so : {clock k : ℕ} {r r' : List ℕ} {os os' : List (Option Wait)} {g : Figures} {b : Bool}
+      → is_look_up op ≡ true
       → k ≡ one (not (was_refused l.records)) → g ≡ figures_for k 0 [] → Gained r (only party g) r'
       → anyb (λ (a : Record). eqb a.kind kind_waiting) l.records ≡ b
       → ((q : ℕ) → wait_at os' q ≡ cond (eqb party q && b) (begun clock l) (wait_at os q)) → Asked clock r os l r' os'
@@ -327,21 +280,22 @@ module _ (l : Logged) {op party : ℕ} (is-op : op ≡ (decode l.frame).op)
       → anyb (λ (a : Record). eqb a.kind kind_waiting) l.records ≡ not (eqb n 0)
   said n c = any-count (λ (a : Record). eqb a.kind kind_waiting) l.records ∙ ap (λ i. not (eqb i 0)) (sym c)
 
-  pub asked-waits : {clock k n txn : ℕ} {r os r' os' : List ℕ} {g : Figures} → is_look_up op ≡ true
+  pub asked-waits : {clock k n txn : ℕ} {r r' : List ℕ} (os : List (Option Wait)) {g : Figures} → party < length os
+      → is_look_up op ≡ true
       → k ≡ one (not (was_refused l.records)) → g ≡ figures_for k 0 [] → Gained r (only party g) r'
       → n ≡ count (λ (a : Record). eqb a.kind kind_waiting) l.records → (n ≡ 0 → ⊥) → txn ≡ (decode l.frame).txn
-      → ((q : ℕ) → wait_at os' q ≡ cond (eqb party q) (a_wait true clock txn) (wait_at os q))
-      → Asked clock r os l r' os'
-  asked-waits {clock} {n = n} {txn} {os = os} t e x gained c d z left =
+      → Asked clock r os l r' (set os party (since_in clock txn))
+  asked-waits {clock} {n = n} {txn} os long t e x gained c d z =
       asked_so {b = true} t e x gained (said n c ∙ ap not (ne_eqb n 0 d))
-      (λ q. left q ∙ go (eqb party q) q ∙ ap (λ i. cond (eqb party q && true) (a_wait true clock i) (wait_at os q)) z)
+      (λ q. wait_put os party (since_in clock txn) long q ∙ go (eqb party q) q
+      ∙ ap (λ i. cond (eqb party q && true) (since_in clock i) (wait_at os q)) z)
     where
       go : (b : Bool) (q : ℕ)
-          → cond b (a_wait true clock txn) (wait_at os q) ≡ cond (b && true) (a_wait true clock txn) (wait_at os q)
+          → cond b (since_in clock txn) (wait_at os q) ≡ cond (b && true) (since_in clock txn) (wait_at os q)
       go true q = refl
       go false q = refl
 
-  pub asked-answered : {clock k n : ℕ} {r r' : List ℕ} {g : Figures} (os : List ℕ) → is_look_up op ≡ true
+  pub asked-answered : {clock k n : ℕ} {r r' : List ℕ} {g : Figures} (os : List (Option Wait)) → is_look_up op ≡ true
       → k ≡ one (not (was_refused l.records)) → g ≡ figures_for k 0 [] → Gained r (only party g) r'
       → n ≡ count (λ (a : Record). eqb a.kind kind_waiting) l.records → n ≡ 0 → Asked clock r os l r' os
   asked-answered {clock} {n = n} os t e x gained c d =
@@ -352,7 +306,8 @@ module _ (l : Logged) {op party : ℕ} (is-op : op ≡ (decode l.frame).op)
       go false q = refl
 
   -- no look-up, or one of no party
-  pub not-asked : (clock : ℕ) (r os : List ℕ) → (is_look_up op && is_in party) ≡ false → Asked clock r os l r os
+  pub not-asked : (clock : ℕ) (r : List ℕ) (os : List (Option Wait)) → (is_look_up op && is_in party) ≡ false
+      → Asked clock r os l r os
   unfolding waits
   not-asked clock r os e =
       record {
@@ -375,36 +330,23 @@ module _ (l : Logged) {op party : ℕ} (is-op : op ≡ (decode l.frame).op)
           (λ q. ap (λ x. x && b) (ap is_look_up (sym is-op) ∙ out (subst⁻¹ IsParty (is_party ∙ q) i)))
           (λ _. refl)
 
--- ---- the records of a frame, and its look-up
-pub noted : {clock clock' : ℕ} {r os r' os' r'' os'' : List ℕ} {l : Logged} → clock' ≡ clock + ticks l
-    → Heard clock' r os l.records r' os' → Asked clock' r' os' l r'' os'' → Noted clock r os l clock' r'' os''
-noted {clock' = clock'} {l = l} e h k =
-    record {
-      clock_on = e;
-      gained = gained-then h.gained k.gained;
-      left = λ p i. k.left p i ∙ ap (begins_if p clock' l) (h.left p i);
-    }
-
 -- ---- the waits that are open end
-pub left_open : (clock p : ℕ) (os : List ℕ) {t : ℕ} {r r' : List ℕ} {w : Wait} {g : Figures} → w ≡ wait_at os p
-    → w.waits ≡ true → g ≡ figures_for 0 0 (t ∷ []) → t ≡ clock - w.since → Gained r (only p g) r'
+pub left_open : (clock p : ℕ) (os : List (Option Wait)) {r r' : List ℕ} {w : Wait} {g : Figures} → wait_at os p ≡ Some w
+    → g ≡ figures_for 0 0 ((clock - w.since) ∷ []) → Gained r (only p g) r'
     → Gained r (only p (left_of clock (wait_at os p))) r'
-left_open clock p os {w = w} e b x y =
-    gained-same (λ q i. ap (λ k. only p k q) (x ∙ ap (λ n. figures_for 0 0 (n ∷ [])) y
-    ∙ ap (λ c. figures_for 0 0 (cond c ((clock - w.since) ∷ []) [])) (sym b) ∙ ap (left_of clock) e))
+left_open clock p os e x = gained-same (λ q i. ap (λ k. only p k q) (x ∙ ap (left_of clock) (sym e)))
 
-pub left_shut : (clock p : ℕ) (os r : List ℕ) {w : Wait} → w ≡ wait_at os p → w.waits ≡ false
+pub left_shut : (clock p : ℕ) (os : List (Option Wait)) (r : List ℕ) → wait_at os p ≡ None
     → Gained r (only p (left_of clock (wait_at os p))) r
-left_shut clock p os r {w} e b =
-    gained-same (λ q i. go (eqb p q) ∙ ap (λ k. only p k q)
-    (ap (λ c. figures_for 0 0 (cond c ((clock - w.since) ∷ []) [])) (sym b) ∙ ap (left_of clock) e)) (gained-none r)
+left_shut clock p os r e =
+    gained-same (λ q i. go (eqb p q) ∙ ap (λ k. only p k q) (ap (left_of clock) (sym e))) (gained-none r)
   where
     go : (x : Bool) → figures_for 0 0 [] ≡ cond x (figures_for 0 0 []) (figures_for 0 0 [])
     go true = refl
     go false = refl
 
 -- those of the parties before one
-module _ (clock : ℕ) (os : List ℕ) where
+module _ (clock : ℕ) (os : List (Option Wait)) where
   abbrev pub ended_to : ℕ → ℕ → Figures
   ended_to n p = cond (ltb p n) (left_of clock (wait_at os p)) (figures_for 0 0 [])
 
@@ -439,64 +381,64 @@ module _ (clock : ℕ) (os : List ℕ) where
       (lt-ltb p n (let l = i.last in omega arith)))
 
 -- ---- what is still to come
-pub rest_none : (p clock : ℕ) (w : Wait) → rest_of p clock w [] ≡ left_of clock w
+pub rest_none : (p clock : ℕ) (w : Option Wait) → rest_of p clock w [] ≡ left_of clock w
 unfolding asked_by founds_of waits_of waited records_of
-rest_none p clock w = figures-same refl refl (go w.waits)
+rest_none p clock w =
+    figures-same refl refl (go w)
   where
-    go : (b : Bool) → cond b ((clock - w.since + 0) ∷ []) [] ++ [] ≡ cond b ((clock - w.since) ∷ []) []
-    go true = let e : clock - w.since + 0 ≡ clock - w.since = omega arith in ap (λ n. n ∷ []) e
-    go false = refl
+    go : (w : Option Wait) → pending p clock w [] ++ [] ≡ open_for clock w
+    go None = refl
+    go (Some w) = let e : clock - w.since + 0 ≡ clock - w.since = omega arith in ap (λ n. n ∷ []) e
 
 -- a frame, and what comes behind it: where a party that waits begins no other wait
-module _ (p clock : ℕ) (w : Wait) (l : Logged) (later : List Logged) (sooner : w.waits ≡ true → w.since ≤ clock)
-    (once : w.waits ≡ true → (is_of p l && waits l) ≡ false) where
+module _ (p clock : ℕ) (l : Logged) (later : List Logged) where
   abbrev after : ℕ
   after = clock + ticks l
 
   abbrev begins : Bool
   begins = is_of p l && waits l
 
-  waits_split : pending p clock w (l ∷ later) ++ waits_of p (l ∷ later)
-      ≡ (cond (is_closed p w l.records) ((after - w.since) ∷ []) [] ++ [])
+  waits_split : (w : Option Wait) → ((u : Wait) → w ≡ Some u → u.since ≤ clock)
+      → ((u : Wait) → w ≡ Some u → begins ≡ false)
+      → pending p clock w (l ∷ later) ++ waits_of p (l ∷ later)
+      ≡ (ended p after w l.records ++ [])
       ++ (pending p after (next_wait p after w l) later ++ waits_of p later)
   unfolding waits_of waited
-  waits_split = go w.waits (anyb (closes p w.txn) l.records) begins sooner once
+  waits_split None s o =
+      go begins
     where
-      opened : waited p (decode l.frame).txn later ∷ waits_of p later
-          ≡ (after - after + waited p (decode l.frame).txn later) ∷ waits_of p later
-      opened =
+      go : (n : Bool) → cond n (waited p (decode l.frame).txn later ∷ waits_of p later) (waits_of p later)
+          ≡ pending p after (cond n (begun after l) None) later ++ waits_of p later
+      go true =
           let e : waited p (decode l.frame).txn later ≡ after - after + waited p (decode l.frame).txn later =
           omega arith in
           ap (λ k. k ∷ waits_of p later) e
-
-      go : (b x n : Bool) → (b ≡ true → w.since ≤ clock) → (b ≡ true → n ≡ false)
-          → cond b ((clock - w.since + (ticks l + cond x 0 (waited p w.txn later))) ∷ []) []
-          ++ cond n (waited p (decode l.frame).txn later ∷ waits_of p later) (waits_of p later)
-          ≡ (cond (x && b) ((after - w.since) ∷ []) [] ++ [])
-          ++ (pending p after (cond n (begun after l) (a_wait (cond (x && b) false b) w.since w.txn)) later
-          ++ waits_of p later)
-      go true x true s o = absurd (true≢false (o refl))
-      go true true false s o =
-          let h = s refl in
-          let e : clock - w.since + (ticks l + 0) ≡ after - w.since = omega arith in
-          ap (λ k. k ∷ waits_of p later) e
-      go true false false s o =
-          let h = s refl in
-          let e : clock - w.since + (ticks l + waited p w.txn later) ≡ after - w.since + waited p w.txn later =
+      go false = refl
+  waits_split (Some w) s o =
+      go (anyb (closes p w.txn.0) l.records) begins (s w refl) (o w refl)
+    where
+      go : (x n : Bool) → w.since ≤ clock → n ≡ false
+          → (clock - w.since + (ticks l + cond x 0 (waited p w.txn.0 later)))
+          ∷ cond n (waited p (decode l.frame).txn later ∷ waits_of p later) (waits_of p later)
+          ≡ (cond x ((after - w.since) ∷ []) [] ++ [])
+          ++ (pending p after (cond n (begun after l) (cond x None (Some w))) later ++ waits_of p later)
+      go x true h e = absurd (true≢false e)
+      go true false h e =
+          let k : clock - w.since + (ticks l + 0) ≡ after - w.since = omega arith in
+          ap (λ i. i ∷ waits_of p later) k
+      go false false h e =
+          let k : clock - w.since + (ticks l + waited p w.txn.0 later) ≡ after - w.since + waited p w.txn.0 later =
           omega arith in
-          ap (λ k. k ∷ waits_of p later) e
-      go false true true s o = opened
-      go false false true s o = opened
-      go false true false s o = refl
-      go false false false s o = refl
+          ap (λ i. i ∷ waits_of p later) k
 
-  pub rest_more : rest_of p clock w (l ∷ later)
-      ≡ plus (gain_of p after w l) (rest_of p after (next_wait p after w l) later)
+  pub rest_more : (w : Option Wait) → ((u : Wait) → w ≡ Some u → u.since ≤ clock)
+      → ((u : Wait) → w ≡ Some u → begins ≡ false)
+      → rest_of p clock w (l ∷ later) ≡ plus (gain_of p after w l) (rest_of p after (next_wait p after w l) later)
   unfolding asked_by founds_of records_of
-  rest_more =
-      figures-same asked founds waits_split
+  rest_more w s o =
+      figures-same asked founds (waits_split w s o)
       ∙ sym (ap (λ x. plus x (rest_of p after (next_wait p after w l) later))
-      (figures-plus 0 _ _ 0 (cond (is_closed p w l.records) ((after - w.since) ∷ []) []) [])
+      (figures-plus 0 _ _ 0 (ended p after w l.records) [])
       ∙ figures-plus _ _ _ _ _ _)
     where
       asked : asked_by p (l ∷ later) ≡ 0 + one (is_of p l && is_asked l) + asked_by p later

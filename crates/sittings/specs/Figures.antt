@@ -1,14 +1,11 @@
 -- The figures of a party: of a history, added, and as they stand in the words of a report.
-use Rattle.std.specs.Prelude.{◌≡◌, ℕ, ◌+◌, ◌-◌, ◌*◌, ◌%◌, ◌<◌, cond, List, [], ◌∷◌, length, ◌==◌, nat_le, slice_index}
+use Rattle.std.specs.Prelude.{◌≡◌, ℕ, ◌+◌, ◌-◌, ◌*◌, ◌%◌, ◌<◌, max, cond, List, [], ◌∷◌, length, ◌==◌, slice_index}
 use Rattle.std.proofs.lemmas.List.Edits.{sets}
 use Rattle.rules.specs.Sound.{IsParty}
 use Rattle.rules.specs.SerialRun.{Logged}
 use Rattle.sittings.specs.declared.figures.Figures.{Figures}
 use Rattle.sittings.specs.Waits.{waits_of, asked_by, founds_of}
 use Rattle.sittings.specs.Report.{sum, greatest}
-
-abbrev pub greater : ℕ → ℕ → ℕ
-greater a b = cond (nat_le a b) b a
 
 abbrev pub five : ℕ → ℕ → ℕ → ℕ → ℕ → Figures
 five a f l t n = record { asked = a; founds = f; longest = l; total = t; count = n }
@@ -24,7 +21,7 @@ figures_of p log = figures_for (asked_by p log) (founds_of p log) (waits_of p lo
 -- both together
 abbrev pub plus : Figures → Figures → Figures
 plus a b =
-    five (a.asked + b.asked) (a.founds + b.founds) (greater a.longest b.longest) (a.total + b.total)
+    five (a.asked + b.asked) (a.founds + b.founds) (max a.longest b.longest) (a.total + b.total)
     (a.count + b.count)
 
 -- sums wrap at 2^32

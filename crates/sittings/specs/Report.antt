@@ -1,6 +1,6 @@
 -- The report over trays, and what handing one in does to it (document 02, T-14).
-use Rattle.std.specs.Prelude.{◌≡◌, ℕ, ◌+◌, ◌*◌, ◌<◌, ◌≤◌, Bool, true, false, cond, List, [], ◌∷◌, ◌++◌, map, length}
-use Rattle.std.specs.Prelude.{drop, ◌==◌, ◌≢◌, nat_eq, nat_le, slice_index, slice_index_or}
+use Rattle.std.specs.Prelude.{◌≡◌, ℕ, ◌+◌, ◌*◌, ◌<◌, ◌≤◌, max, Bool, true, false, cond, List, [], ◌∷◌, ◌++◌, map}
+use Rattle.std.specs.Prelude.{length, drop, ◌==◌, ◌≢◌, nat_eq, slice_index, slice_index_or}
 use Rattle.rules.specs.Lists.{filterb, joined}
 use Rattle.rules.specs.Numbers.{sittings_refused}
 use Rattle.rules.specs.Tray.{tray_refusal}
@@ -19,7 +19,7 @@ sum (n ∷ ns) = n + sum ns
 -- "(0 if none)"
 unfoldable pub greatest : List ℕ → ℕ
 greatest [] = 0
-greatest (n ∷ ns) = let rest = greatest ns in cond (nat_le n rest) rest n
+greatest (n ∷ ns) = max n (greatest ns)
 
 abbrev pub is_refused : List ℕ → Bool
 is_refused tray = cond (tray_refusal tray == 0) false true

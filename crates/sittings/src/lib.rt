@@ -5,13 +5,13 @@ mod figures;
 mod records;
 mod sitting;
 mod waits;
+mod watch;
 
 ghost use Rattle.sittings.specs.Report.{Added, report_of};
-ghost use Rattle.std.specs.Prelude.{◌≡◌, [], length};
+ghost use Rattle.std.specs.Prelude.{◌≡◌, []};
 
-use rules::numbers::SITTINGS_REFUSED;
+use rules::Refusal;
 use sitting::add_sitting;
-use std::num::wrapping_add_u32;
 use tray::pairs::refusal;
 
 pub const REPORT: usize = 82;
@@ -29,14 +29,6 @@ const MAX_SITTINGS: u32 = 64;
 // The unit of the number that is returned.
 const NUMBER: u64 = 65536;
 
-// Does nothing. A call tells the proof of what stands around it how many words there are, which it has from no index.
-pub(crate) fn whole(report: &Report)
-    ensures { length report.now ≡ 82 }
-{
-    let all = &report[..];
-    all.len();
-}
-
 // No tray has been handed in.
 pub fn set_empty(report: &mut Report)
     ensures { report.new ≡ report_of [] }
@@ -45,20 +37,22 @@ pub fn set_empty(report: &mut Report)
 }
 
 // A tray is handed in: 65,536 × 25 where 64 were handed in already, 65,536 × 15 or 16 for a refused one, else 0.
+// Kept: a number, since the space hands it on to C as it is.
 pub fn add(report: &mut Report, tray: &[u8]) -> u64
     ensures { Added report.old tray.now result report.new }
 {
-    whole(report);
     if MAX_SITTINGS <= report[HANDED_AT] {
-        return NUMBER * SITTINGS_REFUSED as u64;
+        return NUMBER * u64::from(Refusal::Sittings.number());
     }
     report[HANDED_AT] += 1;
-    let number = refusal(tray);
-    if number != 0 {
-        report[REFUSED_AT] = wrapping_add_u32(report[REFUSED_AT], 1);
-        return NUMBER * number as u64;
+    match refusal(tray) {
+        Ok(()) => {
+            add_sitting(report, tray);
+            0
+        }
+        Err(refused) => {
+            report[REFUSED_AT] = report[REFUSED_AT].wrapping_add(1);
+            NUMBER * u64::from(refused.number())
+        }
     }
-    add_sitting(report, tray);
-    whole(report);
-    0
 }

@@ -1,60 +1,64 @@
 // The waits of the parties while a tray is run.
-ghost use Rattle.std.specs.Prelude.{◌≡◌, ◌-◌, ◌≤◌, length, if◌then◌else◌, nat_eq};
-ghost use Rattle.rules.specs.Numbers.{max_party};
-ghost use Rattle.sittings.specs.Watch.{wait_at};
+ghost use Rattle.std.specs.Prelude.{◌≡◌, ◌-◌, [], ◌∷◌};
+ghost use Rattle.demands.specs.Answers.{closes};
+ghost use Rattle.sittings.specs.Watch.{heard_of, wait_after};
 
-use crate::figures::one_if;
-use rules::numbers::MAX_PARTY;
+use crate::figures::Figures;
+use rules::numbers::{KIND_ABORTED, KIND_EXCEPTION, KIND_FOUND, KIND_NOTHING, MAX_PARTY};
+use rules::{Record, TxnId};
 
-// Three words for each party, those of party 0 nobody's.
-const WIDTH: usize = 3;
-
-pub const WAITS: usize = WIDTH * (MAX_PARTY as usize + 1);
-
-pub type Waits = [u32; WAITS];
-
+// A look-up that waits: since which clock, and in which transaction.
 #[derive(Clone, Copy)]
 pub struct Wait {
-    // Whether the party waits, since which clock, and in which transaction.
-    pub waits: bool,
     pub since: u32,
-    pub txn: u32,
+    pub txn: TxnId,
 }
 
-// Does nothing. A call tells the proof of what stands around it how many words there are, which it has from no index.
-fn whole(waits: &Waits)
-    ensures { length waits.now ≡ 51 }
-{
-    let all = &waits[..];
-    all.len();
-}
+// Of each party the wait that is open, at the party's number; the one at 0 is nobody's.
+pub type Waits = [Option<Wait>; WAITS];
 
-pub(crate) fn wait_at(waits: &Waits, party: u8) -> Wait
-    requires { party ≤ max_party }
-    ensures { result ≡ wait_at waits.now party }
-{
-    let at = WIDTH * party as usize;
-    Wait {
-        waits: waits[at] == 1,
-        since: waits[at + 1],
-        txn: waits[at + 2],
+pub const WAITS: usize = MAX_PARTY as usize + 1;
+
+impl Wait {
+    // Its ticks up to a clock.
+    pub(crate) fn ticks(self, clock: u32) -> u32
+        ensures { result ≡ clock - self.since }
+    {
+        clock.saturating_sub(self.since)
+    }
+
+    // Whether a record of the party that waits closes it.
+    fn is_closed_by(self, a: Record) -> bool
+        ensures { result ≡ closes a.party self.txn.0 a }
+    {
+        a.txn == self.txn
+            && matches!(
+                a.kind,
+                KIND_FOUND | KIND_NOTHING | KIND_EXCEPTION | KIND_ABORTED
+            )
     }
 }
 
-pub(crate) fn set_wait(waits: &mut Waits, party: u8, w: Wait)
-    requires { party ≤ max_party }
-    ensures { (q : _) → wait_at waits.new q ≡ (if nat_eq party q then w else wait_at waits.old q) }
+// What a record adds to its party's figures, and what it leaves of its party's wait.
+pub(crate) fn heard(wait: Option<Wait>, a: Record, clock: u32) -> (Figures, Option<Wait>)
+    ensures figures { result.0 ≡ heard_of a.party clock wait (a ∷ []) }
+    ensures left { result.1 ≡ wait_after a.party wait (a ∷ []) }
 {
-    whole(waits);
-    let at = WIDTH * party as usize;
-    waits[at] = one_if(w.waits);
-    waits[at + 1] = w.since;
-    waits[at + 2] = w.txn;
-}
-
-// The ticks from a clock to a later one.
-pub(crate) fn ticks_between(since: u32, clock: u32) -> u32
-    ensures { result ≡ clock - since }
-{
-    if since <= clock { clock - since } else { 0 }
+    let founds = u32::from(a.kind == KIND_FOUND);
+    match wait {
+        Some(open) if open.is_closed_by(a) => {
+            let more = Figures {
+                founds,
+                ..Figures::of_wait(open.ticks(clock))
+            };
+            (more, None)
+        }
+        _ => {
+            let more = Figures {
+                founds,
+                ..Figures::default()
+            };
+            (more, wait)
+        }
+    }
 }

@@ -7,7 +7,7 @@ ghost use Rattle.rules.specs.Allowed.{Stepped, TrayRan};
 ghost use Rattle.rules.specs.Places.{place_of_time, time_of_place, mirrored_place};
 ghost use Rattle.rules.specs.State.{empty};
 ghost use Rattle.rules.specs.Words.{view};
-ghost use Rattle.words.specs.Rows.{empty_words};
+ghost use Rattle.tables.specs.Rows.{empty_words};
 ghost use Rattle.bounds.specs.Bounds.{bounds_number};
 ghost use Rattle.trial.specs.Trial.{Tried};
 ghost use Rattle.sittings.specs.Report.{Added, report_of};

@@ -7,7 +7,7 @@ use lib.ListN.{length, take}
 use Rattle.rules.specs.declared.Mark.{Mark}
 use Rattle.rules.specs.declared.Record.{Record}
 use Rattle.rules.specs.declared.Request.TheVariants.{Write, Commit}
-use Rattle.rules.specs.declared.Decoded.TheVariants.{Asks}
+use Rattle.std.specs.Prelude.{Ok}
 use Rattle.rules.specs.declared.TxnId.{TxnId}
 use Rattle.rules.specs.declared.WriteRequest.{WriteRequest}
 use Rattle.rules.specs.Done.{ending_with}
@@ -28,8 +28,7 @@ use Rattle.rules.proofs.RefusalLaws.{clear}
 use Rattle.rules.proofs.ViewLaws.{view-bounded}
 use Rattle.sound.proofs.Events.{Admitted}
 use Rattle.sound.proofs.EventsProof.{admitted}
-use Rattle.holds.specs.declared.registry.Public.TheVariants.{Written, Committed}
-use Rattle.holds.specs.Registry.{count_of, heard_once, heard_by}
+use Rattle.holds.specs.Registry.{heard_once, heard_by, match_count, own_matching}
 use Rattle.holds.specs.Sweep.{SameBefore}
 use Rattle.holds.proofs.RegistryLaws.{heard_by_lem}
 use Rattle.finish.specs.Bells.{rung_by, heard_for, rung_for, served_and_rung}
@@ -43,7 +42,7 @@ use Rattle.step.proofs.KindLaws.{write-serves, commit-ends}
 use Rattle.step.proofs.SteppedLaws.{bells, asked, asked-frame, ends_same, stepped-sound, stepped-rung}
 
 -- a transaction that commits has a number
-live : (ws bs area : List ℕ) {party : ℕ} {id : TxnId} → step_area ≤ length area → Decodes bs (Asks (Commit party id))
+live : (ws bs area : List ℕ) {party : ℕ} {id : TxnId} → step_area ≤ length area → Decodes bs (Ok (Commit party id))
     → space_refusal (view ws) (frame_of (Commit party id)) ≡ 0 → Sound (view ws) → 0 < id.0
 unfolding layout_of
 live ws bs area h d e s =
@@ -55,7 +54,7 @@ live ws bs area h d e s =
 
 -- service and bells of a write, by the rules
 rung-write : (m : Model) (w : WriteRequest) (k : ℕ) → w.txn.0 ≡ 0 → (w.lease ≡ 0 → ⊥) → Sound m
-    → served_and_rung (Written (mark_of w.blanks w.fields)) k (write m (frame_of (Write w))).model
+    → served_and_rung (match_count (mark_of w.blanks w.fields)) k (write m (frame_of (Write w))).model
     ≡ ending_with (bells m (frame_of (Write w))) (service_from k (write_frame m (frame_of (Write w))).model)
 unfolding served_and_rung write
 rung-write m w k out lasts s =
@@ -63,36 +62,36 @@ rung-write m w k out lasts s =
 
 module _ {ws bs area ws' area' : List ℕ} {returned : ℕ} (h : step_area ≤ length area) where
   -- ---- a write outside transactions, with a lease
-  module _ {w : WriteRequest} (d : Decodes bs (Asks (Write w))) (e : space_refusal (view ws) (frame_of (Write w)) ≡ 0)
+  module _ {w : WriteRequest} (d : Decodes bs (Ok (Write w))) (e : space_refusal (view ws) (frame_of (Write w)) ≡ 0)
       (out : w.txn.0 ≡ 0) (lasts : w.lease ≡ 0 → ⊥) where
     pub stepped-written : {ws₁ a₁ : List ℕ} {own : Record} {n : ℕ} {fields : Mark} (k : ℕ)
         → Carries (write (view ws) (frame_of (Write w))) ws₁ own × SameBefore k (view ws) (view ws₁)
         → Adds (own ∷ []) area a₁ 0 n → fields ≡ mark_of w.blanks w.fields
-        → Does (served_and_rung (Written fields) k (view ws₁)) ws' a₁ area' n returned
+        → Does (served_and_rung (match_count fields) k (view ws₁)) ws' a₁ area' n returned
         → Stepped ws bs area ws' returned area'
     unfolding own_part write_frame write stored heard_of
     stepped-written {ws₁} {fields = fields} k c a q f =
         let g = frame_of (Write w) in
         let m = view ws in
         let n = (write m g).model in
-        stepped-sound h d (served_and_rung (Written fields) k (view ws₁)) e (λ _. c.0.own) a
+        stepped-sound h d (served_and_rung (match_count fields) k (view ws₁)) e (λ _. c.0.own) a
         (λ s.
         let own = (own_part m g).model in
         let fit : Bounded own =
         heard-fits (made_public m g) n (subst Bounded c.0.model (view-bounded ws₁)) in
         let same : SameBefore k m own = subst (SameBefore k m) c.0.model c.1 in
-        ap₂ (λ p o. served_and_rung (Written p) k o) q c.0.model
+        ap₂ (λ p o. served_and_rung (match_count p) k o) q c.0.model
         ∙ rung-write m w k out lasts s
         ∙ ap (ending_with (bells m g))
         (sym (service-ends k own)
         ∙ ends_same m (length area) (asked m bs (length area) h d ∙ e) d s k Service (write-serves w out) same fit)) f
 
   -- ---- a commit
-  module _ {party : ℕ} {id : TxnId} (d : Decodes bs (Asks (Commit party id)))
+  module _ {party : ℕ} {id : TxnId} (d : Decodes bs (Ok (Commit party id)))
       (e : space_refusal (view ws) (frame_of (Commit party id)) ≡ 0) where
     pub stepped-committed : (ws₁ ws₂ cs : List ℕ) {a₁ a₂ : List ℕ} {own : Record} {n j : ℕ} (k : ℕ)
         → take (length (view ws).registrations) cs
-        ≡ map (count_of (Committed id) (view ws).entries) (view ws).registrations
+        ≡ map (own_matching id.0 (view ws).entries) (view ws).registrations
         → (view ws₁ ≡ commit id.0 (view ws)) × (own ≡ committed (frame_of (Commit party id)))
         × SameBefore k (view ws) (view ws₁)
         → view ws₂ ≡ with_registrations (heard_by (view ws₁).next_entry cs (view ws₁).registrations) (view ws₁)
@@ -104,7 +103,7 @@ module _ {ws bs area ws' area' : List ℕ} {returned : ℕ} (h : step_area ≤ l
         let m = view ws in
         let g = frame_of (Commit party id) in
         let o = commit id.0 m in
-        let v = count_of (Committed id) m.entries in
+        let v = own_matching id.0 m.entries in
         let now : view ws₂ ≡ heard_for v o =
         heard
         ∙ ap (λ (x : Model). with_registrations (heard_by x.next_entry cs x.registrations) x) c.0

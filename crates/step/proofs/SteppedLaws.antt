@@ -5,12 +5,14 @@ use mathlib.Core.Option.{none, some}
 use mathlib.Core.Path.{◌≡◌, refl, sym, ap, ap₂, ◌∙◌, subst, subst⁻¹}
 use mathlib.Core.List.{List, [], ◌∷◌, ◌++◌, append-nil}
 use native.Mathlib.Omega.{arith}
-use borrow.Author.Tests.{ne_eqb, eqb-false, lt-ltb, le-ltb}
+use borrow.Author.Tests.{ne_eqb, lt-ltb, le-ltb}
 use lib.Dec.{eqb, ltb}
 use lib.ListN.{length}
 use Rattle.rules.specs.declared.Record.{Record}
 use Rattle.rules.specs.declared.Request.{Request}
-use Rattle.rules.specs.declared.Decoded.TheVariants.{Asks, Refused}
+use Rattle.std.specs.Prelude.{Result, Ok, Err, IsErrAnd}
+use Rattle.std.proofs.lemmas.Result.{err_from_is_err_and}
+use Rattle.rules.specs.declared.refusal.Refusal.{Refusal}
 use Rattle.rules.specs.Numbers.{step_area, record_size, area_refused}
 use Rattle.rules.specs.State.{Model, Bounded}
 use Rattle.rules.specs.Frame.{Frame, decode, is_operation}
@@ -18,7 +20,7 @@ use Rattle.rules.specs.Done.{Done, ending_with}
 use Rattle.rules.specs.Notify.{made_public, ringing}
 use Rattle.rules.specs.Records.{refused, answer_bytes, area_after}
 use Rattle.rules.specs.Refusals.{wrong_party, form_rows, admission_rows, room_rows, refusal}
-use Rattle.rules.specs.Requests.{frame_of, form_refusal, space_refusal, Decodes}
+use Rattle.rules.specs.Requests.{frame_of, number, form_refusal, space_refusal, Decodes}
 use Rattle.rules.specs.Step.{Outcome, step, own_part, finish, carried_out, refused_with, accepted}
 use Rattle.rules.specs.Sound.{Sound}
 use Rattle.rules.specs.Words.{view}
@@ -32,14 +34,15 @@ use Rattle.sound.proofs.Events.{Admitted}
 use Rattle.sound.proofs.EventsProof.{admitted}
 use Rattle.holds.specs.Sweep.{SameBefore}
 use Rattle.finish.specs.Does.{Adds, Does}
-use Rattle.step.specs.Carries.{Carries}
+use Rattle.hints.specs.declared.known.Hints.{Hints}
+use Rattle.step.specs.Carries.{Carries, Unchanged, Taken, FrameTaken}
 use Rattle.judge.specs.Judge.{ReadyFor}
-use Rattle.finish.specs.Ending.{Ending, EndsAs, finished_by}
-use Rattle.finish.proofs.AddsLaws.{adds_then, does-ending}
-use Rattle.finish.proofs.FinishLaws.{finish-same}
+use Rattle.finish.specs.Ending.{Ending, EndsAs, Quiet, finished_by}
+use Rattle.finish.proofs.AddsLaws.{adds_then, does-ending, does-nothing, does_as}
+use Rattle.finish.proofs.FinishLaws.{finish-same, quiet-ends}
 
 -- ---- which refusal applies
-pub asked-frame : {bs : List ℕ} {q : Request} → Decodes bs (Asks q) → frame_of q ≡ decode bs
+pub asked-frame : {bs : List ℕ} {q : Request} → Decodes bs (Ok q) → frame_of q ≡ decode bs
 asked-frame {bs} d = same (d.frame ∙ ap (λ n. cond (eqb n 0) (some (decode bs)) none) (sym d.number))
   where
     same : {f g : Frame} → some f ≡ some g → f ≡ g
@@ -64,11 +67,9 @@ module _ (m : Model) (bs : List ℕ) (area : ℕ) where
         (λ e. form_not-area bs)
 
     -- the decoder refuses
-    pub form_refused : {n : ℕ} → Decodes bs (Refused n) → (refusal m bs area ≡ n) × (n ≡ 0 → ⊥)
-    form_refused d = (
-      is_judged ∙ ap (λ b. cond b (space_refusal m (decode bs)) (form_refusal bs)) not_zero ∙ sym d.number,
-      λ z. eqb-false (form_refusal bs) 0 not_zero (sym d.number ∙ z),
-    )
+    pub form_refused : {r : Refusal} → Decodes bs (Err r) → refusal m bs area ≡ number r
+    form_refused d =
+        is_judged ∙ ap (λ b. cond b (space_refusal m (decode bs)) (form_refusal bs)) not_zero ∙ sym d.number
       where
         go : (b : Bool) → none ≡ cond b (some (decode bs)) none → b ≡ false
         go true e = absurd (none≢some e)
@@ -78,7 +79,7 @@ module _ (m : Model) (bs : List ℕ) (area : ℕ) where
         not_zero = go (eqb (form_refusal bs) 0) d.frame
 
     -- it does not: the request is judged against the space, by the rows behind 5
-    module _ {q : Request} (d : Decodes bs (Asks q)) where
+    module _ {q : Request} (d : Decodes bs (Ok q)) where
       pub asked : refusal m bs area ≡ space_refusal m (frame_of q)
       asked =
           is_judged
@@ -86,7 +87,7 @@ module _ (m : Model) (bs : List ℕ) (area : ℕ) where
           ∙ ap (space_refusal m) (sym (asked-frame d))
 
 -- on a sound space all is there for it, if it is a look-up
-pub ready_for : {bs : List ℕ} {q : Request} (m : Model) → Decodes bs (Asks q) → space_refusal m (frame_of q) ≡ 0
+pub ready_for : {bs : List ℕ} {q : Request} (m : Model) → Decodes bs (Ok q) → space_refusal m (frame_of q) ≡ 0
     → Sound m
     → ReadyFor m (frame_of q)
 unfolding form_refusal space_refusal
@@ -101,7 +102,7 @@ ready_for {bs} {q} m d e s l =
     }
 
 -- and it ends as the rules say
-pub ends_same : {bs : List ℕ} {q : Request} (m : Model) (area : ℕ) → refusal m bs area ≡ 0 → Decodes bs (Asks q)
+pub ends_same : {bs : List ℕ} {q : Request} (m : Model) (area : ℕ) → refusal m bs area ≡ 0 → Decodes bs (Ok q)
     → Sound m
     → (k : ℕ) (x : Ending) → EndsAs (frame_of q) x → let own = (own_part m (frame_of q)).model in
     SameBefore k m own → Bounded own → finished_by x k own ≡ finish (frame_of q) own
@@ -111,7 +112,7 @@ ends_same {bs} {q} m area e d s k x y same b =
     finish-same (frame_of q) m s (subst⁻¹ (λ g. Admitted g m) f (admitted m bs area c s.lasting))
     (ap (λ (g : Frame). is_operation g.op) f ∙ is_one bs c.operation) k x y same b
 
-module _ (ws bs area : List ℕ) (h : step_area ≤ length area) {q : Request} (d : Decodes bs (Asks q))
+module _ (ws bs area : List ℕ) (h : step_area ≤ length area) {q : Request} (d : Decodes bs (Ok q))
     (e : space_refusal (view ws) (frame_of q) ≡ 0) (s : Sound (view ws)) (ws₁ : List ℕ) where
   abbrev own : Model
   own = (own_part (view ws) (frame_of q)).model
@@ -191,12 +192,7 @@ module _ {ws bs area ws' area' : List ℕ} {returned : ℕ} where
         ∙ ap (λ b. record { model = view ws; records = cond b [] (refused bs n ∷ []); number = n }) y)
         (ap view s) a.1.bytes a.0 (λ k. s)
 
-    module _ {q : Request} (d' : Decodes bs (Asks q)) where
-      -- by a row behind 5
-      pub stepped-judged : {n : ℕ} → n ≡ space_refusal (view ws) (frame_of q) → (n ≡ 0 → ⊥) → ws' ≡ ws
-          → (returned ≡ 1 + 65536 * n) × Adds (refused bs n ∷ []) area area' 0 1 → Stepped ws bs area ws' returned area'
-      stepped-judged e z s a = stepped-refused (asked (view ws) bs (length area) h d' ∙ sym e) z s a
-
+    module _ {q : Request} (d' : Decodes bs (Ok q)) where
       -- carried out: the frame's own record, then what it ends with, which is the rules' finish on a sound space, and
       -- the bells
       pub stepped-sound : {a₁ : List ℕ} {own : Record} {n : ℕ} (d : Done) → space_refusal (view ws) (frame_of q) ≡ 0
@@ -258,3 +254,35 @@ module _ {ws bs area ws' area' : List ℕ} {returned : ℕ} where
             stepped-sound (ending_with rs (finished_by x k (view ws₁))) e (λ s. (c.0 s).own) a
             (λ s. ap₂ ending_with (rung s) (finished_same ws bs area h d' e s ws₁ k x y c.1 (c.0 s).model))
             (does-ending room f b)
+
+-- and where nothing follows its own record
+module _ {ws bs area ws₁ a₁ : List ℕ} {own : Record} {n : ℕ} (h : step_area ≤ length area) {q : Request}
+    (d : Decodes bs (Ok q)) where
+  pub stepped_quiet : space_refusal (view ws) (frame_of q) ≡ 0
+      → (Sound (view ws) → Carries (own_part (view ws) (frame_of q)) ws₁ own) → SameBefore 0 (view ws) (view ws₁)
+      → Adds (own ∷ []) area a₁ 0 n → EndsAs (frame_of q) Quiet → (Sound (view ws) → Silent (view ws) (frame_of q))
+      → Stepped ws bs area ws₁ n a₁
+  stepped_quiet e c same a y silent =
+      stepped-done h d 0 e (c, same) a _ y silent
+      (does_as (sym (quiet-ends 0 (view ws₁) (view-bounded ws₁).entries_fit)) (does-nothing _ _ _))
+
+-- a refusal that is handed on
+module _ {ws area ws' area' : List ℕ} {hs : Hints} (u : Unchanged ws area ws' area' hs) where
+  pub refused_on : (e : Refusal) (q : Request) (r : Result ℕ Refusal) → IsErrAnd r (λ y. y ≡ e)
+      → number e ≡ space_refusal (view ws) (frame_of q) → Taken ws q area r ws' area' hs
+  refused_on e q r i n =
+      let p = err_from_is_err_and r i in
+      subst (λ x. Taken ws q area x ws' area' hs) (sym p.1) (ap number p.2 ∙ n, u)
+
+  pub frame_refused : (e : Refusal) (bs : List ℕ) (r : Result ℕ Refusal) → IsErrAnd r (λ y. y ≡ e)
+      → refusal (view ws) bs (length area) ≡ number e → FrameTaken ws bs area r ws' area' hs
+  frame_refused e bs r i n =
+      let p = err_from_is_err_and r i in
+      subst (λ x. FrameTaken ws bs area x ws' area' hs) (sym p.1) (n ∙ ap number (sym p.2), u)
+
+-- a frame that asks for q, once q is taken up
+module _ (ws bs area ws' area' : List ℕ) (hs : Hints) {q : Request} (h : step_area ≤ length area)
+    (d : Decodes bs (Ok q)) where
+  pub taken_up : (r : Result ℕ Refusal) → Taken ws q area r ws' area' hs → FrameTaken ws bs area r ws' area' hs
+  taken_up (Ok n) t = t bs d
+  taken_up (Err e) t = (asked (view ws) bs (length area) h d ∙ sym t.0, t.1)

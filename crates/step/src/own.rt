@@ -3,7 +3,7 @@
 ghost use Rattle.std.specs.Prelude.{◌≡◌, ◌<◌};
 ghost use Rattle.rules.specs.Numbers.{last_clock};
 ghost use Rattle.rules.specs.Notify.{notify as notify_frame};
-ghost use Rattle.rules.specs.Records.{committed, aborted, ticked};
+ghost use Rattle.rules.specs.Records.{committed, plain, ticked};
 ghost use Rattle.rules.specs.Requests.{frame_of, space_refusal};
 ghost use Rattle.rules.specs.Step.{abort_frame};
 ghost use Rattle.rules.specs.Transactions.{commit as commit_txn, create as create_frame};
@@ -37,6 +37,7 @@ pub(crate) fn create(space: &mut Words, party: u8, lease: u32) -> Record
 }
 
 // What registrations hear of it is told where the frame is finished.
+#[tactic(auto, unfolding(rules::specs::Records::committed))]
 pub(crate) fn commit(space: &mut Words, party: u8, id: TxnId) -> Own
     ensures { (view space.new ≡ commit_txn id.0 (view space.old))
         × (result.answer ≡ committed (frame_of (Request.Commit party id)))
@@ -47,6 +48,7 @@ pub(crate) fn commit(space: &mut Words, party: u8, id: TxnId) -> Own
     Own { answer, from }
 }
 
+#[tactic(auto, unfolding(rules::specs::Step::abort_frame, rules::specs::Records::aborted))]
 pub(crate) fn abort(space: &mut Words, party: u8, id: TxnId) -> Own
     ensures { Carries (abort_frame (view space.old) (frame_of (Request.Abort party id)))
         space.new result.answer
@@ -57,21 +59,12 @@ pub(crate) fn abort(space: &mut Words, party: u8, id: TxnId) -> Own
     Own { answer, from }
 }
 
-// A transaction that has done nothing ends: no entry changes, and nobody waits inside.
-pub(crate) fn commit_idle(space: &mut Words, party: u8, id: TxnId) -> Record
-    ensures { (view space.new ≡ ended id.0 (view space.old))
-        × (result ≡ committed (frame_of (Request.Commit party id))) }
+// A transaction that has done nothing ends: no entry changes, and nobody waits inside. The record is of the kind given.
+pub(crate) fn end_idle(space: &mut Words, kind: u8, party: u8, id: TxnId) -> Record
+    ensures { (view space.new ≡ ended id.0 (view space.old)) × (result ≡ plain kind party id.0) }
 {
     remove_txn(space, id);
-    plain_record(KIND_COMMITTED, party, id)
-}
-
-pub(crate) fn abort_idle(space: &mut Words, party: u8, id: TxnId) -> Record
-    ensures { (view space.new ≡ ended id.0 (view space.old))
-        × (result ≡ aborted (frame_of (Request.Abort party id))) }
-{
-    remove_txn(space, id);
-    plain_record(KIND_ABORTED, party, id)
+    plain_record(kind, party, id)
 }
 
 // A registration is made.
@@ -85,11 +78,12 @@ pub(crate) fn notify(space: &mut Words, q: NotifyRequest) -> Record
 }
 
 // The clock advances; what ends with that, ends where the frame is finished.
+#[tactic(auto, unfolding(rules::specs::Records::ticked))]
 pub(crate) fn advance(space: &mut Words) -> Record
     requires { (view space.old).clock < last_clock }
     ensures { (view space.new ≡ advanced (view space.old)) × (result ≡ ticked) }
 {
     let t = clock(space);
     set_clock(space, t + 1);
-    plain_record(KIND_TICKED, 0, TxnId(0))
+    plain_record(KIND_TICKED, 0, TxnId::NONE)
 }

@@ -1,7 +1,7 @@
 -- The loop that judges a tray's pairs.
 use Prim.Native.Nat.{ℕ, suc, ◌+◌, ◌*◌, ◌≤◌, ◌<◌}
 use mathlib.Core.Bool.{Bool, true, false, ◌||◌}
-use mathlib.Core.Path.{◌≡◌, sym, ap, ap₂, ◌∙◌}
+use mathlib.Core.Path.{◌≡◌, sym, ap, ◌∙◌}
 use mathlib.Core.List.{List}
 use native.Mathlib.Numerals.{add-one}
 use native.Mathlib.Omega.{arith}
@@ -12,7 +12,7 @@ use Rattle.rules.specs.Numbers.{max_tray, max_frames}
 use Rattle.rules.specs.Tray.{frame_count, pairs_end, pairs, bad_tray, bad_pairs}
 use Rattle.rules.proofs.BoolLaws.{or_left, or_right}
 use Rattle.tray.specs.declared.pairs.Pair.{Pair as Place}
-use Rattle.tray.specs.Pairs.{Stands, misplaced}
+use Rattle.tray.specs.Pairs.{pair_at, place_of, Stands, misplaced}
 use Rattle.tray.proofs.PairLaws.{pairs-length, pairs_from}
 
 -- what has come of the tray's pairs
@@ -37,9 +37,11 @@ pair_there tray i e h =
     )
 
 -- a pair in its place ends within the tray
-pub in_place : (free size : ℕ) (p : Place) {all : ℕ} → size ≡ all → misplaced free size p ≡ false → p.end ≤ all
-in_place free size p e h =
-    omega (arith, e, ltb-false size p.end (or_right (ltb p.offset free) (ltb size p.end) h))
+pub in_place : (tray : List ℕ) (i free : ℕ) {p : Place} → Stands tray i p
+    → misplaced free (length tray) (place_of (pair_at tray i)) ≡ false → p.end ≤ length tray
+in_place tray i free s h =
+    let q = pair_at tray i in
+    omega (arith, s.ends, ltb-false (length tray) (q.offset + q.size) (or_right (ltb q.offset free) _ h))
 
 -- i pairs have been judged, and what is free begins at `free`
 pub record Judging (tray : List ℕ) (free i : ℕ) : Type 0 where
@@ -49,25 +51,23 @@ pub judging_none : (tray : List ℕ) {free : ℕ} → free ≡ pairs_end tray �
 judging_none tray e = record { rest = ap (λ f. bad_pairs f (length tray) (pairs tray)) (sym e) }
 
 module _ {tray : List ℕ} {free i : ℕ} (j : Judging tray free i) where
-  module _ {p : Place} (l : i < frame_count tray) (s : Stands tray i p) where
+  module _ (l : i < frame_count tray) where
     so_far : verdict tray
-        ≡ (misplaced free (length tray) p || bad_pairs p.end (length tray) (drop (suc i) (pairs tray)))
+        ≡ (misplaced free (length tray) (place_of (pair_at tray i))
+        || bad_pairs ((pair_at tray i).offset + (pair_at tray i).size) (length tray) (drop (suc i) (pairs tray)))
     unfolding bad_pairs
-    so_far =
-        j.rest
-        ∙ ap (bad_pairs free (length tray)) (pairs_from tray i l)
-        ∙ ap₂ (λ o e. ltb o free || ltb (length tray) e || bad_pairs e (length tray) (drop (suc i) (pairs tray)))
-        (sym s.begins) (sym s.ends)
+    so_far = j.rest ∙ ap (bad_pairs free (length tray)) (pairs_from tray i l)
 
-    module _ {size : ℕ} (all : size ≡ length tray) where
-      place_is : {b : Bool} → misplaced free size p ≡ b → misplaced free (length tray) p ≡ b
-      place_is h = ap (λ n. misplaced free n p) (sym all) ∙ h
+    pub out_of_place : misplaced free (length tray) (place_of (pair_at tray i)) ≡ true → verdict tray ≡ true
+    out_of_place h = so_far ∙ rw h
 
-      pub out_of_place : misplaced free size p ≡ true → verdict tray ≡ true
-      out_of_place h = so_far ∙ rw (place_is h)
-
-      pub judging_more : misplaced free size p ≡ false → Judging tray p.end (i + 1)
-      judging_more h = record { rest = rw add-one (so_far ∙ rw (place_is h)) }
+    pub judging_more : {p : Place} → Stands tray i p → misplaced free (length tray) (place_of (pair_at tray i)) ≡ false
+        → Judging tray p.end (i + 1)
+    judging_more {p} s h =
+        record {
+          rest = rw add-one (so_far ∙ rw h
+              (ap (λ e. bad_pairs e (length tray) (drop (suc i) (pairs tray))) (sym s.ends)));
+        }
 
   pub judging_all : frame_count tray ≤ i → verdict tray ≡ false
   unfolding bad_pairs

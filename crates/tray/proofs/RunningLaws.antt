@@ -18,6 +18,7 @@ use Rattle.rules.proofs.AreaLaws.{area-length, area-then}
 use Rattle.rules.proofs.Capacity.{step_fits}
 use Rattle.sound.proofs.SoundProof.{sound_empty, sound-step}
 use Rattle.rules.proofs.ViewLaws.{view-bounded}
+use Rattle.hints.specs.declared.known.Hints.{Hints}
 use Rattle.hints.specs.Hints.{Reliable}
 use Rattle.step.specs.Carries.{StaysReliable}
 use Rattle.tray.proofs.RunLaws.{Ran, ran_none, ran_more, ran_all, ran_stops}
@@ -25,7 +26,7 @@ use Rattle.tray.specs.Pairs.{pair_at}
 use Rattle.tray.proofs.PairLaws.{frames-length, frames-next}
 
 -- k frames are done: n records stand in the area, the space's words are ws, and the hints hs are so
-pub record Running (tray a₀ ws hs a : List ℕ) (k n : ℕ) : Type 0 where
+pub record Running (tray a₀ ws : List ℕ) (hs : Hints) (a : List ℕ) (k n : ℕ) : Type 0 where
   pub records : List Record
   pub ran : Ran (take k (frames_of tray)) (length a₀) (view ws) records
   pub counts : n ≡ length records
@@ -35,7 +36,7 @@ pub record Running (tray a₀ ws hs a : List ℕ) (k n : ℕ) : Type 0 where
   pub sound : Sound (view ws)
   pub reliable : Reliable hs (view ws)
 
-pub running_none : {tray a ws hs : List ℕ} → view ws ≡ empty → Reliable hs empty → Running tray a ws hs a 0 0
+pub running_none : {tray a ws : List ℕ} {hs : Hints} → view ws ≡ empty → Reliable hs empty → Running tray a ws hs a 0 0
 unfolding area_after answer_bytes
 running_none {a = a} {hs = hs} e h =
     record {
@@ -49,12 +50,12 @@ running_none {a = a} {hs = hs} e h =
       reliable = subst⁻¹ (Reliable hs) e h;
     }
 
-pub running_length : {tray a₀ ws hs a : List ℕ} {k n : ℕ} → Running tray a₀ ws hs a k n → length a ≡ length a₀
+pub running_length : {tray a₀ ws a : List ℕ} {hs : Hints} {k n : ℕ} → Running tray a₀ ws hs a k n → length a ≡ length a₀
 running_length {a₀ = a₀} r =
     ap length r.area ∙ area-length r.records a₀ (omega (arith, r.room, r.counts))
 
 -- one frame more, run in the part of the area behind the records
-pub running_more : {tray a₀ ws hs a ws' hs' a' frame part part' : List ℕ} {k n returned : ℕ}
+pub running_more : {tray a₀ ws a ws' a' frame part part' : List ℕ} {hs hs' : Hints} {k n returned : ℕ}
     → Running tray a₀ ws hs a k n
     → k < frame_count tray → record_size * n + step_area ≤ length a₀ → frame ≡ frame_at tray (pair_at tray k)
     → part ≡ drop (record_size * n) a → Stepped ws frame part ws' returned part' → StaysReliable ws ws' hs'
@@ -126,7 +127,7 @@ running_more {tray} {a₀} {ws} {a = a} {ws'} {frame = frame} {part} {k = k} {n}
     count = omega (arith, s.returns, al.count, few)
 
 -- the run is over: all frames are done
-pub running_all : {tray a₀ ws hs a : List ℕ} {n : ℕ} (r : Running tray a₀ ws hs a (frame_count tray) n)
+pub running_all : {tray a₀ ws a : List ℕ} {hs : Hints} {n : ℕ} (r : Running tray a₀ ws hs a (frame_count tray) n)
     → run_frames empty (length a₀) (frames_of tray)
     ≡ record { frames = frame_count tray; records = r.records; number = 0 }
 running_all {tray} {a₀} {ws} r =
@@ -138,7 +139,7 @@ running_all {tray} {a₀} {ws} r =
     whole = take_all (frame_count tray) (frames_of tray) (omega (arith, frames-length tray))
 
 -- it stops before a frame for which under 700 bytes are left
-pub running_stops : {tray a₀ ws hs a : List ℕ} {k n : ℕ} (r : Running tray a₀ ws hs a k n)
+pub running_stops : {tray a₀ ws a : List ℕ} {hs : Hints} {k n : ℕ} (r : Running tray a₀ ws hs a k n)
     → k < frame_count tray → length a₀ < record_size * n + step_area
     → run_frames empty (length a₀) (frames_of tray)
     ≡ record { frames = k; records = r.records; number = area_refused }

@@ -13,6 +13,7 @@ use Rattle.rules.specs.Records.{area_after, answer_bytes}
 use Rattle.rules.specs.Tray.{frame_count, pairs_end, pairs, bad_tray, tray_refusal, frame_at, TrayOutcome, stopped}
 use Rattle.rules.specs.Tray.{frames_of, run_frames, run_pairs, run_tray, host_number}
 use Rattle.rules.specs.Allowed.{TrayRan}
+use Rattle.hints.specs.declared.known.Hints.{Hints}
 use Rattle.tray.specs.declared.pairs.Pair.{Pair as Place}
 use Rattle.tray.specs.Pairs.{pair_at, Stands}
 use Rattle.tray.proofs.PairLaws.{pairs-length, pair_is, pair_in}
@@ -70,7 +71,7 @@ module _ (tray : List ℕ) (fine : tray_refusal tray ≡ 0) where
   unfolding run_tray run_pairs
   runs size = ap (λ n. cond (leb n 0) (run_pairs tray size) (stopped n)) fine
 
-  module _ {a₀ ws hs a : List ℕ} {k n returned : ℕ} (r : Running tray a₀ ws hs a k n) where
+  module _ {a₀ ws a : List ℕ} {hs : Hints} {k n returned : ℕ} (r : Running tray a₀ ws hs a k n) where
     -- all frames are done
     pub tray_done : k ≡ frame_count tray → returned ≡ k + 65536 * n + 4294967296 * 0 → TrayRan tray a₀ returned a
     unfolding host_number

@@ -13,6 +13,10 @@ pub record Stands (tray : List ℕ) (i : ℕ) (p : Place) : Type 0 where
   pub begins : p.offset ≡ (pair_at tray i).offset
   pub ends : p.end ≡ (pair_at tray i).offset + (pair_at tray i).size
 
+-- where a pair's frame stands
+abbrev pub place_of : Pair → Place
+place_of p = record { offset = p.offset; end = p.offset + p.size }
+
 -- 16, of one pair: "begins before the pairs' end or before the previous pair's end, or runs past the tray"
 abbrev pub misplaced : ℕ → ℕ → Place → Bool
 misplaced free size p = ltb p.offset free || ltb size p.end

@@ -1,5 +1,7 @@
 -- What a pane hears: the rules' pane and the code's, and what is counted of it.
-use Prim.Native.Nat.{ℕ, zero, suc, ◌+◌, ◌*◌, ◌≤◌, ◌<◌}
+use Prim.Native.Nat.{ℕ, suc, ◌+◌, ◌*◌, ◌≤◌, ◌<◌}
+use Rattle.std.specs.Int.{from_bool}
+use Rattle.std.proofs.Common.{below_more}
 use mathlib.Core.Bool.{Bool, true, false, cond, ◌&&◌}
 use mathlib.Core.Logic.{⊎_elim}
 use mathlib.Core.Path.{◌≡◌, refl, sym, ap, ap₂, ◌∙◌}
@@ -19,7 +21,7 @@ use Rattle.trial.specs.declared.Progress.{Progress}
 use Rattle.trial.specs.Setup.{pane_count, pane_at}
 use Rattle.trial.specs.Panes.{hears}
 use Rattle.trial.specs.Trial.{Trier, in_stage, hears_all}
-use Rattle.trial.specs.Progress.{fresh, at, total, Room, heard_by, heard_as, follows, records_at, Each}
+use Rattle.trial.specs.Progress.{fresh, at, total, Room, heard_by, heard_as, follows, records_at, held_by, Each}
 use Rattle.trial.specs.Trying.{in_words, trier_at}
 use Rattle.trial.proofs.WordLaws.{in_record, hears-same}
 
@@ -164,11 +166,18 @@ pub room-less : {ws : List ℕ} (a : Record) {ys zs : List Progress} (m n : ℕ)
 room-less {ws} a {ys} m n one room h i l =
     omega (arith, ap total (one.each i l), heard-total ws a i (at ys i), room i l, h)
 
--- four panes, one by one
-pub four_by : (f : Progress → Progress) (xs : List Progress) {a b c d : Progress} → a ≡ f (at xs 0) → b ≡ f (at xs 1)
-    → c ≡ f (at xs 2) → d ≡ f (at xs 3) → (i : ℕ) → i < 4 → at (a ∷ b ∷ c ∷ d ∷ []) i ≡ f (at xs i)
-four_by f xs p q r s zero h = p
-four_by f xs p q r s (suc zero) h = q
-four_by f xs p q r s (suc (suc zero)) h = r
-four_by f xs p q r s (suc (suc (suc zero))) h = s
-four_by f xs p q r s (suc (suc (suc (suc i)))) h = absurd (omega arith)
+-- a `bool` as a number
+pub one_of : {n : ℕ} (b : Bool) → n ≡ from_bool b → n ≡ cond b 1 0
+one_of true e = e
+one_of false e = e
+
+-- one pane more is held
+pub held_more : (xs ys : List Progress) {y : Progress} (k : ℕ) → k < length ys → y ≡ held_by (at ys k)
+    → ((i : ℕ) → i < k → at ys i ≡ held_by (at xs i)) × ((i : ℕ) → k ≤ i → at ys i ≡ at xs i)
+    → ((i : ℕ) → i < k + 1 → at (set ys k y) i ≡ held_by (at xs i))
+    × ((i : ℕ) → k + 1 ≤ i → at (set ys k y) i ≡ at xs i)
+held_more xs ys {y} k l e h = (
+  below_more _ _ (λ i b. get_or-set_other ys k i y fresh (λ q. omega arith) ∙ h.0 i b)
+      (get_or-set_same ys k y fresh l ∙ e ∙ ap held_by (h.1 k (omega arith))),
+  λ i b. get_or-set_other ys k i y fresh (λ q. omega arith) ∙ h.1 i (omega arith),
+)

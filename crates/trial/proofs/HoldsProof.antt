@@ -3,7 +3,7 @@ use Prim.Native.Nat.{ℕ, zero, suc, ◌-◌}
 use mathlib.Core.Bool.{true, false, cond}
 use mathlib.Core.Logic.{⊎_elim}
 use mathlib.Core.Path.{◌≡◌, refl, sym, ap, ◌∙◌}
-use mathlib.Core.Option.{none}
+use Rattle.std.proofs.Common.{None}
 use native.Mathlib.Omega.{arith}
 use borrow.Author.Tests.{eq-eqb, ne_eqb, leb-true, leb-false}
 use lib.Dec.{eqb, leb}
@@ -34,10 +34,10 @@ none_left hold n = ⊎_elim yes not_yet (bool_cases (leb hold n))
     not_yet e = ne_eqb (hold - n) 0 (λ z. omega (arith, z, leb-false hold n e)) ∙ sym e
 
 every : (p : Pane) (party : ℕ) (t : TxnId) (hold n : ℕ)
-    → sends p party (after_ticks n (Holds t hold)) ≡ cond (leb hold n) (sends p party (Holds t 0)) none
+    → sends p party (after_ticks n (Holds t hold)) ≡ cond (leb hold n) (sends p party (Holds t 0)) None
 unfolding sends
 every p party t hold n =
-    ap (sends p party) (left t hold n) ∙ ap (λ b. cond b (sends p party (Holds t 0)) none) (none_left hold n)
+    ap (sends p party) (left t hold n) ∙ ap (λ b. cond b (sends p party (Holds t 0)) None) (none_left hold n)
 
 -- what a trial is computed by
 unfoldable pub all_trials : Unit {0}

@@ -1,20 +1,19 @@
 -- A setup that is not refused.
 use Prim.Native.Nat.{ℕ, ◌+◌, ◌*◌, ◌≤◌}
-use mathlib.Core.Bool.{Bool, true, false, not, cond, ◌||◌}
-use mathlib.Core.Path.{◌≡◌, refl}
+use mathlib.Core.Bool.{false, not, ◌||◌}
+use mathlib.Core.Path.{◌≡◌}
 use mathlib.Core.List.{List}
-use native.Mathlib.Omega.{arith}
 use borrow.Author.Tests.{ltb-false, eqb-true, not-false}
 use lib.Dec.{eqb, ltb}
 use lib.ListN.{length}
-use Rattle.rules.specs.Numbers.{panes_refused, rounds_refused}
 use Rattle.rules.proofs.BoolLaws.{or_left, or_right}
-use Rattle.trial.specs.Setup.{rounds_in, pane_count, starting_count, bad_setup, setup_refusal}
-use Rattle.trial.specs.Progress.{WellFormed}
+use Rattle.trial.specs.Setup.{pane_count, starting_count, bad_setup}
 
 pub record Fair (ws : List ℕ) (room : ℕ) : Type 0 where
   pub long : 3 ≤ length ws
-  pub formed : WellFormed ws
+  pub few : pane_count ws ≤ 4
+  pub starting : starting_count ws ≤ 8
+  pub size : length ws ≡ 3 + 6 * pane_count ws + 5 * starting_count ws
   pub counts : 3 * pane_count ws ≤ room
 
 -- 23 does not apply
@@ -33,23 +32,8 @@ fair ws room e =
     let e2 = or_left none (ltb 4 (pane_count ws)) e3 in
     record {
       long = ltb-false _ _ (or_left short (eqb (pane_count ws) 0) e2);
-      formed =
-          record {
-            few = ltb-false _ _ (or_right none (ltb 4 (pane_count ws)) e3);
-            starting = ltb-false _ _ (or_right many (ltb 8 (starting_count ws)) e4);
-            size = eqb-true _ _ (not-false words (or_right more (not words) e5));
-          };
+      few = ltb-false _ _ (or_right none (ltb 4 (pane_count ws)) e3);
+      starting = ltb-false _ _ (or_right many (ltb 8 (starting_count ws)) e4);
+      size = eqb-true _ _ (not-false words (or_right more (not words) e5));
       counts = ltb-false _ _ (or_right (more || not words) narrow e);
     }
-
--- neither 23 nor 24
-pub accepted : (ws : List ℕ) (room : ℕ) → setup_refusal ws room ≡ 0 → Fair ws room × (rounds_in ws ≤ 1000)
-unfolding setup_refusal
-accepted ws room e =
-    let n = neither (bad_setup ws room) (ltb 1000 (rounds_in ws)) e in (fair ws room n.0, ltb-false _ _ n.1)
-  where
-    neither : (bad late : Bool) → cond bad panes_refused (cond late rounds_refused 0) ≡ 0
-        → (bad ≡ false) × (late ≡ false)
-    neither true late e = absurd (omega (arith, e))
-    neither false true e = absurd (omega (arith, e))
-    neither false false e = (refl, refl)

@@ -21,18 +21,20 @@ use Rattle.rules.proofs.ListLaws.{count, length-filter}
 use Rattle.rules.proofs.Capacity.{step_fits}
 use Rattle.rules.proofs.ViewLaws.{view-bounded}
 use Rattle.sound.proofs.SoundProof.{sound_empty, sound-step}
+use Rattle.hints.specs.declared.known.Hints.{Hints}
 use Rattle.hints.specs.Hints.{Reliable}
 use Rattle.step.specs.Carries.{StaysReliable}
-use Rattle.words.proofs.UpToLaws.{up_to_ext, length-up_to}
+use Rattle.tables.proofs.UpToLaws.{up_to_ext, length-up_to}
 use Rattle.trial.specs.declared.Pane.{Pane}
 use Rattle.trial.specs.declared.Progress.{Progress}
+use Rattle.trial.specs.declared.rounds.Trial.{Trial}
 use Rattle.trial.specs.declared.Stage.TheVariants.{Creates}
 use Rattle.trial.specs.Setup.{pane_count, pane_at, panes_in}
 use Rattle.trial.specs.Panes.{ticked}
 use Rattle.trial.specs.Trial.{Trier, in_stage, Round, hears_all, send, triers, tally}
 use Rattle.trial.specs.Trial.{trial, counts_of, counts_in}
-use Rattle.trial.specs.Progress.{WellFormed, fresh, at, counts_at, Room, heard_by, follows, records_at, held_by, Each}
-use Rattle.trial.specs.Trying.{in_words, trier_at, triers_at, Trying, Underway}
+use Rattle.trial.specs.Progress.{fresh, at, counts_at, Room, heard_by, follows, records_at, held_by, Each}
+use Rattle.trial.specs.Trying.{in_words, trier_at, triers_at, Trying, Begun, Underway}
 use Rattle.trial.specs.Trying.{most_frames, Goes}
 use Rattle.trial.proofs.UpToMore.{as_up_to, map-up_to}
 use Rattle.trial.proofs.WordLaws.{in_record, records_back, ticked-same}
@@ -84,14 +86,15 @@ unfolding heard_by
 adds-nothing p a x = refl
 
 -- one frame more
-pub trying-sent : {ws : List ℕ} {k : ℕ} {r : Round} {space hints : List ℕ} {xs : List Progress}
-    {bs area space' hints' area' : List ℕ} {returned : ℕ} {ys : List Progress}
+pub trying-sent : {ws : List ℕ} {k : ℕ} {r : Round} {space : List ℕ} {hints : Hints} {xs : List Progress}
+    {bs area space' area' : List ℕ} {hints' : Hints} {returned : ℕ} {ys : List Progress}
     → Trying ws k r space hints xs → length area ≡ step_area
     → Stepped space bs area space' returned area' → StaysReliable space space' hints'
     → Each ws (follows ws (records_at area' (returned % 65536))) xs ys
     → Trying ws (k + 1) (send bs r) space' hints' ys
 unfolding send
-trying-sent {ws} {k} {r} {space} {xs = xs} {bs} {area} {space'} {area' = area'} {returned} {ys} t long s known each =
+trying-sent {ws} {k} {r} {space} {xs = xs} {bs} {area} {space'} {area' = area'} {returned = returned} {ys} t long
+    s known each =
     record {
       model = space_is;
       sound = subst⁻¹ Sound (al.space (λ _. t.sound)) (sound-step (view space) bs (length area) t.sound);
@@ -166,7 +169,7 @@ trying-sent {ws} {k} {r} {space} {xs = xs} {bs} {area} {space'} {area' = area'} 
         ∙ ap (tally kind (suc i)) (sym log_is)
 
 -- more frames may have been sent
-pub trying_more : {ws : List ℕ} {k j : ℕ} {r : Round} {space hints : List ℕ} {xs : List Progress}
+pub trying_more : {ws : List ℕ} {k j : ℕ} {r : Round} {space : List ℕ} {hints : Hints} {xs : List Progress}
     → Trying ws k r space hints xs → k ≤ j → Trying ws j r space hints xs
 trying_more t h =
     record {
@@ -180,7 +183,7 @@ trying_more t h =
     }
 
 -- there is room to count what a frame is answered
-pub room_for : {ws : List ℕ} {k n : ℕ} {r : Round} {space hints : List ℕ} {xs : List Progress}
+pub room_for : {ws : List ℕ} {k n : ℕ} {r : Round} {space : List ℕ} {hints : Hints} {xs : List Progress}
     → Trying ws k r space hints xs → k ≤ most_frames → n ≤ step_records → Room ws n xs
 unfolding tally
 room_for {r = r} t h few i l =
@@ -205,7 +208,7 @@ room_for {r = r} t h few i l =
 abbrev pub held : Round → Round
 held r = record { model = r.model; panes = map (λ x. in_stage (ticked x.stage) x) r.panes; sent = r.sent }
 
-pub trying-held : {ws : List ℕ} {k : ℕ} {r : Round} {space hints : List ℕ} {xs ys : List Progress}
+pub trying-held : {ws : List ℕ} {k : ℕ} {r : Round} {space : List ℕ} {hints : Hints} {xs ys : List Progress}
     → Trying ws k r space hints xs → ((i : ℕ) → i < pane_count ws → at ys i ≡ held_by (at xs i))
     → Trying ws k (held r) space hints ys
 unfolding held_by
@@ -258,7 +261,7 @@ triers-up_to f (suc n) =
 abbrev pub first_round : List ℕ → Round
 first_round ws = record { model = empty; panes = triers 1 (panes_in ws); sent = [] }
 
-pub trying-none : {ws space hints : List ℕ} {xs : List Progress} → view space ≡ empty → Reliable hints empty
+pub trying-none : {ws space : List ℕ} {hints : Hints} {xs : List Progress} → view space ≡ empty → Reliable hints empty
     → ((i : ℕ) → i < pane_count ws → at xs i ≡ fresh)
     → Trying ws 0 (first_round ws) space hints xs
 unfolding log_from records_of tally in_words
@@ -284,46 +287,76 @@ trying-none {ws} {hints = hints} {xs} e h each =
     }
 
 -- ---- under way
-pub underway-first : {ws space hints : List ℕ} {xs : List Progress} {n : ℕ} {r : Round} → WellFormed ws
-    → Trying ws 0 r space hints xs → n ≤ most_frames → Underway ws n space hints xs
-underway-first {r = r} w t h = record { setup = w; sent = 0; round = r; trying = t; left = omega (arith, h) }
+-- as long as nothing is sent
+pub trying-begun : {ws : List ℕ} {t : Trial} → Begun ws t
+    → Trying t.setup.words.now 0 (first_round ws) t.space t.hints t.panes
+trying-begun {ws} {t} b =
+    subst⁻¹ (λ l. Trying l 0 (first_round ws) t.space t.hints t.panes) b.setup
+    (trying-none b.space b.hints (λ i h. b.panes i (omega (arith, t.setup.few, ap pane_count b.setup, h))))
 
-module _ {ws space hints : List ℕ} {xs : List Progress} {space' hints' : List ℕ} {ys : List Progress} where
+pub underway-first : {ws : List ℕ} {t : Trial} {n : ℕ} → Begun ws t → n ≤ most_frames → Underway n t
+underway-first {ws} b h =
+    record {
+      sent = 0;
+      round = first_round ws;
+      trying = trying-begun b;
+      left = omega (arith, h);
+    }
+
+-- its setup stays
+pub along : {ws ws' : List ℕ} {k : ℕ} {r : Round} {space : List ℕ} {hints : Hints} {xs : List Progress} → ws ≡ ws'
+    → Trying ws k r space hints xs → Trying ws' k r space hints xs
+along {k = k} {r} {space} {hints} {xs} e t = subst (λ ws. Trying ws k r space hints xs) e t
+
+module _ {t t' : Trial} where
   -- it has gone on with m frames, and j more may be sent
-  pub underway_on : {f : Round → Round} {n : ℕ} (m j : ℕ) → Underway ws n space hints xs
-      → Goes ws m f space hints xs space' hints' ys → m + j ≤ n → Underway ws j space' hints' ys
+  pub underway_on : {f : Round → Round} {n : ℕ} (m j : ℕ) → Underway n t → Goes m f t t' → m + j ≤ n → Underway j t'
   underway_on {f} m j u go h =
       record {
-        setup = u.setup;
         sent = u.sent + m;
         round = f u.round;
-        trying = go u.sent u.round u.trying;
+        trying = along (sym go.setup) (go.trying u.sent u.round u.trying);
         left = omega (arith, u.left, h);
       }
 
   -- and goes on with n more
-  pub goes_then : {f g : Round → Round} {space'' hints'' : List ℕ} {zs : List Progress} (m n j : ℕ)
-      → Goes ws m f space hints xs space' hints' ys → Goes ws n g space' hints' ys space'' hints'' zs → m + n ≤ j
-      → Goes ws j (λ r. g (f r)) space hints xs space'' hints'' zs
-  goes_then {f} m n j a b h k r t = trying_more (b (k + m) (f r) (a k r t)) (omega (arith, h))
+  pub goes_then : {f g : Round → Round} {t'' : Trial} (m n j : ℕ) → Goes m f t t' → Goes n g t' t'' → m + n ≤ j
+      → Goes j (λ r. g (f r)) t t''
+  goes_then {f} m n j a b h =
+      record {
+        setup = b.setup ∙ a.setup;
+        trying = λ k r x.
+            trying_more (along a.setup (b.trying (k + m) (f r) (along (sym a.setup) (a.trying k r x))))
+            (omega (arith, h));
+      }
 
   -- as another definition has it
-  pub goes_as : {f g : Round → Round} (n : ℕ) → ((r : Round) → f r ≡ g r) → Goes ws n f space hints xs space' hints' ys
-      → Goes ws n g space hints xs space' hints' ys
-  goes_as n e go k r t = subst (λ x. Trying ws (k + n) x space' hints' ys) (e r) (go k r t)
+  pub goes_as : {f g : Round → Round} (n : ℕ) → ((r : Round) → f r ≡ g r) → Goes n f t t' → Goes n g t t'
+  goes_as n e go =
+      record {
+        setup = go.setup;
+        trying = λ k r x.
+            subst (λ y. Trying t.setup.words.now (k + n) y t'.space t'.hints t'.panes) (e r) (go.trying k r x);
+      }
 
 -- it has not gone on
-pub goes_none : {ws space hints : List ℕ} {xs : List Progress} (n : ℕ)
-    → Goes ws n (λ r. r) space hints xs space hints xs
-goes_none n k r t = trying_more t (omega arith)
+pub goes_none : {t : Trial} (n : ℕ) → Goes n (λ r. r) t t
+goes_none n = record { setup = refl; trying = λ k r x. trying_more x (omega arith) }
 
 -- a tick has come
-pub goes-held : {ws space hints : List ℕ} {xs ys : List Progress} → pane_count ws ≤ 4
-    → ((i : ℕ) → i < 4 → at ys i ≡ held_by (at xs i)) → Goes ws 0 held space hints xs space hints ys
-goes-held few each k r t = trying_more (trying-held t (λ i h. each i (omega (arith, few, h)))) (omega arith)
+pub goes-held : {t t' : Trial} → t'.setup.words.now ≡ t.setup.words.now → t'.space ≡ t.space → t'.hints ≡ t.hints
+    → ((i : ℕ) → i < 4 → at t'.panes i ≡ held_by (at t.panes i)) → Goes 0 held t t'
+goes-held {t} {t'} e p q each =
+    record {
+      setup = e;
+      trying = λ k r x.
+          subst⁻¹ (λ l. Trying t.setup.words.now (k + 0) (held r) l t'.hints t'.panes) p
+          (subst⁻¹ (λ l. Trying t.setup.words.now (k + 0) (held r) t.space l t'.panes) q
+          (trying_more (trying-held x (λ i h. each i (omega (arith, t.setup.few, h)))) (omega arith)));
+    }
 
 -- the counts of a trial that is over
-pub counts_are : {ws : List ℕ} {k : ℕ} {space hints : List ℕ} {xs : List Progress}
+pub counts_are : {ws : List ℕ} {k : ℕ} {space : List ℕ} {hints : Hints} {xs : List Progress}
     → Trying ws k (trial ws) space hints xs → joined (up_to (λ i. counts_at (at xs i)) (pane_count ws)) ≡ counts_in ws
 unfolding counts_in
 counts_are {ws} {xs = xs} t =

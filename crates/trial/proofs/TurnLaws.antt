@@ -1,5 +1,6 @@
 -- The turns of a round, and the starting entries: one more of them.
 use Prim.Native.Nat.{ℕ, zero, suc, ◌+◌, ◌<◌}
+use Rattle.std.proofs.Common.{Some, None, is_some}
 use mathlib.Core.Bool.{Bool, true}
 use mathlib.Core.Path.{◌≡◌, refl, sym, ap, ◌∙◌, fun_ext}
 use mathlib.Core.List.{List, [], ◌∷◌, ◌++◌, map, map-map}
@@ -9,14 +10,13 @@ use Rattle.rules.specs.declared.Request.{Request}
 use Rattle.rules.specs.Frame.{frame_bytes}
 use Rattle.rules.specs.Requests.{frame_of}
 use Rattle.rules.specs.Words.{up_to}
-use Rattle.words.proofs.UpToLaws.{length-up_to, get_or-up_to}
+use Rattle.tables.proofs.UpToLaws.{length-up_to, get_or-up_to}
+use Rattle.hints.specs.declared.known.Hints.{Hints}
 use Rattle.trial.specs.declared.Progress.{Progress}
-use Rattle.trial.specs.declared.machine.Next.{Next}
-use Rattle.trial.specs.declared.machine.Next.TheVariants.{Sends, Rests}
 use Rattle.trial.specs.Setup.{pane_count}
 use Rattle.trial.specs.Panes.{sends}
-use Rattle.trial.specs.Trial.{Trier, is_some, is_ready, Round, send, sends_now, next_of, turns, send_all}
-use Rattle.trial.specs.Progress.{asked, at, next_at}
+use Rattle.trial.specs.Trial.{Trier, is_ready, Round, send, sends_now, next_of, turns, send_all}
+use Rattle.trial.specs.Progress.{at, next_at}
 use Rattle.trial.specs.Trying.{trier_at, Trying}
 use Rattle.trial.proofs.UpToMore.{map-up_to}
 use Rattle.trial.proofs.WordLaws.{sends-same, ready-same}
@@ -35,7 +35,7 @@ next-get_or [] i d h = absurd (omega arith)
 next-get_or (x ∷ ts) zero d h = refl
 next-get_or (x ∷ ts) (suc i) d h = next-get_or ts i d (omega arith)
 
-module _ {ws : List ℕ} {k : ℕ} {r : Round} {space hints : List ℕ} {xs : List Progress}
+module _ {ws : List ℕ} {k : ℕ} {r : Round} {space : List ℕ} {hints : Hints} {xs : List Progress}
     (t : Trying ws k r space hints xs) where
   pub turn_is : (i : ℕ) (ready : Bool) → i < pane_count ws
       → sends_now ready (next_of r.panes i) r ≡ sends_now ready (next_at ws xs i) r
@@ -57,15 +57,12 @@ module _ {ws : List ℕ} {k : ℕ} {r : Round} {space hints : List ℕ} {xs : Li
       ∙ map-up_to is_ready (λ i. trier_at ws i (at xs i)) (pane_count ws)
 
   -- what is sent in a turn
-  pub turn_sends : {q : Request} (i : ℕ) {n : Next} → i < pane_count ws → asked n ≡ next_at ws xs i → n ≡ Sends q
+  pub turn_sends : {q : Request} (i : ℕ) → i < pane_count ws → next_at ws xs i ≡ Some q
       → sends_now true (next_of r.panes i) r ≡ send (frame_bytes (frame_of q)) r
-  turn_sends i h e told =
-      turn_is i true h ∙ ap (λ o. sends_now true o r) (sym e) ∙ ap (λ x. sends_now true (asked x) r) told
+  turn_sends i h e = turn_is i true h ∙ ap (λ o. sends_now true o r) e
 
-  pub turn_rests : (i : ℕ) {n : Next} → i < pane_count ws → asked n ≡ next_at ws xs i → n ≡ Rests
-      → sends_now true (next_of r.panes i) r ≡ r
-  turn_rests i h e told =
-      turn_is i true h ∙ ap (λ o. sends_now true o r) (sym e) ∙ ap (λ x. sends_now true (asked x) r) told
+  pub turn_rests : (i : ℕ) → i < pane_count ws → next_at ws xs i ≡ None → sends_now true (next_of r.panes i) r ≡ r
+  turn_rests i h e = turn_is i true h ∙ ap (λ o. sends_now true o r) e
 
 -- one turn more
 turns-append : (bs : List Bool) (b : Bool) (i : ℕ) (r : Round)

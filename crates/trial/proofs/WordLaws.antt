@@ -4,7 +4,7 @@ use Prim.Native.Nat.{ℕ, ◌*◌, ◌/◌, ◌%◌, ◌<◌}
 use mathlib.Core.Bool.{Bool, true, false, cond, ◌||◌}
 use mathlib.Core.Path.{◌≡◌, refl, sym, ap, ap₂, ◌∙◌, subst⁻¹}
 use mathlib.Core.List.{List, [], ◌∷◌, ◌++◌, map}
-use mathlib.Core.Option.{Option, none, some}
+use Rattle.std.proofs.Common.{Option, Some, None, is_some}
 use native.Mathlib.Omega.{arith}
 use lib.Dec.{eqb}
 use lib.ListN.{length, get_or, length-map, get_or-map}
@@ -16,18 +16,18 @@ use Rattle.rules.specs.declared.Request.TheVariants.{Write}
 use Rattle.rules.specs.Numbers.{record_size, kind_written, kind_found, kind_nothing, kind_waiting, kind_created}
 use Rattle.rules.specs.Numbers.{kind_committed, kind_aborted, kind_exception, kind_refused}
 use Rattle.rules.specs.Template.{four_fields, mark_of}
-use Rattle.rules.specs.Frame.{four_bytes, frame_bytes}
+use Rattle.rules.specs.Frame.{frame_bytes}
 use Rattle.rules.specs.Records.{record_bytes, record_at, answer_bytes, plain}
 use Rattle.rules.specs.Requests.{frame}
 use Rattle.rules.specs.Fits.{RecordFits}
 use Rattle.rules.specs.Words.{up_to}
 use Rattle.rules.proofs.ReadBack.{answer_back}
-use Rattle.words.proofs.UpToLaws.{up_to_ext}
+use Rattle.tables.proofs.UpToLaws.{up_to_ext}
 use Rattle.trial.specs.declared.Pane.{Pane}
 use Rattle.trial.specs.declared.Stage.{Stage}
 use Rattle.trial.specs.declared.Stage.TheVariants.{Creates, Takes, Waits, Holds, Commits, Aborts}
 use Rattle.trial.specs.Panes.{sends, hears, refused_in, ticked}
-use Rattle.trial.specs.Trial.{is_some, Round, send, sends_now}
+use Rattle.trial.specs.Trial.{Round, send, sends_now}
 use Rattle.trial.specs.Progress.{records_at}
 use Rattle.trial.specs.Trying.{as_word, word_id, in_words}
 use Rattle.trial.proofs.UpToMore.{up_to_list}
@@ -44,9 +44,6 @@ third_byte n = omega arith
 
 fourth_byte : (n : ℕ) → as_word n / 16777216 % 256 ≡ n / 16777216 % 256
 fourth_byte n = omega arith
-
-same_bytes : (n : ℕ) → four_bytes (as_word n) ≡ four_bytes n
-same_bytes n = rw (first_byte n, second_byte n, third_byte n, fourth_byte n)
 
 -- ---- records
 unfoldable pub in_record : Record → Record
@@ -119,11 +116,11 @@ sends-same p party (Holds t n) true r = go (eqb n 0)
   where
     writes : TxnId → Option Request
     writes u =
-        some
+        Some
         (Write
         (record { txn = u; party = party; blanks = 0; lease = p.lease; fields = four_fields p.written 0 0 0 }))
 
-    go : (b : Bool) → sends_now true (cond b (writes (word_id t)) none) r ≡ sends_now true (cond b (writes t) none) r
+    go : (b : Bool) → sends_now true (cond b (writes (word_id t)) None) r ≡ sends_now true (cond b (writes t) None) r
     go true = ap (λ bs. send bs r) (same-frame _ _ _ t.0 _ _)
     go false = refl
 sends-same p party (Commits t) true r = ap (λ bs. send bs r) (same-frame _ _ _ t.0 _ _)
@@ -136,7 +133,7 @@ ready-same p party (Takes t) = refl
 ready-same p party (Waits t) = refl
 ready-same p party (Holds t n) = go (eqb n 0) _ _
   where
-    go : (b : Bool) (x y : Request) → is_some (cond b (some x) none) ≡ is_some (cond b (some y) none)
+    go : (b : Bool) (x y : Request) → is_some (cond b (Some x) None) ≡ is_some (cond b (Some y) None)
     go true x y = refl
     go false x y = refl
 ready-same p party (Commits t) = refl

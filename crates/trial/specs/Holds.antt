@@ -1,7 +1,7 @@
 -- How long a pane holds: "A hold counts whole ticks, without the tick that itself served the found; hold 0 writes in
 -- the next round" (document 02, T-13): after how many ticks, for every hold; in which round, as a table of some.
 use Rattle.std.specs.Prelude.{ℕ, zero, suc, Bool, cond, ◌&&◌, ◌≡◌, List, [], ◌∷◌, ◌++◌, map, eqb, leb, length, drop}
-use Rattle.std.proofs.Math.Option.{none}
+use Rattle.std.specs.Prelude.{None}
 use Rattle.rules.specs.declared.TxnId.{TxnId}
 use Rattle.rules.specs.Lists.{anyb}
 use Rattle.rules.specs.Numbers.{forever, op_write}
@@ -59,7 +59,7 @@ tick_found hold = (8 ∷ 2 ∷ 1 ∷ []) ++ pane 3 0 7 8 50 ++ pane forever fore
 pub record HoldTable : Type 0 where
   -- whatever the hold: the write is sent once so many ticks have come, and nothing before, unless a record comes first
   pub every_hold : (p : Pane) (party : ℕ) (t : TxnId) (hold n : ℕ)
-      → sends p party (after_ticks n (Holds t hold)) ≡ cond (leb hold n) (sends p party (Holds t 0)) none
+      → sends p party (after_ticks n (Holds t hold)) ≡ cond (leb hold n) (sends p party (Holds t 0)) None
   pub by_own_frame : map (λ h. writes_in (own_found h) 1 6) (0 ∷ 1 ∷ 2 ∷ 3 ∷ [])
       ≡ (3 ∷ []) ∷ (3 ∷ []) ∷ (4 ∷ []) ∷ (5 ∷ []) ∷ []
   pub by_others_frame : map (λ h. writes_in (others_found h) 2 7) (0 ∷ 1 ∷ 2 ∷ 3 ∷ [])

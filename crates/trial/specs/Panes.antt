@@ -1,7 +1,6 @@
 -- A pane as a small machine fed with its records: "create, take one kind (mask 1), hold for some ticks after the found,
 -- write another kind (other fields 0), commit" (document 02, T-13).
-use Rattle.std.specs.Prelude.{ℕ, ◌-◌, true, false, cond, ◌||◌, eqb}
-use Rattle.std.proofs.Math.Option.{Option, none, some}
+use Rattle.std.specs.Prelude.{ℕ, ◌-◌, true, false, cond, ◌||◌, eqb, Option, Some, None}
 use Rattle.rules.specs.declared.Record.{Record}
 use Rattle.rules.specs.declared.Request.{Request}
 use Rattle.rules.specs.declared.Request.TheVariants.{Write, Find, Create, Commit, Abort}
@@ -14,9 +13,9 @@ use Rattle.trial.specs.declared.Stage.TheVariants.{Creates, Takes, Waits, Holds,
 
 -- what a pane sends next, as a party; none while it waits or holds
 unfoldable pub sends : Pane → ℕ → Stage → Option Request
-sends p party Creates = some (Create party p.txn_lease)
+sends p party Creates = Some (Create party p.txn_lease)
 sends p party (Takes t) =
-    some (Find (record {
+    Some (Find (record {
       txn = t;
       party = party;
       takes = true;
@@ -25,19 +24,19 @@ sends p party (Takes t) =
       timeout = p.timeout;
       fields = four_fields p.taken 0 0 0;
     }))
-sends p party (Waits t) = none
+sends p party (Waits t) = None
 sends p party (Holds t n) =
     cond (eqb n 0)
-    (some (Write (record {
+    (Some (Write (record {
       txn = t;
       party = party;
       blanks = 0;
       lease = p.lease;
       fields = four_fields p.written 0 0 0;
     })))
-    none
-sends p party (Commits t) = some (Commit party t)
-sends p party (Aborts t) = some (Abort party t)
+    None
+sends p party (Commits t) = Some (Commit party t)
+sends p party (Aborts t) = Some (Abort party t)
 
 -- after a refused frame: "After .. a refused frame in a transaction, the pane aborts next; after .. a refused create ..
 -- it starts over"

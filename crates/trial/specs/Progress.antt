@@ -1,6 +1,5 @@
 -- The panes as the code has them: what they do next and what is counted of them, and what a record or a tick does.
-use Rattle.std.specs.Prelude.{ℕ, suc, ◌+◌, ◌*◌, ◌≤◌, ◌<◌, cond, ◌≡◌, List, [], ◌∷◌, eqb, length, get_or}
-use Rattle.std.proofs.Math.Option.{Option, none, some}
+use Rattle.std.specs.Prelude.{ℕ, suc, ◌+◌, ◌*◌, ◌<◌, cond, ◌≡◌, List, [], ◌∷◌, eqb, get_or, Option}
 use Rattle.rules.specs.declared.Record.{Record}
 use Rattle.rules.specs.declared.Request.{Request}
 use Rattle.rules.specs.Numbers.{record_size, kind_nothing, kind_committed, kind_exception}
@@ -9,21 +8,8 @@ use Rattle.rules.specs.Words.{up_to}
 use Rattle.trial.specs.declared.Pane.{Pane}
 use Rattle.trial.specs.declared.Progress.{Progress}
 use Rattle.trial.specs.declared.Stage.TheVariants.{Creates}
-use Rattle.trial.specs.declared.machine.Next.{Next}
-use Rattle.trial.specs.declared.machine.Next.TheVariants.{Sends, Rests}
-use Rattle.trial.specs.Setup.{pane_count, starting_count, pane_at}
+use Rattle.trial.specs.Setup.{pane_count, pane_at}
 use Rattle.trial.specs.Panes.{sends, hears, ticked}
-
--- the code's answer, as a request or none
-abbrev pub asked : Next → Option Request
-asked (Sends q) = some q
-asked Rests = none
-
--- words that can be tried (`bad_setup`)
-pub record WellFormed (ws : List ℕ) : Type 0 where
-  pub few : pane_count ws ≤ 4
-  pub starting : starting_count ws ≤ 8
-  pub size : length ws ≡ 3 + 6 * pane_count ws + 5 * starting_count ws
 
 -- a pane that has not begun
 abbrev pub fresh : Progress

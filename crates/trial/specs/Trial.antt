@@ -1,7 +1,6 @@
 -- A trial: the frames that panes send in rounds, and what is counted of them (document 02, T-13).
 use Rattle.std.specs.Prelude.{ℕ, zero, suc, ◌*◌, Bool, true, false, cond, ◌&&◌, ◌≡◌, List, [], ◌∷◌, ◌++◌, map, eqb}
-use Rattle.std.specs.Prelude.{length, drop}
-use Rattle.std.proofs.Math.Option.{Option, none, some}
+use Rattle.std.specs.Prelude.{length, drop, Option, Some, None, is_some}
 use Rattle.rules.specs.declared.Record.{Record}
 use Rattle.rules.specs.declared.Request.{Request}
 use Rattle.rules.specs.declared.Request.TheVariants.{Tick}
@@ -28,10 +27,6 @@ pub record Trier : Type 0 where
 abbrev pub in_stage : Stage → Trier → Trier
 in_stage s x = record { party = x.party; pane = x.pane; stage = s }
 
-abbrev pub is_some : Option Request → Bool
-is_some none = false
-is_some (some q) = true
-
 -- "not waiting or holding"
 abbrev pub is_ready : Trier → Bool
 is_ready x = is_some (sends x.pane x.party x.stage)
@@ -57,11 +52,11 @@ send bs r =
 -- round sends nothing more in that round"
 abbrev pub sends_now : Bool → Option Request → Round → Round
 sends_now false q r = r
-sends_now true none r = r
-sends_now true (some q) r = send (frame_bytes (frame_of q)) r
+sends_now true None r = r
+sends_now true (Some q) r = send (frame_bytes (frame_of q)) r
 
 abbrev pub next_of : List Trier → ℕ → Option Request
-next_of [] i = none
+next_of [] i = None
 next_of (x ∷ xs) zero = sends x.pane x.party x.stage
 next_of (x ∷ xs) (suc i) = next_of xs i
 

@@ -8,13 +8,15 @@ use Rattle.rules.specs.Words.{up_to, view}
 use Rattle.rules.specs.Sound.{Sound}
 use Rattle.rules.specs.SerialRun.{Logged}
 use Rattle.rules.specs.Log.{log_from, records_of}
+use Rattle.hints.specs.declared.known.Hints.{Hints}
 use Rattle.hints.specs.Hints.{Reliable}
 use Rattle.trial.specs.declared.Progress.{Progress}
 use Rattle.trial.specs.declared.Stage.{Stage}
 use Rattle.trial.specs.declared.Stage.TheVariants.{Creates, Takes, Waits, Holds, Commits, Aborts}
 use Rattle.trial.specs.Setup.{pane_count, pane_at}
 use Rattle.trial.specs.Trial.{Trier, in_stage, Round, tally}
-use Rattle.trial.specs.Progress.{WellFormed, at}
+use Rattle.trial.specs.declared.rounds.Trial.{Trial}
+use Rattle.trial.specs.Progress.{fresh, at}
 
 -- a transaction's number as four bytes tell it: a pane knows no other
 abbrev pub as_word : ℕ → ℕ
@@ -45,7 +47,7 @@ pub record Counted (log : List Logged) (party : ℕ) (x : Progress) : Type 0 whe
   pub nothings : x.nothings ≡ tally kind_nothing party log
 
 -- after at most k frames
-pub record Trying (ws : List ℕ) (k : ℕ) (r : Round) (space hints : List ℕ) (xs : List Progress) : Type 0 where
+pub record Trying (ws : List ℕ) (k : ℕ) (r : Round) (space : List ℕ) (hints : Hints) (xs : List Progress) : Type 0 where
   pub model : view space ≡ r.model
   pub sound : Sound (view space)
   pub reliable : Reliable hints (view space)
@@ -60,15 +62,21 @@ abbrev pub most_frames : ℕ
 most_frames = 8 + 5 * 1000
 
 -- a trial is under way, in which n frames more may be sent
-pub record Underway (ws : List ℕ) (n : ℕ) (space hints : List ℕ) (xs : List Progress) : Type 0 where
-  pub setup : WellFormed ws
+pub record Underway (n : ℕ) (t : Trial) : Type 0 where
   pub sent : ℕ
   pub round : Round
-  pub trying : Trying ws sent round space hints xs
+  pub trying : Trying t.setup.words.now sent round t.space t.hints t.panes
   pub left : sent + n ≤ most_frames
 
 -- it goes on as the rules do, with at most n frames
-abbrev pub Goes : List ℕ → ℕ → (Round → Round) → List ℕ → List ℕ → List Progress → List ℕ → List ℕ → List Progress
-    → Type 0
-Goes ws n f space hints xs space' hints' ys =
-    (k : ℕ) (r : Round) → Trying ws k r space hints xs → Trying ws (k + n) (f r) space' hints' ys
+pub record Goes (n : ℕ) (f : Round → Round) (t t' : Trial) : Type 0 where
+  pub setup : t'.setup.words.now ≡ t.setup.words.now
+  pub trying : (k : ℕ) (r : Round) → Trying t.setup.words.now k r t.space t.hints t.panes
+      → Trying t.setup.words.now (k + n) (f r) t'.space t'.hints t'.panes
+
+-- nothing is sent yet
+pub record Begun (ws : List ℕ) (t : Trial) : Type 0 where
+  pub setup : t.setup.words.now ≡ ws
+  pub space : view t.space ≡ empty
+  pub hints : Reliable t.hints empty
+  pub panes : (i : ℕ) → i < 4 → at t.panes i ≡ fresh

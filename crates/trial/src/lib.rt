@@ -9,7 +9,7 @@ mod setup;
 ghost use Rattle.trial.specs.Trial.{Tried};
 
 use crate::rounds::count_trial;
-use crate::setup::refusal;
+use crate::setup::Setup;
 use rules::TxnId;
 
 // A pane's own leases, timeout, kinds and hold.
@@ -26,8 +26,9 @@ pub struct Pane {
 }
 
 // What a pane does next.
-#[derive(Clone, Copy)]
+#[derive(Clone, Copy, Default)]
 pub enum Stage {
+    #[default]
     Creates,
     Takes(TxnId),
     Waits(TxnId),
@@ -38,7 +39,7 @@ pub enum Stage {
 }
 
 // A pane on its way: what it does next, and what has been counted of it.
-#[derive(Clone, Copy)]
+#[derive(Clone, Copy, Default)]
 pub struct Progress {
     pub stage: Stage,
     pub commits: u32,
@@ -49,13 +50,15 @@ pub struct Progress {
 // A refusal's number stands above the lower 16 bits of what is returned.
 const NUMBER: u64 = 65536;
 
+// Kept: a number, since the space hands it on to C as it is.
 pub fn run(setup: &[u32], counts: &mut [u32]) -> u64
     ensures { Tried setup.now counts.old result counts.new }
 {
-    let number = refusal(setup, counts.len());
-    if number != 0 {
-        return NUMBER * number as u64;
+    match Setup::read(setup, counts.len()) {
+        Ok(setup) => {
+            count_trial(&setup, counts);
+            0
+        }
+        Err(refused) => NUMBER * u64::from(refused.number()),
     }
-    count_trial(setup, counts);
-    0
 }

@@ -20,12 +20,6 @@ prints_within text old new n p h =
     let l = length-append text (drop (length text) old) in
     omega (arith, p.count, ap length p.bytes, l, length-drop (length text) old)
 
-pub prints_length : (text old new : List ℕ) (n : ℕ) → Prints true text old new n → n ≤ length old
-    → length new ≡ length old
-prints_length text old new n p h =
-    let l = length-append text (drop (length text) old) in
-    omega (arith, p.count, ap length p.bytes, l, length-drop (length text) old)
-
 -- the bytes of a line of a buffer from `at` on, and the buffer with other bytes in their place
 abbrev pub line_at : List ℕ → ℕ → List ℕ
 line_at out at = take (at + line_size - at) (drop at out)

@@ -25,7 +25,7 @@ use Rattle.demands.proofs.TraysProof.{trays_are_histories, numbers_are_read_back
 use Rattle.demands.proofs.Follows.{follows-bounds}
 use Rattle.printer.specs.Text.{Prints, line_size, has_line}
 use Rattle.viewer_lib.specs.Shows.{record_texts, Shows}
-use Rattle.viewer_lib.proofs.PrintedLaws.{line_at, with_line, line_room, by_room, no_longer, prints_then}
+use Rattle.viewer_lib.proofs.PrintedLaws.{line_at, with_line, line_room, by_room, prints_then}
 use Rattle.viewer_lib.proofs.RecordLines.{texts_are_lines}
 
 -- the bytes of a slice, of a part of it, and of each frame of a tray
@@ -135,9 +135,6 @@ module _ (tray area area' : List ℕ) (told : ℕ) (r : TrayRan tray area told a
       (same : length new ≡ length (line_at out at)) where
     last : Prints true (last_line told) (line_at out at) new n
     last = by_room (has_line (line_at out at)) (last_line told) (line_at out at) new n (line_room out at k) p
-
-    pub shown_short : n ≤ line_size
-    shown_short = no_longer (record_texts (records_in told) area') (last_line told) old out new at n f last same
 
     pub shown : Shows tray area old (with_line out at new) (at + n)
     unfolding o

@@ -3,7 +3,7 @@
 
 mod text;
 
-use input::read_input;
+use input::answer_input;
 use printer::LINE_SIZE;
 use rules::numbers::MAX_TRAY;
 use text::show_tray;
@@ -16,18 +16,14 @@ const AREA: usize = 65536;
 // is printed. No contract can say what was read from or written to a descriptor: what is proved is the text between,
 // `show_tray`'s (DECISIONS 37).
 pub fn show(rt: &(impl Input + Print + Eprint)) {
-    let mut tray = [0u8; MAX_TRAY + 1];
-    let mut answers = [0u8; AREA];
-    let mut text = [0u8; 4 * AREA + LINE_SIZE];
-    let mut reader = rt.reader();
-    let input = read_input(&mut reader, &mut tray);
-    if !input.ok {
-        let _ = rt.eprintln("viewer: cannot read standard input");
-        return;
-    }
-    let len = input.len;
-    let end = show_tray(&tray[..len], &mut answers, &mut text);
-    if rt.write_all(&text[..end]).is_err() {
-        let _ = rt.eprintln("viewer: cannot write all of standard output");
-    }
+    let mut bytes = [0; MAX_TRAY + 1];
+    let mut answers = [0; AREA];
+    let mut text = [0; 4 * AREA + LINE_SIZE];
+    answer_input(
+        rt,
+        "viewer",
+        &mut bytes,
+        &mut text,
+        |tray, out| show_tray(tray, &mut answers, out),
+    );
 }

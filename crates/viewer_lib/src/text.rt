@@ -14,13 +14,10 @@ fn put_records(answers: &[u8], count: usize, out: &mut [u8]) -> usize
     ensures { Prints true (record_texts count answers.now) out.old out.new result
         × (result ≤ line_size * count) }
 {
-    let mut at: usize = 0;
-    let mut i: usize = 0;
-    while i < count {
-        let from = RECORD_SIZE * i;
-        let end = at + LINE_SIZE;
-        at += record_line(&answers[from..], &mut out[at..end]);
-        i += 1;
+    let mut at = 0;
+    // Kept: by places: over `chunks_exact(..).take(n)` the body would call the same reader: no plainer.
+    for i in 0..count {
+        at += record_line(&answers[RECORD_SIZE * i..], &mut out[at..at + LINE_SIZE]);
     }
     at
 }
@@ -31,11 +28,11 @@ pub(crate) fn show_tray(tray: &[u8], answers: &mut [u8], out: &mut [u8]) -> usiz
     requires { 4 * length answers.old + line_size ≤ length out.old }
     ensures { Shows tray.now answers.old out.old out.new result }
 {
+    // Kept: three numbers in one, as the space hands them on to C.
     let told = run_tray(tray, answers);
     let frames = (told % 65536) as u32;
     let records = (told / 65536 % 65536) as u32;
     let number = (told / 4294967296) as u32;
     let at = put_records(answers, records as usize, out);
-    let end = at + LINE_SIZE;
-    at + done_line(frames, records, number, &mut out[at..end])
+    at + done_line(frames, records, number, &mut out[at..at + LINE_SIZE])
 }

@@ -1,3 +1,5 @@
--- The words of a space are four tables: rows read, put, moved and appended.
-pub mod Rows
+-- The tables of a space, as laws of their rows, and ends that a word can hold.
+pub mod Answers
+pub mod NumberLaws
+pub mod TableLaws
 pub mod Ends

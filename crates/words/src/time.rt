@@ -1,7 +1,7 @@
-// Where leases and timeouts end, and whether that is reached.
+// Where leases and timeouts end.
 ghost use Rattle.std.specs.Prelude.{◌≡◌};
-ghost use Rattle.rules.specs.Time.{until, reached};
-ghost use Rattle.words.specs.Rows.{FitsWord};
+ghost use Rattle.rules.specs.Time.{until};
+ghost use Rattle.tables.specs.Rows.{FitsWord};
 ghost use Rattle.words.specs.Ends.{InTime};
 
 use rules::Until;
@@ -16,15 +16,5 @@ pub fn end_of(clock: u32, lease: u32) -> Until
         Until::Forever
     } else {
         Until::Tick(clock + lease)
-    }
-}
-
-// Whether the clock has reached an end.
-pub fn reached_at(clock: u32, end: Until) -> bool
-    ensures { result ≡ reached clock end }
-{
-    match end {
-        Until::Tick(t) => t <= clock,
-        Until::Forever => false,
     }
 }

@@ -1,5 +1,5 @@
 -- A digit; or the digits of a tenth, and one more behind them.
-use Rattle.std.proofs.Common.{arith}
+use Rattle.std.proofs.Common.{refl, arith}
 use Rattle.printer.proofs.DigitLaws.{one-long, many-long}
 use Rattle.printer.proofs.TextLaws.{puts_digit, puts-digits}
 use Rattle.printer.proofs.+put_decimal.Goals as goal
@@ -7,13 +7,9 @@ use Rattle.printer.proofs.+put_decimal.Goals as goal
 pub bounds-out-at : goal.bounds-out-at
 bounds-out-at t c = omega (arith, c.requires, one-long c.args.n c.if-n-lt10.true)
 
-pub overflow_add-result : goal.overflow_add-result
-overflow_add-result t c = omega (arith, c.requires, one-long c.args.n c.if-n-lt10.true)
-
 pub returns-then-n-lt10 : goal.returns-then-n-lt10
 returns-then-n-lt10 t c =
-    let one = one-long c.args.n c.if-n-lt10.true in
-    puts_digit _ _ c.args.n _ c.if-n-lt10.true c.digit.ensures (omega (arith, c.requires))
+    puts_digit _ _ c.args.n _ c.if-n-lt10.true refl (omega (arith, c.requires, one-long c.args.n c.if-n-lt10.true))
 
 pub put_decimal-next-requires : goal.put_decimal-next-requires
 put_decimal-next-requires t c =
@@ -24,11 +20,6 @@ bounds-out-next t c =
     let many = many-long c.args.n c.ranges.n.fits c.if-n-lt10.false in
     omega (arith, c.requires, c.put_decimal-next.ensures.end, c.put_decimal-next.auto.out)
 
-pub overflow_add-result-2 : goal.overflow_add-result-2
-overflow_add-result-2 t c =
-    let many = many-long c.args.n c.ranges.n.fits c.if-n-lt10.false in
-    omega (arith, c.requires, c.put_decimal-next.ensures.end, c.well_formed.0.0)
-
 pub returns : goal.returns
 returns t c =
-    puts-digits _ _ _ _ _ _ c.ranges.n.fits c.if-n-lt10.false c.put_decimal-next.ensures c.digit-2.ensures c.requires
+    puts-digits _ _ _ _ _ _ c.ranges.n.fits c.if-n-lt10.false c.put_decimal-next.ensures refl c.requires

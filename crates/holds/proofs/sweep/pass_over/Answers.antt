@@ -1,46 +1,82 @@
-use Rattle.std.proofs.Common.{◌+◌, arith, sym, ◌∙◌}
-use mathlib.Core.Path.{subst⁻¹, subst₂}
-use Rattle.words.proofs.CompactLaws.{compact_passed}
-use Rattle.holds.proofs.SweepLaws.{Sweeping, sweep_still, sweep_kept, sweep_done, same_before}
-use Rattle.rules.specs.Words.{view}
+use Rattle.std.proofs.Common.{◌≡◌, ◌+◌, ◌∙◌, sym, true, arith, rules}
+use mathlib.Core.Path.{subst⁻¹}
+use Rattle.rules.specs.Words.{view, entry_words}
+use Rattle.tables.proofs.CompactLaws.{compact_passed, compact_moved, compact_put}
 use Rattle.holds.specs.Sweep.{SameBefore}
+use Rattle.holds.proofs.SweepLaws.{Sweeping, found_within, passed_some, passed_none, passed_fits}
+use Rattle.holds.proofs.SweepLaws.{sweep_still, still_before, same_before, sweep_done}
 use Rattle.holds.proofs.sweep.pass_over.Goals as goal
-use Rattle.holds.proofs.sweep.pass_over.Goals.{then-keeps_entry, else-keeps_entry}
+use Rattle.holds.proofs.sweep.pass_over.Goals.{then-not-touches, else-not-touches+in-Some}
 
 pub loop-i-init : goal.loop-i-init
-loop-i-init c =
-    (c.first_touched-first.ensures.0, sweep_still c.args.s c.args.space.now _ c.first_touched-first.ensures.1)
-
-pub keep_entry-requires : goal.keep_entry-requires
-keep_entry-requires c = (c.requires, omega (arith, c.loop-i.invariant.1.behind))
-
-pub loop-i-preserved : goal.loop-i-preserved
-loop-i-preserved c =
-    let a = c.args in
-    let l = c.loop-i in
-    let long = c.entry_count-count.ensures.1 in
-    let r = c.entry_at-e.ensures in
-    let k = c.keeps_entry.ensures in (
+loop-i-init g c =
+    let count = c.row_count-count.ensures.0 in
+    let row = c.first_row.ensures in (
+      c.requires.0,
+      c.requires.1,
+      found_within c.args.space.now c.first_row.result row.row count c.unwrap_or-first.ensures,
       omega arith,
-      elim c.if-keeps_entry.branch [
-        | then-keeps_entry w ↦
-            subst₂ (λ x m. Sweeping a.s a.space.now x (l.i + 1) m) (sym w.space-is) (sym w.n-is)
-            (sweep_kept a.s l.invariant.1 long (omega arith) r (sym k ∙ w.if-keeps_entry.true) w.keep_entry.ensures)
-        | else-keeps_entry w ↦
-            subst₂ (λ x m. Sweeping a.s a.space.now x (l.i + 1) m) (sym w.space-is) (sym w.n-is)
-            (compact_passed l.invariant.1 r (sym k ∙ w.if-keeps_entry.false))
-      ],
+      λ touch keep change laws touches passes.
+          let found = row.first touch (λ e r k. search (rules, touches)) in
+          let ws = c.args.space.now in
+          sweep_still keep change ws _
+          (still_before keep change touch laws ws c.first_row.result found count c.unwrap_or-first.ensures),
     )
 
-pub set_entry_count-requires : goal.set_entry_count-requires
-set_entry_count-requires c = omega (arith, c.loop-i.invariant.1.behind)
+pub loop-i-preserved-in_default : goal.loop-i-preserved-in_default
+loop-i-preserved-in_default g c =
+    let l = c.loop-i.invariant in
+    let e = c.row_at-e.result in (
+      c.requires.0,
+      c.requires.1,
+      omega arith,
+      omega (arith, l.3),
+      λ touch keep change laws touches passes.
+          let touched : touch e ≡ true = sym (touches _ _ c.touches.ensures) ∙ c.if-not-touches.false in
+          let gone = passed_none keep change e (sym (passes _ _ touched c.pass.ensures) ∙ search rules) in
+          compact_passed (l.4 touch keep change laws touches passes) c.row_at-e.ensures gone,
+    )
+
+pub loop-i-preserved : goal.loop-i-preserved
+loop-i-preserved g c =
+    let l = c.loop-i.invariant in
+    let is = c.row_at-e.ensures in
+    let e = c.row_at-e.result in
+    let count = c.row_count-count.ensures in (
+      c.requires.0,
+      c.requires.1,
+      omega arith,
+      omega (arith, l.3),
+      λ touch keep change laws touches passes.
+          let done = l.4 touch keep change laws touches passes in
+          elim c.if-not-touches.branch [
+            | then-not-touches w ↦
+                let spared = laws.spared e (sym (touches _ _ c.touches.ensures) ∙ w.if-not-touches.true) in
+                subst⁻¹ (λ ws. Sweeping keep change c.args.space.now ws (c.loop-i.i + 1) (c.loop-i.kept + 1)) w.space-is
+                (compact_moved done is spared.0 (omega (arith, count.0)) (omega (arith, count.1)) w.move_row.ensures
+                spared.1)
+            | else-not-touches+in-Some w ↦
+                let touched : touch e ≡ true = sym (touches _ _ c.touches.ensures) ∙ w.if-not-touches.false in
+                let stays = passed_some keep change e (sym (passes _ _ touched w.pass.ensures) ∙ w.in-Some.is) in
+                let fits = passed_fits keep change laws c.loop-i.space c.loop-i.i is stays.1 in
+                let put = w.put_row.ensures in
+                subst⁻¹ (λ ws. Sweeping keep change c.args.space.now ws (c.loop-i.i + 1) (c.loop-i.kept + 1)) w.space-is
+                (compact_put done is stays.0 (omega (arith, count.0)) (omega (arith, count.1)) (entry_words w.in-Some.x)
+                put.words put.width (put.back fits ∙ sym stays.1))
+          ],
+    )
 
 pub returns : goal.returns
-returns c =
-    let a = c.args in
-    let count = c.entry_count-count.ensures in
-    let first = c.first_touched-first.ensures in
-    let done = sweep_done a.s c.loop-i.invariant.1 count.1 (omega arith) c.set_entry_count.ensures in
-    let r = c.first_touched-first.result in
-    let same = same_before a.s a.space.now r (omega (arith, first.0, count.0)) first.1 in
-    (done.0, done.1, subst⁻¹ (SameBefore r (view a.space.now)) done.0 same)
+returns g c touch keep change laws touches passes =
+    let ws = c.args.space.now in
+    let count = c.row_count-count.ensures in
+    let row = c.first_row.ensures in
+    let first = c.unwrap_or-first in
+    let done =
+    sweep_done keep change (c.loop-i.invariant.4 touch keep change laws touches passes) count.1 (omega (arith, count.0))
+    c.set_row_count.ensures in
+    let found = row.first touch (λ e r k. search (rules, touches)) in
+    let still = still_before keep change touch laws ws c.first_row.result found count.0 first.ensures in
+    let within = found_within ws c.first_row.result row.row count.0 first.ensures in
+    let same = same_before keep change ws first.result (omega (arith, within, count.0)) still in
+    (done, subst⁻¹ (SameBefore first.result (view ws)) done same)

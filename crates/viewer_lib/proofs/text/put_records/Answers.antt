@@ -3,7 +3,7 @@ use Rattle.viewer_lib.proofs.PrintedLaws.{none_printed, record_short, record_pri
 use Rattle.viewer_lib.proofs.text.put_records.Goals as goal
 
 pub loop-i-init : goal.loop-i-init
-loop-i-init c = (none_printed _ _, omega arith, omega arith)
+loop-i-init c = (none_printed _ _, omega arith)
 
 pub loop-i-preserved : goal.loop-i-preserved
 loop-i-preserved c =
@@ -13,5 +13,4 @@ loop-i-preserved c =
     record_short _ _ l.out _ l.at l.i _ l.invariant.0 (omega arith) (omega arith) t.ensures t.auto.out in (
       record_printed _ _ l.out _ l.at l.i _ l.invariant.0 (omega arith) (omega arith) t.ensures t.auto.out,
       omega (arith, short),
-      omega arith,
     )

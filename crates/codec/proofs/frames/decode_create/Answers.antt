@@ -1,0 +1,27 @@
+-- `decode_create`: document 01's refusals 3 to 5, or the create that the frame asks for.
+use Rattle.std.proofs.Common.{refl, sym, ◌∙◌}
+use Rattle.rules.specs.Numbers.{op_create}
+use Rattle.rules.specs.Frame.{layout_of}
+use Rattle.codec.proofs.FormLaws.{create_head}
+use Rattle.codec.proofs.RequestLaws.{handed_on, wrong_length_lem, create-asks}
+use Rattle.codec.proofs.frames.decode_create.Goals as goal
+
+pub returns-in_err-check_length : goal.returns-in_err-check_length
+unfolding layout_of
+returns-in_err-check_length c =
+    wrong_length_lem _ op_create (sym c.requires, refl) _ c.from_residual.ensures.1 c.in_err-check_length.ensures
+
+pub returns-in_err-check_head : goal.returns-in_err-check_head
+unfolding layout_of
+returns-in_err-check_head c =
+    handed_on _ _ c.from_residual-in_err-check_head.ensures.1
+    (c.in_err-check_head.ensures
+    ∙ rw c.number_at.ensures
+    (sym (create_head _ op_create (sym c.requires, refl) refl c.in_ok-check_length.ensures)))
+
+pub returns : goal.returns
+unfolding layout_of
+returns c =
+    rw c.number_at-2.ensures
+    (create-asks _ (create_head _ op_create (sym c.requires, refl) refl c.in_ok-check_length.ensures
+    ∙ sym (rw c.number_at.ensures at c.in_ok-check_head.ensures)) c.requires)
