@@ -1,5 +1,5 @@
 // The search of the entries for a look-up, and whether it waits in vain.
-ghost use Rattle.std.specs.Prelude.{false, ◌≡◌, ◌+◌, ◌≤◌, ◌<◌, Bool, MatchOption};
+ghost use Rattle.std.specs.Prelude.{◌≡◌, ◌+◌, ◌≤◌, ◌<◌, Bool, MatchOption};
 ghost use Rattle.rules.specs.Closing.{is_over};
 ghost use Rattle.rules.specs.Holds.{oldest, some_conflicts};
 ghost use Rattle.rules.specs.Numbers.{max_entries, max_waits};

@@ -1,5 +1,5 @@
 // Who holds what: templates, read holders, availability.
-ghost use Rattle.std.specs.Prelude.{◌≡◌, ◌+◌, ◌-◌, ◌%◌, ◌^◌, ◌≤◌, ◌<◌, false, ◌&&◌, ◌||◌, eqb};
+ghost use Rattle.std.specs.Prelude.{◌≡◌, ◌+◌, ◌-◌, ◌%◌, ◌≤◌, ◌<◌, false, ◌&&◌, ◌||◌, eqb};
 ghost use Rattle.rules.specs.Numbers.{places};
 ghost use Rattle.rules.specs.Places.{in_arc};
 ghost use Rattle.rules.specs.Template.{bit, agrees, asked_equal, asks_arc, lies, matches};

@@ -1,8 +1,7 @@
 -- What is counted of a tray's frames, one after another.
-use Rattle.std.specs.Prelude.{ℕ, ◌+◌, ◌-◌, ◌*◌, ◌≤◌, min, cond, ◌||◌, List, take, drop}
+use Rattle.std.specs.Prelude.{ℕ, ◌+◌, ◌*◌, ◌≤◌, min, cond, ◌||◌, List}
 use Rattle.rules.specs.Numbers.{max_frames, max_registrations}
-use Rattle.rules.specs.Frame.{byte_at, is_write, is_look_up, is_create, is_commit, is_notify}
-use Rattle.tray.specs.declared.pairs.Pair.{Pair}
+use Rattle.rules.specs.Frame.{is_write, is_look_up, is_create, is_commit, is_notify}
 use Rattle.bounds.specs.declared.Counts.{Counts}
 use Rattle.bounds.specs.Bounds.{many, records_bound}
 
@@ -27,10 +26,6 @@ counting op c =
       notifies = c.notifies + cond (is_notify op) 1 0;
       records = c.records + share op c.notifies;
     }
-
--- byte 0 of the frame that stands from offset to end
-abbrev pub first_byte : List ℕ → Pair → ℕ
-first_byte tray p = byte_at (take (p.end - p.offset) (drop p.offset tray)) 0
 
 -- no more frames than a tray may have, each with a share of 11 at most
 pub record FewFrames (c : Counts) : Type 0 where

@@ -1,7 +1,7 @@
 // How big an area a tray wants: two bounds, from the tray alone, in one pass over its pairs.
 #![tactic(auto)]
 
-ghost use Rattle.std.specs.Prelude.{min, ◌≡◌, ◌+◌, ◌≤◌, ◌*◌, length, MatchResult};
+ghost use Rattle.std.specs.Prelude.{min, ◌≡◌, ◌+◌, ◌≤◌, ◌*◌, MatchResult};
 ghost use Rattle.rules.specs.Numbers.{max_entries, max_registrations};
 ghost use Rattle.rules.specs.Requests.{number};
 ghost use Rattle.bounds.specs.Bounds.{bounds_number};

@@ -2,7 +2,7 @@
 use Prim.Native.Nat.{ℕ, zero, suc, ◌+◌, ◌≤◌, ◌<◌}
 use mathlib.Core.Bool.{Bool, cond, ◌&&◌}
 use mathlib.Core.Path.{◌≡◌, refl, sym, ap, ap₂, ◌∙◌}
-use mathlib.Core.List.{List, [], ◌∷◌, ◌++◌, map, map-append, append-nil}
+use mathlib.Core.List.{List, [], ◌∷◌, ◌++◌, map, map-append, append-nil, append_assoc}
 use native.Mathlib.Numerals.{add-one}
 use native.Mathlib.Omega.{arith}
 use lib.ListN.{length, length-append, get_or, set, take}
@@ -15,8 +15,9 @@ use Rattle.rules.specs.State.{Model, with_registrations}
 use Rattle.rules.specs.Words.{view, registration_count, registration_of, until_of}
 use Rattle.std.specs.List.{filter}
 use Rattle.rules.specs.Lists.{filterb}
-use Rattle.rules.specs.Numbers.{max_entries}
+use Rattle.rules.specs.Numbers.{max_entries, max_registrations}
 use Rattle.rules.proofs.ListLaws.{count, filter-filter, length-filter}
+use Rattle.rules.proofs.ViewLaws.{view-bounded}
 use Rattle.tables.specs.Rows.{registration_row, FitsWord}
 use Rattle.tables.proofs.Tables.{registration_in, length-entries, length-registrations, until_back}
 use Rattle.holds.specs.Registry.{is_own, own_matching, heard_once, heard_by}
@@ -46,6 +47,17 @@ own_counted t ws g r e =
 pub one_left : {A : Type 0} (passed rest : List A) {all more : List A} {x : A} {k : ℕ} → length passed ≡ k
     → passed ++ rest ≡ all → rest ≡ x ∷ more → k < length all
 one_left passed rest l e s = omega (arith, l, ap length e, length-append passed rest, ap length s)
+
+-- so a registration more has a place
+pub has_place : (passed rest : List Registration) (ws : List ℕ) {more : List Registration} {x : Registration} {k : ℕ}
+    → length passed ≡ k → passed ++ rest ≡ (view ws).registrations → rest ≡ x ∷ more → k < max_registrations
+has_place passed rest ws l e s = omega (arith, one_left passed rest l e s, (view-bounded ws).registrations_fit)
+
+-- one more is passed
+pub one_passed : {A : Type 0} (passed rest : List A) {all more : List A} {x : A} → passed ++ rest ≡ all
+    → rest ≡ x ∷ more → (passed ++ (x ∷ [])) ++ more ≡ all
+one_passed passed rest {more = more} {x = x} e s =
+    append_assoc passed (x ∷ []) more ∙ ap (λ xs. passed ++ xs) (sym s) ∙ e
 
 module _ {A : Type 0} (v : A → ℕ) (cs : List ℕ) (passed : List A) (k : ℕ) (s : take k cs ≡ map v passed) where
   pub filled_more : {n i j : ℕ} {x : A} → i ≡ k → j ≡ k + 1 → i < length cs → n ≡ v x

@@ -1,5 +1,5 @@
 // Registrations: made, ended, and what they hear of.
-ghost use Rattle.std.specs.Prelude.{◌≡◌, ◌&&◌, List, ℕ, length, map, take};
+ghost use Rattle.std.specs.Prelude.{◌≡◌, ◌&&◌, ℕ, length, map, take};
 ghost use Rattle.rules.specs.declared.Registration.{Registration};
 ghost use Rattle.rules.specs.declared.Request.TheVariants.{Notify};
 ghost use Rattle.rules.specs.Notify.{notify};

@@ -2,9 +2,9 @@
 // are judged. (18 is given where a renewal's entry is looked for, in `step`.)
 #![tactic(auto)]
 
-ghost use Rattle.std.specs.Prelude.{◌≡◌, ◌≤◌, [], ◌∷◌, not, eqb, leb, length};
+ghost use Rattle.std.specs.Prelude.{◌≡◌, not, leb, length};
 ghost use Rattle.rules.specs.Lists.{All};
-ghost use Rattle.rules.specs.Numbers.{forever, last_clock};
+ghost use Rattle.rules.specs.Numbers.{forever};
 ghost use Rattle.rules.specs.Requests.{frame_of, number, number_of, space_refusal};
 ghost use Rattle.rules.specs.Words.{view};
 ghost use Rattle.rules.specs.declared.Request.TheVariants.{Write, Find, Create, Commit, Abort, Notify, Tick};

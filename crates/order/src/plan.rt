@@ -1,6 +1,6 @@
 // The plan of a search: each action with its number's slot. A number's slot is where it stands first among those handed
 // in, so that the search compares no numbers.
-ghost use Rattle.std.specs.Prelude.{◌≡◌, ℕ, ◌+◌, ◌≤◌, ◌<◌, map, get_or, length, MatchOption, position, ◌==◌};
+ghost use Rattle.std.specs.Prelude.{◌≡◌, ℕ, ◌+◌, ◌≤◌, ◌<◌, get_or, length, MatchOption, position, ◌==◌};
 ghost use Rattle.order.specs.Reading.{slots, max_txns};
 ghost use Rattle.order.specs.Plan.{AllPlaced, Resolved, WrittenTwice, Planned, Unplanned};
 

@@ -1,14 +1,12 @@
-use Rattle.std.proofs.Common.{◌≡◌, ◌<◌, ℕ, List, map, sym, ap, ◌∙◌, arith, length, length-append, append_assoc}
+use Rattle.std.proofs.Common.{◌≡◌, map, sym, ap, ◌∙◌, arith, length, length-append}
 use Rattle.std.proofs.Common.{[], ◌∷◌, ◌++◌, inl}
 use mathlib.Core.Path.{subst}
-use Rattle.rules.specs.declared.Registration.{Registration}
 use Rattle.rules.specs.Lists.{filterb}
-use Rattle.rules.specs.Numbers.{max_registrations}
 use Rattle.rules.specs.Words.{view}
 use Rattle.rules.proofs.ViewLaws.{view-bounded}
 use Rattle.tables.specs.Table.{left}
 use Rattle.tables.specs.Tables.{registration_table}
-use Rattle.holds.proofs.RegistryLaws.{one_left}
+use Rattle.holds.proofs.RegistryLaws.{has_place, one_passed}
 use Rattle.finish.specs.Bells.{rung_by, beside}
 use Rattle.finish.specs.Does.{Adds}
 use Rattle.finish.proofs.BellLaws.{rings, bell, no_bells, bells_passed, bells-more, all_left}
@@ -38,38 +36,29 @@ loop-i-init c =
     = cc in
     ([], sym start, all, omega arith, no_bells c.args.counts.now _ _)
 
--- one more has a place
-below : (passed rest more : List Registration) (x : Registration) (k : ℕ) (ws : List ℕ) → length passed ≡ k
-    → passed ++ rest ≡ (view ws).registrations → rest ≡ x ∷ more → k < max_registrations
-below passed rest more x k ws l e s =
-    omega (arith, one_left passed rest l e s, (view-bounded ws).registrations_fit)
-
 pub bounds-counts-i : goal.bounds-counts-i
 bounds-counts-i c =
     let s = c.in-Some.ensures.steps in
     let l = c.loop-i.invariant in
-    omega (arith, s.1, below _ _ _ _ _ c.args.space.now l.1 l.2 s.0)
+    omega (arith, s.1, has_place _ _ c.args.space.now l.1 l.2 s.0)
 
 pub offset_bounds-counts-i : goal.offset_bounds-counts-i
 offset_bounds-counts-i c =
     let s = c.in-Some.ensures.steps in
     let l = c.loop-i.invariant in
-    record { fits = omega (arith, s.1, below _ _ _ _ _ c.args.space.now l.1 l.2 s.0) }
+    record { fits = omega (arith, s.1, has_place _ _ c.args.space.now l.1 l.2 s.0) }
 
 pub loop-i-preserved-then-counts-i-eq0 : goal.loop-i-preserved-then-counts-i-eq0
 loop-i-preserved-then-counts-i-eq0 c =
     let s = c.in-Some.ensures.steps in
     let l = c.loop-i.invariant in
-    let next = c.next.new.self.iter in
     let g = c.in-Some.g in (
       l.0 ++ (g ∷ []),
       omega (arith, length-append l.0 (g ∷ []), l.1, s.2),
-      append_assoc l.0 (g ∷ []) (left registration_table next.space.now next.at next.end)
-          ∙ ap (λ xs. l.0 ++ xs) (sym s.0)
-          ∙ l.2,
+      one_passed l.0 _ l.2 s.0,
       omega (arith, l.3, s.2),
       bells_passed c.args.counts.now l.0 c.in-Some.i g (l.1 ∙ sym s.1)
-          (omega (arith, s.1, below _ _ _ _ _ c.args.space.now l.1 l.2 s.0, c.told-counts)) l.4
+          (omega (arith, s.1, has_place _ _ c.args.space.now l.1 l.2 s.0, c.told-counts)) l.4
           c.if-counts-i-eq0.true,
     )
 
@@ -77,22 +66,19 @@ pub add_record-done-requires : goal.add_record-done-requires
 add_record-done-requires c =
     let s = c.in-Some.ensures.steps in
     let l = c.loop-i.invariant in
-    omega (arith, below _ _ _ _ _ c.args.space.now l.1 l.2 s.0, l.3, c.requires, c.loop-i.auto.answers)
+    omega (arith, has_place _ _ c.args.space.now l.1 l.2 s.0, l.3, c.requires, c.loop-i.auto.answers)
 
 pub loop-i-preserved : goal.loop-i-preserved
 loop-i-preserved c =
     let s = c.in-Some.ensures.steps in
     let l = c.loop-i.invariant in
-    let next = c.next.new.self.iter in
     let g = c.in-Some.g in (
       l.0 ++ (g ∷ []),
       omega (arith, length-append l.0 (g ∷ []), l.1, s.2),
-      append_assoc l.0 (g ∷ []) (left registration_table next.space.now next.at next.end)
-          ∙ ap (λ xs. l.0 ++ xs) (sym s.0)
-          ∙ l.2,
+      one_passed l.0 _ l.2 s.0,
       omega (arith, l.3, s.2, c.add_record-done.ensures.counts),
       bells-more c.args.counts.now l.0 c.in-Some.i g (l.1 ∙ sym s.1)
-          (omega (arith, s.1, below _ _ _ _ _ c.args.space.now l.1 l.2 s.0, c.told-counts)) l.4
+          (omega (arith, s.1, has_place _ _ c.args.space.now l.1 l.2 s.0, c.told-counts)) l.4
           c.if-counts-i-eq0.false c.rung_record.ensures (omega (arith, c.requires)) c.add_record-done.ensures,
     )
 

@@ -1,13 +1,11 @@
-use Rattle.std.proofs.Common.{◌≡◌, ◌<◌, ℕ, List, refl, sym, ap, ◌∙◌}
-use Rattle.std.proofs.Common.{arith, length, length-append, append_assoc, [], ◌∷◌, ◌++◌, inl}
+use Rattle.std.proofs.Common.{◌≡◌, refl, sym, ap, ◌∙◌}
+use Rattle.std.proofs.Common.{arith, length, length-append, [], ◌∷◌, ◌++◌, inl}
 use lib.ListN.{take, length-set}
-use Rattle.rules.specs.declared.Registration.{Registration}
-use Rattle.rules.specs.Numbers.{max_registrations}
 use Rattle.rules.specs.Words.{view}
 use Rattle.rules.proofs.ViewLaws.{view-bounded}
 use Rattle.tables.specs.Table.{left}
 use Rattle.tables.specs.Tables.{registration_table}
-use Rattle.holds.proofs.RegistryLaws.{one_left, filled_more, filled_all}
+use Rattle.holds.proofs.RegistryLaws.{has_place, one_passed, filled_more, filled_all}
 use Rattle.holds.proofs.registry.count_each.Goals as goal
 
 pub loop-i-init-derived : goal.loop-i-init-derived
@@ -34,17 +32,11 @@ loop-i-init g c =
     = cc in
     (c.requires, refl, ([], sym start, all, λ v computes. ap (λ k. take k (0 ∷ 0 ∷ 0 ∷ 0 ∷ 0 ∷ 0 ∷ 0 ∷ 0 ∷ [])) start))
 
--- one more has a place
-below : (passed rest more : List Registration) (x : Registration) (k : ℕ) (ws : List ℕ) → length passed ≡ k
-    → passed ++ rest ≡ (view ws).registrations → rest ≡ x ∷ more → k < max_registrations
-below passed rest more x k ws l e s =
-    omega (arith, one_left passed rest l e s, (view-bounded ws).registrations_fit)
-
 pub bounds-counts-i : goal.bounds-counts-i
 bounds-counts-i g c =
     let s = c.in-Some.ensures.steps in
     let l = c.loop-i.invariant.2 in
-    omega (arith, s.1, below _ _ _ _ _ c.args.space.now l.1 l.2 s.0)
+    omega (arith, s.1, has_place _ _ c.args.space.now l.1 l.2 s.0)
 
 pub offset_bounds-counts-i : goal.offset_bounds-counts-i
 offset_bounds-counts-i g c = record {
@@ -52,7 +44,7 @@ offset_bounds-counts-i g c = record {
       omega (
         arith,
         c.in-Some.ensures.steps.1,
-        below _ _ _ _ _ c.args.space.now c.loop-i.invariant.2.1 c.loop-i.invariant.2.2 c.in-Some.ensures.steps.0,
+        has_place _ _ c.args.space.now c.loop-i.invariant.2.1 c.loop-i.invariant.2.2 c.in-Some.ensures.steps.0,
       );
 }
 
@@ -60,19 +52,16 @@ pub loop-i-preserved : goal.loop-i-preserved
 loop-i-preserved g c =
     let s = c.in-Some.ensures.steps in
     let l = c.loop-i.invariant.2 in
-    let next = c.next.new.self.iter in
     let x = c.in-Some.g in (
       c.requires,
       length-set c.loop-i.counts c.in-Some.i c.count.result ∙ c.loop-i.invariant.1,
       (
         l.0 ++ (x ∷ []),
         omega (arith, length-append l.0 (x ∷ []), l.1, s.2),
-        append_assoc l.0 (x ∷ []) (left registration_table next.space.now next.at next.end)
-            ∙ ap (λ xs. l.0 ++ xs) (sym s.0)
-            ∙ l.2,
+        one_passed l.0 _ l.2 s.0,
         λ v computes.
             filled_more v c.loop-i.counts l.0 c.loop-i.i-iterator.count (l.3 v computes) s.1 s.2
-            (omega (arith, below _ _ _ _ _ c.args.space.now l.1 l.2 s.0, s.1, c.loop-i.invariant.1))
+            (omega (arith, has_place _ _ c.args.space.now l.1 l.2 s.0, s.1, c.loop-i.invariant.1))
             (computes _ _ c.count.ensures),
       ),
     )
