@@ -3,7 +3,7 @@ ghost use Rattle.std.specs.Prelude.{◌≡◌};
 ghost use Rattle.rules.specs.Template.{mark_of, bare};
 ghost use Rattle.rules.specs.Records.{plain, written, found, renewed, notified, rung, refused, record_at};
 ghost use Rattle.rules.specs.declared.Request.TheVariants.{Write, Notify};
-ghost use Rattle.rules.specs.Requests.{frame_of, renew_of, number};
+ghost use Rattle.rules.specs.Requests.{frame_of, renew_of};
 ghost use Rattle.codec.specs.Area.{record_put};
 
 use crate::bytes::{byte_at, bytes_at, fields_at, number_at, put_parts};
@@ -12,8 +12,8 @@ use rules::numbers::{
     KIND_FOUND, KIND_NOTIFIED, KIND_REFUSED, KIND_RENEWED, KIND_RUNG, KIND_WRITTEN, RECORD_SIZE,
 };
 use rules::{
-    Entry, EntryId, Fields, LookUp, Mark, NotifyRequest, Record, Refusal, Registration,
-    RegistrationId, TxnId, WriteRequest,
+    Entry, EntryId, Fields, LookUp, Mark, NotifyRequest, Record, Registration, RegistrationId,
+    TxnId, WriteRequest,
 };
 
 // No fields, and none of them blank.
@@ -144,13 +144,13 @@ pub fn rung_record(count: u32, g: Registration) -> Record
     }
 }
 
-// A frame is refused.
+// A frame is refused, with this number: any byte, as a record has it.
 #[tactic(auto, unfolding(rules::specs::Records::refused))]
-pub fn refused_record(frame: &[u8], refusal: Refusal) -> Record
-    ensures { result ≡ refused frame.now (number refusal) }
+pub fn refused_record(frame: &[u8], refusal: u8) -> Record
+    ensures { result ≡ refused frame.now refusal }
 {
     Record {
-        refusal: refusal.number(),
+        refusal,
         ..plain_record(KIND_REFUSED, byte_at(frame, PARTY_AT), TxnId(0))
     }
 }

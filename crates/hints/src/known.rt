@@ -18,12 +18,12 @@ const FLAGS: usize = 32;
 pub struct Hints {
     // A tick before which nothing ends.
     // Kept: a word: FOREVER is later than every tick, so `min` and `<` need no order on `Until`.
-    pub(crate) least: u32,
+    pub least: u32,
     // The greatest number of a transaction that has done anything.
     // Kept: 0 if none has, FOREVER if that is unknown: as a number one comparison tells all three (`is_idle`).
-    pub(crate) acted: u32,
+    pub acted: u32,
     // Who may wait, by the remainder of the party's number.
-    pub(crate) flags: [bool; FLAGS],
+    pub flags: [bool; FLAGS],
 }
 
 impl Hints {

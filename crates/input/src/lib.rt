@@ -2,7 +2,7 @@
 #![tactic(auto)]
 
 ghost use Rattle.std.specs.Prelude.{IfOk, length};
-ghost use Rattle.input.specs.Answers.{Writes};
+ghost use Rattle.input.specs.Answers.{Writes, KeptOrAnswered};
 ghost use Rattle.input.specs.Counts.{IsPrefixLen};
 
 use std::io::{self, Read};
@@ -34,6 +34,7 @@ pub fn answer_input<A: FnOnce(&[u8], &mut [u8]) -> usize>(
     answer: A,
 )
     requires { Writes A.FnOnce answer (length bytes.old) (length text.old) }
+    ensures { KeptOrAnswered A.FnOnce answer bytes.new text.old text.new }
 {
     let Ok(len) = read_input(&mut rt.reader(), bytes) else {
         let _ = eprintln!(rt; "{program}: cannot read standard input");

@@ -35,7 +35,7 @@ fn refuse(answers: &mut [u8], frame: &[u8], refusal: Refusal) -> u64
     ensures { (result ≡ 1 + 65536 * number refusal)
         × Adds (refused frame.now (number refusal) ∷ []) answers.old answers.new 0 1 }
 {
-    add_record(answers, 0, refused_record(frame, refusal));
+    add_record(answers, 0, refused_record(frame, refusal.number()));
     1 + NUMBER * u64::from(refusal.number())
 }
 

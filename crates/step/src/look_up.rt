@@ -19,7 +19,7 @@ use finish::closing::close_in_vain;
 use holds::hand::hand_out;
 use rules::numbers::{KIND_NOTHING, KIND_WAITING};
 use rules::{FindRequest, LookUp, Record, TxnId};
-use words::rows::{Words, add_row, clock};
+use words::rows::{Words, add_wait, clock};
 use words::time::end_of;
 
 // The look-up that a request asks for.
@@ -57,7 +57,7 @@ pub(crate) fn wait_or_nothing(space: &mut Words, w: LookUp, timeout: u32) -> Rec
     if gives_nothing(space, w, timeout) {
         return plain_record(KIND_NOTHING, w.party, w.txn);
     }
-    add_row(space, w);
+    add_wait(space, w);
     plain_record(KIND_WAITING, w.party, w.txn)
 }
 

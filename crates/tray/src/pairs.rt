@@ -67,6 +67,13 @@ pub fn frames_in(tray: &[u8]) -> Result<u32, Refusal>
     Ok(count)
 }
 
+// 15: its size, its count of frames, or too short for its pairs.
+pub fn is_bad_tray(tray: &[u8]) -> bool
+    ensures { result ≡ bad_tray tray.now }
+{
+    frames_in(tray).is_err()
+}
+
 // 16, of one pair: it begins before what is free, or runs past the tray.
 pub fn is_misplaced(pair: Pair, free: usize, len: usize) -> bool
     ensures { result ≡ misplaced free len pair }

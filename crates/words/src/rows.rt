@@ -2,15 +2,15 @@
 ghost use Rattle.std.specs.Prelude.{◌≡◌, ◌<◌, ◌≤◌, ◌+◌, ◌++◌, [], ◌∷◌, length, set, Bool};
 ghost use Rattle.std.proofs.lemmas.List.Edits.{sets};
 ghost use Rattle.rules.specs.Lists.{filterb};
-ghost use Rattle.rules.specs.Numbers.{max_entries};
+ghost use Rattle.rules.specs.Numbers.{max_entries, max_waits};
 ghost use Rattle.rules.specs.Template.{bare};
-ghost use Rattle.rules.specs.State.{empty, with_clock};
+ghost use Rattle.rules.specs.State.{empty, with_waits, with_clock};
 ghost use Rattle.rules.specs.Words.{view, space_words};
-ghost use Rattle.tables.specs.Rows.{empty_words, entry_row, field_at, move_words, without};
+ghost use Rattle.tables.specs.Rows.{empty_words, entry_row, field_at, move_words, without, FitsWord};
 ghost use Rattle.tables.specs.Table.{at, cell, count};
 
 use crate::row::{Numbered, Row};
-use rules::{Entry, Registration, Txn};
+use rules::{Entry, LookUp, Registration, Txn};
 
 // How many words a space has.
 pub const WORDS: usize = Registration::AT + Registration::WIDTH * Registration::MOST;
@@ -120,6 +120,16 @@ pub fn add_row<T: Row>(space: &mut Words, x: T)
     let n = row_count::<T>(space) % T::MOST;
     put_row(space, n, x);
     set_row_count::<T>(space, n + 1);
+}
+
+// The look-up stands behind the others. There is room in every sound space; on other words, where 16 wait already, the
+// table begins anew.
+pub fn add_wait(space: &mut Words, w: LookUp)
+    requires { FitsWord w.deadline }
+    ensures { length (view space.old).waits < max_waits → view space.new
+        ≡ with_waits ((view space.old).waits ++ (w ∷ [])) (view space.old) }
+{
+    add_row(space, w);
 }
 
 // The row at `from` also stands at `to`. A row that stays is not written.

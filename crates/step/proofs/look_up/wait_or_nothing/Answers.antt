@@ -15,4 +15,4 @@ unfolding waiting
 returns c free =
     let a = c.args in
     waits_on _ _ a.w a.timeout (sym c.gives_nothing.ensures ∙ c.if-gives_nothing.false)
-    (c.add_row.ensures free) c.plain_record-2.ensures
+    (c.add_wait.ensures free) c.plain_record-2.ensures

@@ -54,7 +54,7 @@ loop-frames-preserved c =
 pub packed-requires-2 : goal.packed-requires-2
 packed-requires-2 c =
     let few = few_done c.requires c.loop-frames.invariant (omega (arith, c.pair_count-count.ensures)) in
-    (omega (arith, few), few.1)
+    (omega (arith, few), omega (arith, few))
 
 pub returns : goal.returns
 returns c =
