@@ -13,7 +13,7 @@ EXPORTS=200000         # whose orders are compared with the reference's, of the 
 RANDOM_EXPORTS=60      # given to the program for exports
 SETUPS=100000          # whose trials are compared with the reference's
 LISTS=20000            # of trays, whose waiting times are compared with the reference's
-READ_ONLY_BYTES=592    # of the archive's data: the jumps of three matches, constants, two tables of refusals' numbers
+READ_ONLY_BYTES=556    # of the archive's data: the jumps of three matches, constants, two tables of refusals' numbers
 
 fail() {
     echo "FAILED: $*"

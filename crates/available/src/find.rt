@@ -8,7 +8,7 @@ ghost use Rattle.rules.specs.declared.Entry.{Entry};
 ghost use Rattle.tables.specs.Rows.{wait_row};
 ghost use Rattle.available.specs.Find.{match_of, Finds, InRow, Asks, has_field, Only, Passes, PassesAsked};
 
-use crate::asked::Asked;
+pub use crate::asked::Asked;
 use crate::holds::{is_available, is_conflicting};
 use rules::bits::has_bit;
 use rules::{Entry, Fields, LookUp};
@@ -65,9 +65,9 @@ pub(crate) fn row_in_block(space: &Words, a: Asked, from: usize) -> Option<usize
     ensures { MatchOption result (Passes (has_field a.column a.want) space.now from (from + 8))
         (λ r. (r < from + 8) × Passes (has_field a.column a.want) space.now from r) }
 {
-    for k in from..from + BLOCK {
-        if field_at(space, k, a.column) == a.want {
-            return Some(k);
+    for k in 0..BLOCK {
+        if field_at(space, from + k, a.column) == a.want {
+            return Some(from + k);
         }
     }
     None
@@ -92,6 +92,8 @@ pub(crate) fn skip_blocks(space: &Words, a: Asked, from: usize, n: usize) -> usi
 
 // The first of the rows from `from` on that has what is asked, or else one behind them.
 // Kept: no Option, as in `next_row`, which hands it on.
+// Inlined: where few rows are left, as in service, a call costs as much as the rows.
+#[inline(always)]
 pub(crate) fn row_with(space: &Words, a: Asked, from: usize, n: usize) -> usize
     requires { (from ≤ max_entries) × (n ≤ max_entries) }
     ensures { Passes (has_field a.column a.want) space.now from result }
@@ -107,6 +109,7 @@ pub(crate) fn row_with(space: &Words, a: Asked, from: usize, n: usize) -> usize
 
 // A row from `from` on, of n rows, up to which none matches a template that asks so: the next to look at.
 // Kept: one past the end for none: a search's loop tests its row anyway, and has two calls with an Option too.
+#[inline(always)]
 pub fn next_row(space: &Words, asked: Option<Asked>, from: usize, n: usize) -> usize
     requires { (from ≤ max_entries) × (n ≤ max_entries) }
     ensures { (from ≤ result) × ((mask : _) (want : _) → Asks asked mask want

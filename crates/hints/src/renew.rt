@@ -1,7 +1,8 @@
 // Hints made anew, by a look at every row.
-ghost use Rattle.std.specs.Prelude.{◌≡◌};
+ghost use Rattle.std.specs.Prelude.{◌≡◌, ◌<◌};
 ghost use Rattle.rules.specs.Lists.{All};
-ghost use Rattle.rules.specs.Words.{view};
+ghost use Rattle.rules.specs.Words.{view, until_word};
+ghost use Rattle.tables.specs.Table.{cell};
 ghost use Rattle.rules.specs.declared.until.Until.{Until};
 ghost use Rattle.hints.specs.Hints.{Flagged, NotBefore, Anew, Renewed};
 
@@ -10,7 +11,7 @@ use rules::numbers::FOREVER;
 use rules::{Entry, LookUp, Registration, Txn, Until};
 use words::iter::rows;
 use words::row::Row;
-use words::rows::{Words, clock};
+use words::rows::{Words, clock, row_at, row_count};
 
 // A row that ends at some tick, or never.
 pub(crate) trait Lasting: Row {
@@ -52,11 +53,24 @@ impl Lasting for Registration {
     }
 }
 
+// The end of the row at i, as a word: FOREVER is later than every tick.
+fn end_at<T: Lasting>(space: &Words, i: usize) -> u32
+    requires { i < T.MOST }
+    ensures { result ≡ until_word (T.ends (cell T.table space.now i)) }
+{
+    u32::from(row_at::<T>(space, i).end())
+}
+
 // A tick before which no row of the table ends: the least of all.
+// Kept: by place: where a fold is handed whole rows, each end is made an `Until` and a word again.
 fn first_end<T: Lasting>(space: &Words) -> u32
     ensures { All (λ x. NotBefore result (T.ends x)) (T.rows (view space.now)) }
 {
-    rows::<T>(space).fold(FOREVER, |least, x| least.min(u32::from(x.end())))
+    let mut least = FOREVER;
+    for i in 0..row_count::<T>(space) {
+        least = least.min(end_at::<T>(space, i));
+    }
+    least
 }
 
 impl Hints {

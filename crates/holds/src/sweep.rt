@@ -7,7 +7,7 @@ ghost use Rattle.holds.specs.Sweep.{Spares, passed, sweep_model, SameBefore};
 
 use crate::search::first_row;
 use rules::Entry;
-use words::rows::{Words, clock, move_row, put_row, row_at, row_count, set_row_count};
+use words::rows::{Words, clock, put_row, row_at, row_count, set_row_count};
 
 // One pass over the entries: what it touches goes or stays as `pass` says, and the others stay as they are. Those that
 // stay stand in front. The row is returned from which on it changes any.
@@ -30,7 +30,10 @@ pub(crate) fn pass_over<T: Fn(Entry) -> bool, P: Fn(Entry) -> Option<Entry>>(
     for i in first..count {
         let e = row_at::<Entry>(space, i);
         if !touches(e) {
-            move_row::<Entry>(space, i, kept);
+            // What was read is put: where words are moved, the compiler moves them one by one.
+            if i != kept {
+                put_row(space, kept, e);
+            }
         } else if let Some(x) = pass(e) {
             put_row(space, kept, x);
         } else {

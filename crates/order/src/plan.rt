@@ -10,7 +10,7 @@ use crate::read::{MAX_TXNS, SLOTS, read_export};
 #[derive(Clone, Copy)]
 pub(crate) struct Step {
     pub(crate) kind: Kind,
-    pub(crate) slot: usize,
+    pub(crate) slot: u8,
 }
 
 // The steps of n transactions, laid out as in `Export`: every slot and every start lies within its array.
@@ -55,14 +55,15 @@ fn resolve(actions: &[Action]) -> Option<[Step; SLOTS]>
         written[slot] = writes | again;
         steps[j] = Step {
             kind: action.kind,
-            slot,
+            slot: slot as u8,
         };
     }
     Some(steps)
 }
 
 impl Plan {
-    // The plan of what is handed in.
+    // The plan of what is handed in. Never inlined, so that the stack it takes is free again before the search.
+    #[inline(never)]
     pub(crate) fn of(words: &[u32]) -> Option<Plan>
         ensures { MatchOption result (Unplanned words.now)
             (λ plan. Planned words.now plan.n plan.steps plan.starts) }

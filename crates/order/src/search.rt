@@ -15,10 +15,11 @@ impl Plan {
     {
         let mut present = start;
         for step in &self.steps[self.starts[p]..self.starts[p + 1]] {
-            if step.kind != Kind::Write && !present[step.slot] {
+            let slot = usize::from(step.slot);
+            if step.kind != Kind::Write && !present[slot] {
                 return None;
             }
-            present[step.slot] = step.kind != Kind::Take;
+            present[slot] = step.kind != Kind::Take;
         }
         Some(present)
     }

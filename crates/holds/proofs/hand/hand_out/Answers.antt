@@ -25,9 +25,9 @@ set_row-requires c =
           (marked-fits a.w.takes c.of-holder.result.id _ (row entries_at entry_width a.space.now a.row)),
     )
 
-pub returns-then-w-2 : goal.returns-then-w-2
+pub returns-then-takes-2 : goal.returns-then-takes-2
 unfolding removes
-returns-then-w-2 c =
+returns-then-takes-2 c =
     let a = c.args in
     let m = view a.space.now in
     let h = c.of-holder in

@@ -1,12 +1,13 @@
 use Rattle.std.proofs.Common.{◌≡◌, ◌+◌, ◌∙◌, sym, true, arith, rules}
 use mathlib.Core.Path.{subst⁻¹}
 use Rattle.rules.specs.Words.{view, entry_words}
-use Rattle.tables.proofs.CompactLaws.{compact_passed, compact_moved, compact_put}
+use Rattle.tables.proofs.CompactLaws.{compact_passed, compact_same, compact_put}
 use Rattle.holds.specs.Sweep.{SameBefore}
 use Rattle.holds.proofs.SweepLaws.{Sweeping, found_within, passed_some, passed_none, passed_fits}
 use Rattle.holds.proofs.SweepLaws.{sweep_still, still_before, same_before, sweep_done}
 use Rattle.holds.proofs.sweep.pass_over.Goals as goal
-use Rattle.holds.proofs.sweep.pass_over.Goals.{then-not-touches, else-not-touches+in-Some}
+use Rattle.holds.proofs.sweep.pass_over.Goals.{then-not-touches+else-i-kept, then-not-touches+then-i-kept}
+use Rattle.holds.proofs.sweep.pass_over.Goals.{else-not-touches+in-Some}
 
 pub loop-i-init : goal.loop-i-init
 loop-i-init g c =
@@ -50,16 +51,22 @@ loop-i-preserved g c =
       λ touch keep change laws touches passes.
           let done = l.4 touch keep change laws touches passes in
           elim c.if-not-touches.branch [
-            | then-not-touches w ↦
+            | then-not-touches+else-i-kept w ↦
                 let spared = laws.spared e (sym (touches _ _ c.touches.ensures) ∙ w.if-not-touches.true) in
                 subst⁻¹ (λ ws. Sweeping keep change c.args.space.now ws (c.loop-i.i + 1) (c.loop-i.kept + 1)) w.space-is
-                (compact_moved done is spared.0 (omega (arith, count.0)) (omega (arith, count.1)) w.move_row.ensures
-                spared.1)
+                (compact_same done is spared.0 (sym w.if-i-kept.false) spared.1)
+            | then-not-touches+then-i-kept w ↦
+                let spared = laws.spared e (sym (touches _ _ c.touches.ensures) ∙ w.if-not-touches.true) in
+                let fits = passed_fits keep change laws c.loop-i.space c.loop-i.i is spared.1 in
+                let put = w.put_row.ensures in
+                subst⁻¹ (λ ws. Sweeping keep change c.args.space.now ws (c.loop-i.i + 1) (c.loop-i.kept + 1)) w.space-is
+                (compact_put done is spared.0 (omega (arith, count.0)) (omega (arith, count.1)) (entry_words e)
+                put.words put.width (put.back fits ∙ sym spared.1))
             | else-not-touches+in-Some w ↦
                 let touched : touch e ≡ true = sym (touches _ _ c.touches.ensures) ∙ w.if-not-touches.false in
                 let stays = passed_some keep change e (sym (passes _ _ touched w.pass.ensures) ∙ w.in-Some.is) in
                 let fits = passed_fits keep change laws c.loop-i.space c.loop-i.i is stays.1 in
-                let put = w.put_row.ensures in
+                let put = w.put_row-in-Some.ensures in
                 subst⁻¹ (λ ws. Sweeping keep change c.args.space.now ws (c.loop-i.i + 1) (c.loop-i.kept + 1)) w.space-is
                 (compact_put done is stays.0 (omega (arith, count.0)) (omega (arith, count.1)) (entry_words w.in-Some.x)
                 put.words put.width (put.back fits ∙ sym stays.1))
