@@ -12,7 +12,8 @@ Writes g f max room =
     → g.pre f (bytes, (text, tt))
     × ((n : ℕ) (after : MutBor (List ℕ)) → g.post f (bytes, (text, tt)) (n, (after, tt)) → n ≤ length after.now)
 
--- A call at the first bytes of a buffer, so many as have been read, has made the text `text'` of the buffer `text`.
+-- A call at some first bytes of a buffer has made the text `text'` of the buffer `text`. (How many were read is what no
+-- contract of a reader says.)
 pub record AnswersFront {A : Type 0}
     (g : Once A (Bor (List ℕ) × (MutBor (List ℕ) × Unit {0})) (ℕ × (MutBor (List ℕ) × Unit {0}))) (f : A)
     (bytes text text' : List ℕ) : Type 0 where
