@@ -3,7 +3,7 @@ use mathlib.Core.Path.{subst⁻¹}
 use native.Mathlib.Numerals.{add-one}
 use Rattle.rules.specs.Lists.{All}
 use Rattle.rules.specs.Words.{view}
-use Rattle.tables.specs.Table.{cell, first, all}
+use Rattle.tables.specs.Table.{cell, first}
 use Rattle.sound.proofs.AllLaws.{all_none, all_snoc}
 use Rattle.hints.specs.Hints.{NotBefore}
 use Rattle.hints.proofs.HintLaws.{sooner_still, word-not_before}
